@@ -1,0 +1,12 @@
+//! The words that every crate shares: lists and boxes that contracts see as what they hold, places, rules and numbers.
+#![tactic(auto)]
+
+mod boxed;
+mod ids;
+mod list;
+mod refusal;
+
+pub use boxed::Boxed;
+pub use ids::{BookId, DeclId, Loc, NameId, SetId, TaskId, TypeId};
+pub use list::{Bytes, List};
+pub use refusal::{CheckFault, Gap, Memory, Place, Rule};
