@@ -1,0 +1,45 @@
+-- What is known of a file while it is read.
+use Rattle.std.proofs.Common.{◌≡◌, ℕ, ◌+◌, ◌<◌, ◌≤◌, List, [], ◌∷◌, ◌++◌, length, drop, ap, sym, ◌∙◌, arith, refl, append_assoc, length-append, append-nil}
+use Rattle.std.proofs.Math.Seq.{drop-append_seam}
+use Rattle.fort_port.specs.Outside.{Holding, Untold, Absent, Held, Gives}
+use Rattle.fort_run.specs.Reply.{IsFile, file_limit}
+use Rattle.fort_run.specs.Reading.{IsFrontOf}
+
+pub front_empty : (h : Holding) → IsFrontOf h []
+front_empty Untold = tt
+front_empty Absent = refl
+front_empty (Held file) = (file, refl)
+
+no_more : (xs : List ℕ) → length xs ≡ 0 → xs ≡ []
+no_more [] e = refl
+no_more (x ∷ xs) e = absurd (omega arith)
+
+-- Behind a front of a file stands its rest.
+behind : (file front rest : List ℕ) → file ≡ front ++ rest → drop (length front) file ≡ rest
+behind file front rest e = rw e (drop-append_seam front rest)
+
+-- A front and the piece that stands behind it are a front.
+pub front_more : (h : Holding) (front piece : List ℕ) (room : ℕ) → IsFrontOf h front → Gives h (length front) piece room
+    → IsFrontOf h (front ++ piece)
+front_more Untold front piece room f g = tt
+front_more Absent front piece room f g = absurd g
+front_more (Held file) front piece room f g =
+    (g.0.0, f.1 ∙ (ap (λ r. front ++ r) (sym (behind file front f.0 f.1) ∙ g.0.1) ∙ sym (append_assoc front piece g.0.0)))
+
+-- A front behind which nothing stands is the file.
+pub front_whole : (h : Holding) (front piece : List ℕ) (room : ℕ) → IsFrontOf h front → Gives h (length front) piece room
+    → piece ≡ [] → 0 < room → IsFile h front
+front_whole Untold front piece room f g none some = tt
+front_whole Absent front piece room f g none some = absurd g
+front_whole (Held file) front piece room f g none some =
+    let short : length file ≤ length front = g.1 some none in
+    let whole : length file ≡ length front + length f.0 = ap length f.1 ∙ length-append front f.0 in
+    let last : f.0 ≡ [] = no_more f.0 (omega arith) in
+    sym (f.1 ∙ (ap (λ r. front ++ r) last ∙ append-nil front))
+
+-- A front longer than a limit is one of a file longer than it.
+pub front_long : (h : Holding) (front : List ℕ) → IsFrontOf h front → file_limit < length front
+    → (file : List ℕ) × IsFile h file × (file_limit < length file)
+front_long Untold front f long = (front, tt, long)
+front_long Absent front f long = absurd (let none : length front ≡ 0 = ap length f in omega arith)
+front_long (Held file) front f long = (file, refl, (let whole : length file ≡ length front + length f.0 = ap length f.1 ∙ length-append front f.0 in omega arith))

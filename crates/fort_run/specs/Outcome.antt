@@ -1,0 +1,46 @@
+-- How a call ends: its status, and what stands on both outputs. It restates the chapter "Statuses and notes" of docs/LANGUAGE.md.
+use Rattle.std.specs.Prelude.{◌≡◌, ℕ, ◌<◌, ◌≤◌, List, ◌⊎◌, length}
+use Rattle.fort_port.specs.Outside.{Holding, Held, Rose}
+use Rattle.fort_run.specs.Words.{IsRun, IsNoCommand}
+use Rattle.fort_run.specs.Greeting.{Greets}
+use Rattle.fort_run.specs.Reply.{Reply, Means, want_of_memory, file_limit}
+use Rattle.fort_run.specs.Delivery.{Change, Delivers, TakesOrFails}
+
+-- The outside of a call: its words, what the shelf tells and its counts of faults, and both sinks.
+pub record Outside : Type 0 where
+  pub words : List (List ℕ)
+  pub holding : List ℕ → Holding
+  pub faults_were : ℕ
+  pub faults_are : ℕ
+  pub out : Change
+  pub notes : Change
+
+abbrev pub MeansToSay : Outside → Reply → Type 0
+MeansToSay o reply = Means o.words o.holding o.faults_were o.faults_are reply
+
+-- How a call ends with this status: it delivered what it means to say, or memory was wanting, 7, and the note
+-- says so as far as it came.
+pub data Ends (o : Outside) (status : ℕ) : Type 0 where
+  Said : (reply : Reply) → MeansToSay o reply → Delivers reply o.out o.notes status → Ends o status
+  WantsMemory : TakesOrFails o.notes want_of_memory → status ≡ 7 → Ends o status
+
+-- No count of faults rose.
+pub record IsCalm (o : Outside) : Type 0 where
+  pub shelf : Rose o.faults_were o.faults_are → ⊥
+  pub out : Rose o.out.faults_were o.out.faults_are → ⊥
+  pub notes : Rose o.notes.faults_were o.notes.faults_are → ⊥
+
+-- Where no count rose and the shelf tells its bytes, the words and the file decide the status; want of memory aside.
+pub record IsComplete (o : Outside) (status : ℕ) : Type 0 where
+  pub no_command : IsNoCommand o.words → (status ≡ 2) ⊎ (status ≡ 7)
+  pub prints : (name file text : List ℕ) → IsRun o.words name → o.holding name ≡ Held file → length file ≤ file_limit → Greets file text
+      → (status ≡ 0) ⊎ (status ≡ 7)
+  pub refused : (name file : List ℕ) → IsRun o.words name → o.holding name ≡ Held file → length file ≤ file_limit
+      → ((text : List ℕ) → Greets file text → ⊥) → (status ≡ 1) ⊎ (status ≡ 7)
+  pub too_large : (name file : List ℕ) → IsRun o.words name → o.holding name ≡ Held file → file_limit < length file
+      → (status ≡ 8) ⊎ (status ≡ 7)
+
+-- What is promised of a call.
+pub record Answers (o : Outside) (status : ℕ) : Type 0 where
+  pub ends : Ends o status
+  pub complete : IsCalm o → IsComplete o status

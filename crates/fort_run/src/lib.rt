@@ -1,0 +1,11 @@
+//! The top call: from the words and the file's bytes to the status and the printed bytes.
+#![tactic(auto)]
+
+mod command;
+mod deliver;
+mod file;
+mod reader;
+mod reply;
+mod top;
+
+pub use top::{Finish, fortress};

@@ -1,0 +1,61 @@
+ghost use Rattle.std.specs.Prelude.{◌≡◌, map, string_bytes};
+ghost use Rattle.fort_run.specs.Outcome.{Answers};
+
+use crate::deliver::{deliver, write_all};
+use crate::reply::reply_to;
+use fort_port::{Gate, Shelf, Sink};
+use std::alloc::Global;
+use std::sync::Wait;
+use std::thread::Threads;
+
+const WANT_OF_MEMORY: &[u8] = b"want of memory\n";
+
+/// The status of a call that found too little memory.
+const WANTS_MEMORY: u8 = 7;
+
+/// How a call ended.
+#[derive(Clone, Copy, Debug, PartialEq, Eq)]
+pub struct Finish {
+    pub status: u8,
+}
+
+/// Does what the words after the program's name ask for, with the files of a shelf, standard output `out`
+/// and standard error `notes`, and answers the status to end with.
+///
+/// The words `run FILE` run the component in the file. The file is read to its end before it is judged. What
+/// each status says, and what then stands on both outputs, is the chapter "Statuses and notes" of
+/// docs/LANGUAGE.md. After a sink has failed nothing more is written to it. Where memory is wanting the
+/// status is 7, and nothing is said of `out`.
+pub fn fortress<R: Threads + Wait + Sync, F: Shelf, K: Sink, N: Sink, G: Gate + Sync>(
+    _rt: &R,
+    alloc: Global,
+    words: &[String],
+    shelf: &mut F,
+    out: &mut K,
+    notes: &mut N,
+    _gate: &G,
+) -> Finish
+    requires out { K.can_write out.old }
+    requires notes { N.can_write notes.old }
+    ensures kept { F.holding shelf.new ≡ F.holding shelf.old }
+    ensures answers { Answers (record {
+        words = map string_bytes words.now;
+        holding = F.holding shelf.old;
+        faults_were = F.faults shelf.old;
+        faults_are = F.faults shelf.new;
+        out = record { was = K.written out.old; is = K.written out.new; faults_were = K.faults out.old; faults_are = K.faults out.new };
+        notes = record { was = N.written notes.old; is = N.written notes.new; faults_were = N.faults notes.old; faults_are = N.faults notes.new };
+    }) result.status }
+{
+    match reply_to(alloc, words, shelf) {
+        Ok(answer) => Finish {
+            status: deliver(answer.status(), answer.text(), answer.note(), out, notes),
+        },
+        Err(_) => {
+            let _ = write_all(notes, WANT_OF_MEMORY);
+            Finish {
+                status: WANTS_MEMORY,
+            }
+        }
+    }
+}
