@@ -1,5 +1,5 @@
 -- The chapter "Operators", its groups and its pairs of precedence. The code asks the same table.
-use Rattle.std.specs.Prelude.{Bool, true, false, IsTrue}
+use Rattle.std.specs.Prelude.{Bool, true, false, IsTrue, ℕ, ◌<◌}
 use Rattle.fort_ops.specs.declared.op.Op.{Op}
 use Rattle.fort_ops.specs.declared.op.Op.TheVariants as an_op
 use Rattle.fort_ops.specs.declared.precedence.Group.{Group}
@@ -58,6 +58,22 @@ pair _ _ = false
 -- one operator stands over another where their groups are a pair
 abbrev pub IsOver : Op → Op → Type 0
 IsOver child parent = IsTrue (pair (group_of child) (group_of parent))
+
+-- a number that is larger at a group than at each group that it stands over
+abbrev pub rank : Group → ℕ
+rank Adjacent = 6
+rank Product = 5
+rank Sum = 4
+rank Bits = 3
+rank Span = 3
+rank Own = 3
+rank Relation = 2
+rank Conjunction = 1
+rank Disjunction = 0
+
+-- the rank falls along each pair
+abbrev pub RankFalls : Type 0
+RankFalls = (a b : Group) → IsTrue (pair a b) → rank b < rank a
 
 -- a way from one group to another along one pair or more
 pub data Path : Group → Group → Type 0 where

@@ -7,6 +7,6 @@ mod senses;
 mod spellings;
 
 pub use op::{Op, Sense};
-pub use precedence::over;
+pub use precedence::{over, pairs_have_no_cycle};
 pub use senses::sense;
-pub use spellings::spelling_of;
+pub use spellings::{spelling_of, words_spell_one_operator};

@@ -1,10 +1,10 @@
 ghost use Rattle.std.specs.Prelude.{◌↔◌, IsTrue, ◌≡◌};
-ghost use Rattle.fort_ops.specs.Precedence.{group_of, IsOver};
+ghost use Rattle.fort_ops.specs.Precedence.{group_of, IsOver, RankFalls, HasNoCycle};
 
 use crate::op::Op;
 
 /// A group of operators that have the same precedence.
-#[derive(Clone, Copy, Debug, PartialEq, Eq)]
+#[derive(Clone, Copy)]
 pub enum Group {
     /// Juxtaposition.
     Adjacent,
@@ -48,15 +48,8 @@ fn group_at(op: Op) -> Group
 {
     match op {
         Op::Juxt => Group::Adjacent,
-        Op::Times
-        | Op::Dot
-        | Op::Div
-        | Op::Rem
-        | Op::Mod
-        | Op::Max
-        | Op::Min
-        | Op::Gcd
-        | Op::Lcm => Group::Product,
+        Op::Times | Op::Dot | Op::Div | Op::Rem | Op::Mod | Op::Max | Op::Min | Op::Gcd | Op::Lcm =>
+            Group::Product,
         Op::Plus | Op::Minus => Group::Sum,
         Op::BitAnd | Op::BitOr | Op::BitXor | Op::LShift | Op::RShift => Group::Bits,
         Op::Range | Op::Count => Group::Span,
@@ -66,3 +59,10 @@ fn group_at(op: Op) -> Group
         Op::Not | Op::Power | Op::Word(_) => Group::Own,
     }
 }
+
+/// A law of the pairs: there is a number to each group that falls along each pair, so no way along
+/// the pairs leads from a group back to itself.
+pub fn pairs_have_no_cycle()
+    ensures falls { RankFalls }
+    ensures no_cycle { HasNoCycle }
+{}
