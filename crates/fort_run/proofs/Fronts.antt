@@ -3,7 +3,7 @@ use Rattle.std.proofs.Common.{◌≡◌, ℕ, ◌+◌, ◌<◌, ◌≤◌, List,
 use Rattle.std.proofs.Math.Seq.{drop-append_seam}
 use Rattle.fort_port.specs.Outside.{Holding, Untold, Absent, Held, Gives}
 use Rattle.fort_run.specs.Reply.{IsFile, file_limit}
-use Rattle.fort_run.specs.Reading.{IsFrontOf}
+use Rattle.fort_run.specs.Fronts.{IsFrontOf}
 
 pub front_empty : (h : Holding) → IsFrontOf h []
 front_empty Untold = tt

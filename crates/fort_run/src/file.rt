@@ -1,6 +1,6 @@
 ghost use Rattle.std.specs.Prelude.{◌≡◌, ◌+◌, ◌<◌, ◌≤◌, true, false, length, vec_len, Ok, IfOk, IfErr, OnOk};
 ghost use Rattle.fort_run.specs.Reply.{IsFile, file_limit};
-ghost use Rattle.fort_run.specs.Reading.{IsFrontOf, Stops};
+ghost use Rattle.fort_run.specs.Fronts.{IsFrontOf, Stops};
 ghost use Rattle.fort_run.specs.declared.file.Unread.TheVariants as an_unread;
 
 use fort_base::{Bytes, List, Memory};

@@ -9,3 +9,6 @@ mod reply;
 mod top;
 
 pub use top::{Finish, fortress};
+
+#[cfg(test)]
+mod tests;

@@ -1,5 +1,5 @@
 use Rattle.std.proofs.Common.{◌≡◌, ◌≤◌, length, ◌-◌, vec_len}
-use Rattle.fort_run.specs.Reading.{IsFrontOf}
+use Rattle.fort_run.specs.Fronts.{IsFrontOf}
 use Rattle.fort_run.proofs.file.read_file.Given as goal
 
 abbrev pub invariant-loop-file : goal.invariant-loop-file

@@ -1,0 +1,18 @@
+-- Why a file isn't read whole, and what of it is. It restates the chapter "Statuses and notes" of docs/LANGUAGE.md.
+use Rattle.std.specs.Prelude.{◌≡◌, ℕ, ◌<◌, List, [], ◌++◌, length}
+use Rattle.fort_port.specs.Outside.{Holding, Untold, Absent, Held, Rose}
+use Rattle.fort_run.specs.Reply.{IsFile, file_limit}
+use Rattle.fort_run.specs.declared.file.Unread.{Unread}
+use Rattle.fort_run.specs.declared.file.Unread.TheVariants as an_unread
+
+-- The shelf failed and its count rose; or the file goes on behind the limit; or memory was wanting.
+abbrev pub Stops : Holding → ℕ → ℕ → Unread → Type 0
+Stops holding before after an_unread.Failed = Rose before after
+Stops holding before after an_unread.TooLarge = (after ≡ before) × ((file : List ℕ) × IsFile holding file × (file_limit < length file))
+Stops holding before after an_unread.Memory = Unit {0}
+
+-- These bytes are a front of the file, where the shelf tells it; of a name that it hasn't nothing is read.
+abbrev pub IsFrontOf : Holding → List ℕ → Type 0
+IsFrontOf Untold bytes = Unit {0}
+IsFrontOf Absent bytes = bytes ≡ []
+IsFrontOf (Held file) bytes = (rest : List ℕ) × (file ≡ bytes ++ rest)

@@ -1,0 +1,138 @@
+use crate::fortress;
+use fort_base::{Bytes, List};
+use fort_port::{CalmShelf, CalmSink, IdleGate, MemoryShelf, MemorySink};
+use std::alloc::{AllocError, Global};
+use std::process::Abort;
+use std::sync::Wait;
+use std::test::Fail;
+use std::thread::Threads;
+
+const GREETING: &str = "component T\nexport Executable\nrun(): () = println(\"Hello, World!\")\nend\n";
+
+const USAGE: &str = "usage: fortress check FILE | show FILE | run FILE [--workers N] [--fuel N] | bench N\n";
+
+const NOT_BUILT: &str = "T.fss:1:1: rule 901 NotBuilt\n";
+
+fn bytes(alloc: Global, text: &[u8]) -> Result<Bytes, AllocError> {
+    Ok(List::from_vec(Vec::from_slice(alloc, text)?))
+}
+
+/// A shelf's files: one of the name `T.fss`.
+fn one_file(alloc: Global, file: &[u8]) -> Result<List<(Bytes, Bytes)>, AllocError> {
+    let mut files = Vec::new(alloc);
+    files.push((bytes(alloc, b"T.fss")?, bytes(alloc, file)?))?;
+    Ok(List::from_vec(files))
+}
+
+fn texts(alloc: Global, words: &[&str]) -> Result<Vec<String>, AllocError> {
+    let mut all = Vec::new(alloc);
+    for word in words {
+        all.push(String::from_str(alloc, word)?)?;
+    }
+    Ok(all)
+}
+
+/// The file with spaces behind it, so many bytes in all.
+fn padded(alloc: Global, file: &str, len: usize) -> Result<Vec<u8>, AllocError> {
+    let mut all = Vec::from_slice(alloc, file.as_bytes())?;
+    while all.len() < len {
+        all.push(b' ')?;
+    }
+    Ok(all)
+}
+
+/// Runs the words over a shelf of one file that gives `most` bytes a call, and compares all that comes out.
+fn expect<R: Threads + Wait + Sync + Abort + AllocGlobal>(rt: &R, words: &[&str], file: &[u8], most: u64, status: u8, out: &str, note: &str) -> Result<(), Fail> {
+    let alloc = rt.alloc();
+    let mut shelf = CalmShelf::new(one_file(alloc, file)?, most.max(1));
+    let mut printed = CalmSink::new(alloc, 1000, 3).map_err(|_| AllocError)?;
+    let mut notes = CalmSink::new(alloc, 1000, 1000).map_err(|_| AllocError)?;
+    let finish = fortress(rt, alloc, &texts(alloc, words)?, &mut shelf, &mut printed, &mut notes, &IdleGate);
+    assert_eq!(rt; finish.status, status, "{words:?}");
+    assert_eq!(rt; printed.bytes(), out.as_bytes(), "{words:?}");
+    assert_eq!(rt; notes.bytes(), note.as_bytes(), "{words:?}");
+    Ok(())
+}
+
+#[test]
+fn a_greeting_is_printed_and_every_other_file_is_not_built(rt: HostRuntime) -> Result<(), Fail> {
+    let run = ["run", "T.fss"];
+    expect(&rt, &run, GREETING.as_bytes(), 1_048_576, 0, "Hello, World!\n", "")?;
+    expect(&rt, &run, GREETING.as_bytes(), 1, 0, "Hello, World!\n", "")?;
+    let escapes = b"component Ab export Executable run(): () =println( \"a\\tb\\n\\\"\\\\\") end";
+    expect(&rt, &run, escapes, 5, 0, "a\tb\n\"\\\n", "")?;
+    expect(&rt, &run, b"", 7, 1, "", NOT_BUILT)?;
+    for other in [
+        "component if\nexport Executable\nrun(): () = println(\"\")\nend\n",
+        "component AB\nexport Executable\nrun(): () = println(\"\")\nend\n",
+        "component T\nexport Executable\nrun(): () = println (\"\")\nend\n",
+        "component T\nexport Executable\nrun(): () = println(\"\\q\")\nend\n",
+        "component T\nexport Executable\nrun(): () = println(\"\")\nend x",
+        "component T\nexport Executable\nrun(): () = println(\"",
+        "\u{fffd}\u{0}\u{7f}",
+    ] {
+        expect(&rt, &run, other.as_bytes(), 100, 1, "", NOT_BUILT)?;
+    }
+    Ok(())
+}
+
+#[test]
+fn a_file_may_have_as_many_bytes_as_the_limit(rt: HostRuntime) -> Result<(), Fail> {
+    let run = ["run", "T.fss"];
+    let whole = padded(rt.alloc(), GREETING, 1_048_576)?;
+    expect(&rt, &run, &whole, 100_000, 0, "Hello, World!\n", "")?;
+    let longer = padded(rt.alloc(), GREETING, 1_048_577)?;
+    expect(&rt, &run, &longer, 100_000, 8, "", "file too large\n")
+}
+
+#[test]
+fn other_words_are_no_command(rt: HostRuntime) -> Result<(), Fail> {
+    let file = GREETING.as_bytes();
+    let all: [&[&str]; 8] = [&[], &["run"], &["run", "T.fss", "U.fss"], &["run", "--help"], &["run", "-x"], &["--help"], &["T.fss"], &["Run", "T.fss"]];
+    for words in all {
+        expect(&rt, words, file, 100, 2, "", USAGE)?;
+    }
+    expect(&rt, &["run", "-"], file, 100, 3, "", "read fault\n")?;
+    expect(&rt, &["run", ""], file, 100, 3, "", "read fault\n")
+}
+
+#[test]
+fn a_read_that_fails_ends_the_call(rt: HostRuntime) -> Result<(), Fail> {
+    let alloc = rt.alloc();
+    let words = texts(alloc, &["run", "T.fss"])?;
+    for call in [1, 2, 3] {
+        let mut shelf = MemoryShelf::new(one_file(alloc, GREETING.as_bytes())?, 50, List::from_vec(vec![in alloc; call]?));
+        let mut out = CalmSink::new(alloc, 100, 100).map_err(|_| AllocError)?;
+        let mut notes = CalmSink::new(alloc, 100, 100).map_err(|_| AllocError)?;
+        let finish = fortress(&rt, alloc, &words, &mut shelf, &mut out, &mut notes, &IdleGate);
+        assert_eq!(rt; finish.status, 3);
+        assert_eq!(rt; out.bytes(), b"".as_slice());
+        assert_eq!(rt; notes.bytes(), b"read fault\n".as_slice());
+        assert_eq!(rt; shelf.calls, call);
+    }
+    Ok(())
+}
+
+#[test]
+fn a_write_that_fails_is_told_and_not_tried_again(rt: HostRuntime) -> Result<(), Fail> {
+    let alloc = rt.alloc();
+    let file = b"component T\nexport Executable\nrun(): () = println(\"abcdef\")\nend\n";
+    let words = texts(alloc, &["run", "T.fss"])?;
+    for (room, most, fails, wanted, calls) in [(100, 3, 2, "abc", 2), (5, 3, 9, "abcde", 3), (100, 3, 1, "", 1)] {
+        let mut shelf = CalmShelf::new(one_file(alloc, file)?, 100);
+        let mut out = MemorySink::new(alloc, room, most, List::from_vec(vec![in alloc; fails]?)).map_err(|_| AllocError)?;
+        let mut notes = CalmSink::new(alloc, 100, 1).map_err(|_| AllocError)?;
+        let finish = fortress(&rt, alloc, &words, &mut shelf, &mut out, &mut notes, &IdleGate);
+        assert_eq!(rt; finish.status, 4);
+        assert_eq!(rt; out.bytes(), wanted.as_bytes());
+        assert_eq!(rt; out.calls(), calls);
+        assert_eq!(rt; notes.bytes(), b"write fault\n".as_slice());
+    }
+    let mut shelf = CalmShelf::new(one_file(alloc, b"")?, 100);
+    let mut out = CalmSink::new(alloc, 100, 100).map_err(|_| AllocError)?;
+    let mut notes = CalmSink::new(alloc, 7, 100).map_err(|_| AllocError)?;
+    let finish = fortress(&rt, alloc, &words, &mut shelf, &mut out, &mut notes, &IdleGate);
+    assert_eq!(rt; finish.status, 4);
+    assert_eq!(rt; notes.bytes(), b"T.fss:1".as_slice());
+    Ok(())
+}
