@@ -69,11 +69,11 @@ either o s n c ends k = elim (settled o s c ends) [ inl w ↦ inl (k w.0 w.1 w.2
 
 pub answers : (o : Outside) (s : ℕ) → Ends o s → Answers o s
 answers o s ends = record {
-    ends = ends;
-    complete = λ c. record {
-      no_command = λ none. either o s 2 c ends (λ r m e. no_command o s r none m e);
-      prints = λ name file text run held within greets. either o s 0 c ends (λ r m e. prints o s r name file text c run held within greets m e);
-      refused = λ name file run held within none. either o s 1 c ends (λ r m e. refused o s r name file c run held within none m e);
-      too_large = λ name file run held long. either o s 8 c ends (λ r m e. too_large o s r name file c run held long m e);
-    };
-  }
+  ends = ends;
+  complete = λ c. record {
+    no_command = λ none. either o s 2 c ends (λ r m e. no_command o s r none m e);
+    prints = λ name file text run held within greets. either o s 0 c ends (λ r m e. prints o s r name file text c run held within greets m e);
+    refused = λ name file run held within none. either o s 1 c ends (λ r m e. refused o s r name file c run held within none m e);
+    too_large = λ name file run held long. either o s 8 c ends (λ r m e. too_large o s r name file c run held long m e);
+  };
+}

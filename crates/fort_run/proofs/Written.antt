@@ -23,13 +23,13 @@ piece_added bytes done n first was is e f =
 pub stopped : (c : Change) (bytes : List ℕ) (done : ℕ) → done < length bytes → c.is ≡ adds (take done bytes) c.was
     → Rose c.faults_were c.faults_are → Fails c bytes
 stopped c bytes done less e rose = record {
-    front = take done bytes;
-    rest = drop done bytes;
-    parts = sym (take-append-drop done bytes);
-    some = λ none. let short : length (drop done bytes) ≡ 0 = ap length none in omega (arith, length-drop done bytes);
-    written = e;
-    rose = rose;
-  }
+  front = take done bytes;
+  rest = drop done bytes;
+  parts = sym (take-append-drop done bytes);
+  some = λ none. let short : length (drop done bytes) ≡ 0 = ap length none in omega (arith, length-drop done bytes);
+  written = e;
+  rose = rose;
+}
 
 -- What holds whatever the error is holds at it.
 pub at_error : {T E P : Type 0} (r : Result T E) → P → OnErr r P

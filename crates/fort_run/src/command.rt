@@ -15,7 +15,11 @@ pub(crate) fn file_to_run(words: &[String]) -> Option<&[u8]>
 fn named_file<'a>(command: &[u8], file: &'a [u8]) -> Option<&'a [u8]>
     ensures { MatchOption result (¬ IsRun (command.now ∷ file.now ∷ []) file.now) (λ named. (named.now ≡ file.now) × IsRun (command.now ∷ file.now ∷ []) file.now) }
 {
-    if command == b"run".as_slice() && names_file(file) { Some(file) } else { None }
+    if command == b"run".as_slice() && names_file(file) {
+        Some(file)
+    } else {
+        None
+    }
 }
 
 /// Whether a word names a file: it is `-`, or doesn't begin with `-`.

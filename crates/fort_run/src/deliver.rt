@@ -11,7 +11,13 @@ const UNWRITTEN: u8 = 4;
 
 /// Writes what is for standard output, then the note, and answers the status. After a fault nothing more is
 /// written to the sink that failed.
-pub(crate) fn deliver<K: Sink, N: Sink>(status: u8, text: &[u8], note: &[u8], out: &mut K, notes: &mut N) -> u8
+pub(crate) fn deliver<K: Sink, N: Sink>(
+    status: u8,
+    text: &[u8],
+    note: &[u8],
+    out: &mut K,
+    notes: &mut N,
+) -> u8
     requires out { K.can_write out.old }
     requires notes { N.can_write notes.old }
     ensures { Delivers (record { status = status; out = text.now; note = note.now })

@@ -46,7 +46,11 @@ impl From<AllocError> for Unread {
 }
 
 /// Reads a file to its end, or up to the first byte behind the limit.
-pub(crate) fn read_file<F: Shelf>(alloc: Global, shelf: &mut F, name: &Bytes) -> Result<Bytes, Unread>
+pub(crate) fn read_file<F: Shelf>(
+    alloc: Global,
+    shelf: &mut F,
+    name: &Bytes,
+) -> Result<Bytes, Unread>
     ensures kept { F.holding shelf.new ≡ F.holding shelf.old }
     ensures file { IfOk result (λ file. IsFile (F.holding shelf.old name.now) file) }
     ensures within { IfOk result (λ file. length file ≤ file_limit) }
@@ -72,7 +76,12 @@ fn buffer(alloc: Global) -> Result<Vec<u8>, AllocError>
 }
 
 /// Reads one more piece of the file, and answers whether the file ended there.
-fn read_more<F: Shelf>(shelf: &mut F, name: &Bytes, file: &mut Bytes, into: &mut [u8]) -> Result<bool, Unread>
+fn read_more<F: Shelf>(
+    shelf: &mut F,
+    name: &Bytes,
+    file: &mut Bytes,
+    into: &mut [u8],
+) -> Result<bool, Unread>
     requires some { 0 < length into.old }
     requires front { IsFrontOf (F.holding shelf.old name.now) file.old }
     requires within { length file.old ≤ file_limit }

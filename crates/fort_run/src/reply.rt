@@ -9,7 +9,8 @@ use fort_base::{Bytes, List, Memory};
 use fort_port::Shelf;
 use std::alloc::Global;
 
-const USAGE: &[u8] = b"usage: fortress check FILE | show FILE | run FILE [--workers N] [--fuel N] | bench N\n";
+const USAGE: &[u8] =
+    b"usage: fortress check FILE | show FILE | run FILE [--workers N] [--fuel N] | bench N\n";
 
 const READ_FAULT: &[u8] = b"read fault\n";
 
@@ -68,7 +69,11 @@ impl Answer {
 
 /// What the call with these words means to say; the file is read to its end, or to the first byte behind the
 /// limit, before anything of it is judged.
-pub(crate) fn reply_to<F: Shelf>(alloc: Global, words: &[String], shelf: &mut F) -> Result<Answer, Memory>
+pub(crate) fn reply_to<F: Shelf>(
+    alloc: Global,
+    words: &[String],
+    shelf: &mut F,
+) -> Result<Answer, Memory>
     ensures kept { F.holding shelf.new ≡ F.holding shelf.old }
     ensures means { IfOk result (λ a. Means (map string_bytes words.now) (F.holding shelf.old) (F.faults shelf.old) (F.faults shelf.new) (said a)) }
 {

@@ -1,15 +1,19 @@
 use crate::fortress;
 use fort_base::{Bytes, List};
-use fort_port::{CalmShelf, CalmSink, IdleGate, MemoryShelf, MemorySink};
+use fort_port::{CalmShelf, CalmSink, FileShelf, IdleGate, MemoryShelf, MemorySink, Shelf, Sink, StreamSink};
 use std::alloc::{AllocError, Global};
+use std::fs::{self, OpenOptions};
+use std::io::{self, Write};
 use std::process::Abort;
 use std::sync::Wait;
 use std::test::Fail;
 use std::thread::Threads;
 
-const GREETING: &str = "component T\nexport Executable\nrun(): () = println(\"Hello, World!\")\nend\n";
+const GREETING: &str =
+    "component T\nexport Executable\nrun(): () = println(\"Hello, World!\")\nend\n";
 
-const USAGE: &str = "usage: fortress check FILE | show FILE | run FILE [--workers N] [--fuel N] | bench N\n";
+const USAGE: &str =
+    "usage: fortress check FILE | show FILE | run FILE [--workers N] [--fuel N] | bench N\n";
 
 const NOT_BUILT: &str = "T.fss:1:1: rule 901 NotBuilt\n";
 
@@ -42,12 +46,28 @@ fn padded(alloc: Global, file: &str, len: usize) -> Result<Vec<u8>, AllocError> 
 }
 
 /// Runs the words over a shelf of one file that gives `most` bytes a call, and compares all that comes out.
-fn expect<R: Threads + Wait + Sync + Abort + AllocGlobal>(rt: &R, words: &[&str], file: &[u8], most: u64, status: u8, out: &str, note: &str) -> Result<(), Fail> {
+fn expect<R: Threads + Wait + Sync + Abort + AllocGlobal>(
+    rt: &R,
+    words: &[&str],
+    file: &[u8],
+    most: u64,
+    status: u8,
+    out: &str,
+    note: &str,
+) -> Result<(), Fail> {
     let alloc = rt.alloc();
     let mut shelf = CalmShelf::new(one_file(alloc, file)?, most.max(1));
     let mut printed = CalmSink::new(alloc, 1000, 3).map_err(|_| AllocError)?;
     let mut notes = CalmSink::new(alloc, 1000, 1000).map_err(|_| AllocError)?;
-    let finish = fortress(rt, alloc, &texts(alloc, words)?, &mut shelf, &mut printed, &mut notes, &IdleGate);
+    let finish = fortress(
+        rt,
+        alloc,
+        &texts(alloc, words)?,
+        &mut shelf,
+        &mut printed,
+        &mut notes,
+        &IdleGate,
+    );
     assert_eq!(rt; finish.status, status, "{words:?}");
     assert_eq!(rt; printed.bytes(), out.as_bytes(), "{words:?}");
     assert_eq!(rt; notes.bytes(), note.as_bytes(), "{words:?}");
@@ -57,7 +77,15 @@ fn expect<R: Threads + Wait + Sync + Abort + AllocGlobal>(rt: &R, words: &[&str]
 #[test]
 fn a_greeting_is_printed_and_every_other_file_is_not_built(rt: HostRuntime) -> Result<(), Fail> {
     let run = ["run", "T.fss"];
-    expect(&rt, &run, GREETING.as_bytes(), 1_048_576, 0, "Hello, World!\n", "")?;
+    expect(
+        &rt,
+        &run,
+        GREETING.as_bytes(),
+        1_048_576,
+        0,
+        "Hello, World!\n",
+        "",
+    )?;
     expect(&rt, &run, GREETING.as_bytes(), 1, 0, "Hello, World!\n", "")?;
     let escapes = b"component Ab export Executable run(): () =println( \"a\\tb\\n\\\"\\\\\") end";
     expect(&rt, &run, escapes, 5, 0, "a\tb\n\"\\\n", "")?;
@@ -88,7 +116,16 @@ fn a_file_may_have_as_many_bytes_as_the_limit(rt: HostRuntime) -> Result<(), Fai
 #[test]
 fn other_words_are_no_command(rt: HostRuntime) -> Result<(), Fail> {
     let file = GREETING.as_bytes();
-    let all: [&[&str]; 8] = [&[], &["run"], &["run", "T.fss", "U.fss"], &["run", "--help"], &["run", "-x"], &["--help"], &["T.fss"], &["Run", "T.fss"]];
+    let all: [&[&str]; 8] = [
+        &[],
+        &["run"],
+        &["run", "T.fss", "U.fss"],
+        &["run", "--help"],
+        &["run", "-x"],
+        &["--help"],
+        &["T.fss"],
+        &["Run", "T.fss"],
+    ];
     for words in all {
         expect(&rt, words, file, 100, 2, "", USAGE)?;
     }
@@ -101,10 +138,16 @@ fn a_read_that_fails_ends_the_call(rt: HostRuntime) -> Result<(), Fail> {
     let alloc = rt.alloc();
     let words = texts(alloc, &["run", "T.fss"])?;
     for call in [1, 2, 3] {
-        let mut shelf = MemoryShelf::new(one_file(alloc, GREETING.as_bytes())?, 50, List::from_vec(vec![in alloc; call]?));
+        let mut shelf = MemoryShelf::new(
+            one_file(alloc, GREETING.as_bytes())?,
+            50,
+            List::from_vec(vec![in alloc; call]?),
+        );
         let mut out = CalmSink::new(alloc, 100, 100).map_err(|_| AllocError)?;
         let mut notes = CalmSink::new(alloc, 100, 100).map_err(|_| AllocError)?;
-        let finish = fortress(&rt, alloc, &words, &mut shelf, &mut out, &mut notes, &IdleGate);
+        let finish = fortress(
+            &rt, alloc, &words, &mut shelf, &mut out, &mut notes, &IdleGate,
+        );
         assert_eq!(rt; finish.status, 3);
         assert_eq!(rt; out.bytes(), b"".as_slice());
         assert_eq!(rt; notes.bytes(), b"read fault\n".as_slice());
@@ -118,11 +161,22 @@ fn a_write_that_fails_is_told_and_not_tried_again(rt: HostRuntime) -> Result<(),
     let alloc = rt.alloc();
     let file = b"component T\nexport Executable\nrun(): () = println(\"abcdef\")\nend\n";
     let words = texts(alloc, &["run", "T.fss"])?;
-    for (room, most, fails, wanted, calls) in [(100, 3, 2, "abc", 2), (5, 3, 9, "abcde", 3), (100, 3, 1, "", 1)] {
+    for (room, most, fails, wanted, calls) in [
+        (100, 3, 2, "abc", 2),
+        (5, 3, 9, "abcde", 3),
+        (100, 3, 1, "", 1),
+    ] {
         let mut shelf = CalmShelf::new(one_file(alloc, file)?, 100);
-        let mut out = MemorySink::new(alloc, room, most, List::from_vec(vec![in alloc; fails]?)).map_err(|_| AllocError)?;
+        let mut out = MemorySink::new(
+            alloc,
+            room,
+            most,
+            List::from_vec(vec![in alloc; fails]?),
+        ).map_err(|_| AllocError)?;
         let mut notes = CalmSink::new(alloc, 100, 1).map_err(|_| AllocError)?;
-        let finish = fortress(&rt, alloc, &words, &mut shelf, &mut out, &mut notes, &IdleGate);
+        let finish = fortress(
+            &rt, alloc, &words, &mut shelf, &mut out, &mut notes, &IdleGate,
+        );
         assert_eq!(rt; finish.status, 4);
         assert_eq!(rt; out.bytes(), wanted.as_bytes());
         assert_eq!(rt; out.calls(), calls);
@@ -131,8 +185,53 @@ fn a_write_that_fails_is_told_and_not_tried_again(rt: HostRuntime) -> Result<(),
     let mut shelf = CalmShelf::new(one_file(alloc, b"")?, 100);
     let mut out = CalmSink::new(alloc, 100, 100).map_err(|_| AllocError)?;
     let mut notes = CalmSink::new(alloc, 7, 100).map_err(|_| AllocError)?;
-    let finish = fortress(&rt, alloc, &words, &mut shelf, &mut out, &mut notes, &IdleGate);
+    let finish = fortress(
+        &rt, alloc, &words, &mut shelf, &mut out, &mut notes, &IdleGate,
+    );
     assert_eq!(rt; finish.status, 4);
     assert_eq!(rt; notes.bytes(), b"T.fss:1".as_slice());
+    Ok(())
+}
+
+#[test]
+fn a_real_file_is_read_and_what_is_none_is_a_fault(rt: HostRuntime) -> Result<(), Fail> {
+    let alloc = rt.alloc();
+    fs::write(&rt, "three.txt", "abc")?;
+    let mut shelf = FileShelf::new(&rt);
+    let mut piece = [0u8; 2];
+    let name = bytes(alloc, b"three.txt")?;
+    for (at, wanted) in [(0, "ab"), (2, "c"), (3, ""), (9, "")] {
+        let count = shelf.read_at(&name, at, &mut piece).map_err(|_| "fault")?;
+        assert_eq!(rt; &piece[..count], wanted.as_bytes());
+    }
+    let others: [&[u8]; 4] = [b"no such file", b".", b"", b"\xff\xfe"];
+    for other in others {
+        assert!(rt; shelf.read_at(&bytes(alloc, other)?, 0, &mut piece).is_err());
+    }
+    Ok(())
+}
+
+/// An output that takes nothing.
+#[derive(Drop)]
+struct Stuck;
+
+impl Write for Stuck {
+    fn write(&mut self, _bytes: &[u8]) -> io::Result<usize> {
+        Ok(0)
+    }
+
+    fn flush(&mut self) -> io::Result<()> {
+        Ok(())
+    }
+}
+
+#[test]
+fn a_real_output_takes_bytes_and_a_full_one_is_a_fault(rt: HostRuntime) -> Result<(), Fail> {
+    let mut file = StreamSink::new(fs::create(&rt, "written.txt")?);
+    assert_eq!(rt; file.write(b"abc").map_err(|_| "fault")?, 3);
+    assert_eq!(rt; fs::read_to_string(&rt, "written.txt")?.as_str(), "abc");
+    let full = OpenOptions::new().write(true).open(&rt, "/dev/full")?;
+    assert!(rt; StreamSink::new(full).write(b"abc").is_err());
+    assert!(rt; StreamSink::new(Stuck).write(b"abc").is_err());
     Ok(())
 }

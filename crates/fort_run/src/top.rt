@@ -39,12 +39,12 @@ pub fn fortress<R: Threads + Wait + Sync, F: Shelf, K: Sink, N: Sink, G: Gate + 
     requires notes { N.can_write notes.old }
     ensures kept { F.holding shelf.new ≡ F.holding shelf.old }
     ensures answers { Answers (record {
-        words = map string_bytes words.now;
-        holding = F.holding shelf.old;
-        faults_were = F.faults shelf.old;
-        faults_are = F.faults shelf.new;
-        out = record { was = K.written out.old; is = K.written out.new; faults_were = K.faults out.old; faults_are = K.faults out.new };
-        notes = record { was = N.written notes.old; is = N.written notes.new; faults_were = N.faults notes.old; faults_are = N.faults notes.new };
+      words = map string_bytes words.now;
+      holding = F.holding shelf.old;
+      faults_were = F.faults shelf.old;
+      faults_are = F.faults shelf.new;
+      out = record { was = K.written out.old; is = K.written out.new; faults_were = K.faults out.old; faults_are = K.faults out.new };
+      notes = record { was = N.written notes.old; is = N.written notes.new; faults_were = N.faults notes.old; faults_are = N.faults notes.new };
     }) result.status }
 {
     match reply_to(alloc, words, shelf) {

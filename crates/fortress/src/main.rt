@@ -3,9 +3,8 @@
 
 use fort_port::{FileShelf, IdleGate, StreamSink};
 use fort_run::fortress;
-use std::env;
-use std::io;
 use std::process::ExitCode;
+use std::{env, io};
 
 /// The status of a call that found too little memory for its words.
 const WANTS_MEMORY: u8 = 7;
@@ -23,6 +22,14 @@ fn main(rt: HostRuntime) -> ExitCode {
     };
     let mut out = StreamSink::new(rt.stdout());
     let mut shelf = FileShelf::new(&rt);
-    let finish = fortress(&rt, rt.alloc(), &words, &mut shelf, &mut out, &mut notes, &IdleGate);
+    let finish = fortress(
+        &rt,
+        rt.alloc(),
+        &words,
+        &mut shelf,
+        &mut out,
+        &mut notes,
+        &IdleGate,
+    );
     ExitCode::from(finish.status)
 }
