@@ -1,0 +1,22 @@
+//! The tokens of a source file, or the first rule of the chapter "Tokens" that it breaks.
+#![tactic(auto)]
+
+mod builder;
+mod law;
+mod marks;
+mod meaning;
+mod names;
+mod reserved;
+mod source;
+mod text;
+mod token;
+
+pub use fort_scan::{
+    BAD_CHARACTER, BAD_ESCAPE, MOST_TOKENS, NOT_UTF8, NUMBER_TOO_LARGE, OPEN_COMMENT, OPEN_TEXT,
+    TOO_MANY_TOKENS,
+};
+pub use law::one_answer;
+pub use marks::Mark;
+pub use reserved::Reserved;
+pub use source::tokens;
+pub use token::{Kind, Token, Tokens};

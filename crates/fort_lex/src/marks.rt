@@ -1,0 +1,119 @@
+ghost use Rattle.std.specs.Prelude.{◌≡◌};
+ghost use Rattle.fort_lex.specs.Spellings.{mark_ascii, mark_sign, spells_mark, mark_in, mark_named};
+
+use crate::text::{is_ascii, is_sign};
+
+/// A symbol that is neither an operator nor a word. Each variant's comment is its spellings, the ASCII one first.
+#[derive(Clone, Copy, Debug, PartialEq, Eq)]
+pub enum Mark {
+    /// `[\`, `⟦`
+    OpenStatic,
+    /// `\]`, `⟧`
+    CloseStatic,
+    /// `<-`, `←`
+    LeftArrow,
+    /// `->`, `→`
+    RightArrow,
+    /// `=>`, `⇒`
+    DoubleArrow,
+    /// `:=`
+    Becomes,
+    /// `+=`
+    AddBecomes,
+    /// `-=`
+    SubtractBecomes,
+    /// `(`
+    OpenParen,
+    /// `)`
+    CloseParen,
+    /// `[`
+    OpenBracket,
+    /// `]`
+    CloseBracket,
+    /// `{`
+    OpenBrace,
+    /// `}`
+    CloseBrace,
+    /// `,`
+    Comma,
+    /// `;`
+    Semicolon,
+    /// `.`
+    Dot,
+}
+
+/// Every such symbol.
+pub const MARKS: [Mark; 17] = [
+    Mark::OpenStatic,
+    Mark::CloseStatic,
+    Mark::LeftArrow,
+    Mark::RightArrow,
+    Mark::DoubleArrow,
+    Mark::Becomes,
+    Mark::AddBecomes,
+    Mark::SubtractBecomes,
+    Mark::OpenParen,
+    Mark::CloseParen,
+    Mark::OpenBracket,
+    Mark::CloseBracket,
+    Mark::OpenBrace,
+    Mark::CloseBrace,
+    Mark::Comma,
+    Mark::Semicolon,
+    Mark::Dot,
+];
+
+fn ascii(mark: Mark) -> &'static str
+    ensures { result.now ≡ mark_ascii mark }
+{
+    match mark {
+        Mark::OpenStatic => "[\\",
+        Mark::CloseStatic => "\\]",
+        Mark::LeftArrow => "<-",
+        Mark::RightArrow => "->",
+        Mark::DoubleArrow => "=>",
+        Mark::Becomes => ":=",
+        Mark::AddBecomes => "+=",
+        Mark::SubtractBecomes => "-=",
+        Mark::OpenParen => "(",
+        Mark::CloseParen => ")",
+        Mark::OpenBracket => "[",
+        Mark::CloseBracket => "]",
+        Mark::OpenBrace => "{",
+        Mark::CloseBrace => "}",
+        Mark::Comma => ",",
+        Mark::Semicolon => ";",
+        Mark::Dot => ".",
+    }
+}
+
+fn sign(mark: Mark) -> Option<char>
+    ensures { result ≡ mark_sign mark }
+{
+    match mark {
+        Mark::OpenStatic => Some('⟦'),
+        Mark::CloseStatic => Some('⟧'),
+        Mark::LeftArrow => Some('←'),
+        Mark::RightArrow => Some('→'),
+        Mark::DoubleArrow => Some('⇒'),
+        _ => None,
+    }
+}
+
+fn spells(mark: Mark, text: &[char]) -> bool
+    ensures { result ≡ spells_mark mark text.now }
+{
+    is_ascii(text, ascii(mark)) || is_sign(text, sign(mark))
+}
+
+/// The symbol that these characters spell, or `None` where they spell none.
+pub fn mark_named(text: &[char]) -> Option<Mark>
+    ensures { result ≡ mark_named text.now }
+{
+    for i in 0..MARKS.len() {
+        if spells(MARKS[i], text) {
+            return Some(MARKS[i]);
+        }
+    }
+    None
+}
