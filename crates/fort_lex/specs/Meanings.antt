@@ -12,7 +12,7 @@ use Rattle.fort_lex.specs.declared.token.Kind.TheVariants as kind
 use Rattle.fort_lex.specs.Spellings.{reserved_named, mark_named, operator_named, has_operator_form}
 
 -- a reserved word, another symbol or an operator by its table; else an operator word by its form; else a name
-abbrev pub meaning_of : List ℕ → Meaning
+unfoldable pub meaning_of : List ℕ → Meaning
 meaning_of w =
     option_map_or (λ r. a_meaning.Word r) (reserved_named w)
     (option_map_or (λ m. a_meaning.Mark m) (mark_named w)

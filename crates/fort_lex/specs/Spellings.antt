@@ -2,14 +2,14 @@
 -- The code compares a word with one spelling after another.
 use Rattle.std.specs.Prelude.{◌≡◌, ℕ, ◌-◌, Bool, true, false, cond, not, ◌&&◌, ◌||◌, ◌==◌, List, [], ◌∷◌, Option, None, Some, codes, nat_le, get_or, length}
 use Rattle.fort_ops.specs.declared.op.Op.{Op}
-use Rattle.fort_ops.specs.Spellings.{Row, table}
+use Rattle.fort_ops.specs.Spellings.{spellings}
 use Rattle.fort_lex.specs.declared.reserved.Reserved.{Reserved}
 use Rattle.fort_lex.specs.declared.reserved.Reserved.TheVariants as word
 use Rattle.fort_lex.specs.declared.marks.Mark.{Mark}
 use Rattle.fort_lex.specs.declared.marks.Mark.TheVariants as a_mark
 use Rattle.fort_lex.specs.declared.reserved.TheConstants.{WORDS}
 use Rattle.fort_lex.specs.declared.marks.TheConstants.{MARKS}
-use Rattle.fort_scan.specs.Lists.{every, same, among}
+use Rattle.fort_scan.specs.Lists.{every, same}
 
 -- whether a word is a sign of one character, where there is one
 abbrev pub is_sign : Option ℕ → List ℕ → Bool
@@ -73,7 +73,7 @@ reserved_in [] w = None
 reserved_in (r ∷ rs) w = cond (spells_word r w) (Some r) (reserved_in rs w)
 
 -- the reserved word that the characters spell
-abbrev pub reserved_named : List ℕ → Option Reserved
+unfoldable pub reserved_named : List ℕ → Option Reserved
 reserved_named w = reserved_in WORDS w
 
 -- the ASCII spelling of another symbol
@@ -114,17 +114,17 @@ mark_in [] w = None
 mark_in (m ∷ ms) w = cond (spells_mark m w) (Some m) (mark_in ms w)
 
 -- the symbol, no operator and no word, that the characters spell
-abbrev pub mark_named : List ℕ → Option Mark
+unfoldable pub mark_named : List ℕ → Option Mark
 mark_named w = mark_in MARKS w
 
--- the operator of the first of these rows that has the characters as a spelling
-abbrev pub operator_in : List Row → List ℕ → Option Op
+-- the operator of the first of these rows whose spelling the characters are
+abbrev pub operator_in : List (Op × List ℕ) → List ℕ → Option Op
 operator_in [] w = None
-operator_in (r ∷ rows) w = cond (among r.spellings w) (Some r.op) (operator_in rows w)
+operator_in (p ∷ ps) w = cond (same p.1 w) (Some p.0) (operator_in ps w)
 
 -- the operator that the characters spell
-abbrev pub operator_named : List ℕ → Option Op
-operator_named w = operator_in table w
+unfoldable pub operator_named : List ℕ → Option Op
+operator_named w = operator_in spellings w
 
 -- an ASCII capital
 abbrev pub is_capital : ℕ → Bool

@@ -106,14 +106,22 @@ fn spells(mark: Mark, text: &[char]) -> bool
     is_ascii(text, ascii(mark)) || is_sign(text, sign(mark))
 }
 
-/// The symbol that these characters spell, or `None` where they spell none.
-pub fn mark_named(text: &[char]) -> Option<Mark>
-    ensures { result ≡ mark_named text.now }
+/// The first of these symbols that the characters spell.
+fn mark_in(marks: &[Mark], text: &[char]) -> Option<Mark>
+    ensures { result ≡ mark_in marks.now text.now }
 {
-    for i in 0..MARKS.len() {
-        if spells(MARKS[i], text) {
-            return Some(MARKS[i]);
+    for mark in marks {
+        if spells(*mark, text) {
+            return Some(*mark);
         }
     }
     None
+}
+
+/// The symbol that these characters spell, or `None` where they spell none.
+#[tactic(auto, unfolding(crate::specs::Spellings::mark_named))]
+pub fn mark_named(text: &[char]) -> Option<Mark>
+    ensures { result ≡ mark_named text.now }
+{
+    mark_in(&MARKS, text)
 }

@@ -73,8 +73,8 @@ pub fn meaning_of(word: &[char], text: &str) -> Meaning
     requires scalars { scalars word.now ≡ true }
     ensures { result ≡ meaning_of word.now }
 {
-    if let Some(word) = reserved_named(word) {
-        return Meaning::Word(word);
+    if let Some(reserved) = reserved_named(word) {
+        return Meaning::Word(reserved);
     }
     if let Some(mark) = mark_named(word) {
         return Meaning::Mark(mark);

@@ -1,7 +1,7 @@
-ghost use Rattle.std.specs.Prelude.{◌≡◌, ◌<◌, ◌^◌, ℕ, List, true, length, IfOk, OnOk};
+ghost use Rattle.std.specs.Prelude.{◌≡◌, ◌<◌, ◌^◌, ℕ, [], ◌∷◌, ◌++◌, List as Seq, true, cond, length, string_bytes, IfOk, OnOk};
 ghost use Rattle.std.proofs.Math.Utf8.{scalars};
 ghost use Rattle.fort_lex.specs.Meanings.{meaning_of, is_numbered, KindFor};
-ghost use Rattle.fort_lex.specs.Building.{HoldsNames, with_word};
+ghost use Rattle.fort_lex.specs.Building.{HoldsNames, KindAt, words_with};
 
 use crate::meaning::{Meaning, meaning_of};
 use crate::text::spelled;
@@ -28,32 +28,50 @@ impl<'a> Names<'a> {
         }
     }
 
+    /// The names, each by its number.
+    pub fn into_names(self) -> List<Bytes>
+        ensures { result ≡ self.entry.names }
+    {
+        let Names { names, known: _ } = self;
+        names
+    }
+
     /// The kind of a word that is neither a number nor a text; a new name gets the next number.
     pub fn kind_of(&mut self, alloc: Global, word: &'a [char]) -> Result<Kind, Memory>
         requires room { length self.old.names < 2 ^ 31 }
         requires scalars { scalars word.now ≡ true }
-        ensures kind { IfOk result (λ k. (words : List (List ℕ)) → HoldsNames words self.old → KindFor (with_word words word.now (is_numbered (meaning_of word.now))) word.now (meaning_of word.now) k) }
-        ensures held { OnOk result ((words : List (List ℕ)) → HoldsNames words self.old → HoldsNames (with_word words word.now (is_numbered (meaning_of word.now))) self.new) }
+        ensures kind { IfOk result (λ k. (words : Seq (Seq ℕ)) → HoldsNames words self.old → KindFor (words_with words word.now) word.now (meaning_of word.now) k) }
+        ensures held { OnOk result ((words : Seq (Seq ℕ)) → HoldsNames words self.old → HoldsNames (words_with words word.now) self.new) }
     {
         if let Some(kind) = self.known.get(word) {
             return Ok(*kind);
         }
         let text = spelled(alloc, word)?;
+        let kind = self.kind_for(meaning_of(word, &text), text)?;
+        self.known.insert(word, kind)?;
+        Ok(kind)
+    }
+
+    /// The kind of a word of that meaning that is not known yet.
+    fn kind_for(&mut self, meaning: Meaning, text: String) -> Result<Kind, Memory>
+        requires { length self.old.names < 2 ^ 31 }
+        ensures kind { IfOk result (KindAt (length self.old.names) meaning) }
+        ensures names { OnOk result (self.new.names ≡ self.old.names ++ cond (is_numbered meaning) (string_bytes text ∷ []) []) }
+        ensures known { self.new.known ≡ self.old.known }
+    {
         let number = self.names.len() as u32;
-        let kind = match meaning_of(word, &text) {
-            Meaning::Word(word) => Kind::Word(word),
-            Meaning::Mark(mark) => Kind::Mark(mark),
-            Meaning::Op(op) => Kind::Op(op),
+        match meaning {
+            Meaning::Word(word) => Ok(Kind::Word(word)),
+            Meaning::Mark(mark) => Ok(Kind::Mark(mark)),
+            Meaning::Op(op) => Ok(Kind::Op(op)),
             Meaning::OperatorWord => {
                 self.names.push(List::from_vec(text.into_bytes()))?;
-                Kind::Op(Op::Word(number))
+                Ok(Kind::Op(Op::Word(number)))
             }
             Meaning::Name => {
                 self.names.push(List::from_vec(text.into_bytes()))?;
-                Kind::Name(NameId(number))
+                Ok(Kind::Name(NameId(number)))
             }
-        };
-        self.known.insert(word, kind)?;
-        Ok(kind)
+        }
     }
 }

@@ -191,14 +191,22 @@ fn spells(word: Reserved, text: &[char]) -> bool
     is_ascii(text, ascii(word)) || is_sign(text, sign(word))
 }
 
-/// The reserved word that these characters spell, or `None` where they spell none.
-pub fn reserved_named(text: &[char]) -> Option<Reserved>
-    ensures { result ≡ reserved_named text.now }
+/// The first of these reserved words that the characters spell.
+fn reserved_in(words: &[Reserved], text: &[char]) -> Option<Reserved>
+    ensures { result ≡ reserved_in words.now text.now }
 {
-    for i in 0..WORDS.len() {
-        if spells(WORDS[i], text) {
-            return Some(WORDS[i]);
+    for word in words {
+        if spells(*word, text) {
+            return Some(*word);
         }
     }
     None
+}
+
+/// The reserved word that these characters spell, or `None` where they spell none.
+#[tactic(auto, unfolding(crate::specs::Spellings::reserved_named))]
+pub fn reserved_named(text: &[char]) -> Option<Reserved>
+    ensures { result ≡ reserved_named text.now }
+{
+    reserved_in(&WORDS, text)
 }

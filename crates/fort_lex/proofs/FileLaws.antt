@@ -1,0 +1,1 @@
+-- Token lists.

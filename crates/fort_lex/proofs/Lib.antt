@@ -1,0 +1,3 @@
+pub mod MeaningLaws
+pub mod NameLaws
+pub mod FileLaws
