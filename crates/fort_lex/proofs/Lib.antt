@@ -1,3 +1,4 @@
 pub mod MeaningLaws
 pub mod NameLaws
 pub mod FileLaws
+pub mod ReadLaws

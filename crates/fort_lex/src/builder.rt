@@ -109,7 +109,8 @@ impl<'a> Builder<'a> {
                 self.texts.push(said(alloc, word)?)?;
                 Ok(Kind::Text(number))
             }
-            Shape::Name | Shape::Symbol => self.names.kind_of(alloc, word),
+            Shape::Name => Ok(self.names.kind_of(alloc, word)?),
+            Shape::Symbol => Ok(self.names.kind_of(alloc, word)?),
         }
     }
 

@@ -219,6 +219,11 @@ stuck_many text at gap word ps l m h s =
       place_is = refl
     }
 
+-- the mark adds no piece
+pub length_marked : (m : List ℕ) (qs : List Piece) → length (with_mark m qs) ≡ length qs
+length_marked m [] = refl
+length_marked m (q ∷ qs) = refl
+
 -- ---- the list and the fault
 
 pub list_is : (text : List ℕ) (at : ℕ) (ps : List Piece) → Chain IsToken ps (body text) (drop at text) → length ps ≤ 262144 → Gap (drop at text) []
@@ -226,10 +231,6 @@ pub list_is : (text : List ℕ) (at : ℕ) (ps : List Piece) → Chain IsToken p
 list_is text at ps h l g =
     let has : HasPieces text (with_mark (mark text) ps) = record { bare = ps; last = drop at text; tokens = h; gap = g; marked = refl } in
     record { has = has; few = (let e = length_marked (mark text) ps in omega arith); only = λ others k. one_list text others (with_mark (mark text) ps) k has; sound = λ at r f. tokens_sound text (with_mark (mark text) ps) at r has f }
-  where
-    length_marked : (m : List ℕ) (qs : List Piece) → length (with_mark m qs) ≡ length qs
-    length_marked m [] = refl
-    length_marked m (q ∷ qs) = refl
 
 fault_by : (text : List ℕ) (at k : ℕ) (r : Rule) (ps : List Piece) (rest : List ℕ) (n : ℕ) → length ps ≤ 262144 → Chain IsToken ps (body text) (drop at text) → Gap (drop at text) rest
     → Breaks rest k r → ((q : ℕ) (s : Rule) → Breaks rest q s → k ≤ q) → ((w after : List ℕ) → Stands w rest after → k ≤ length w)
@@ -262,3 +263,37 @@ stuck_fault text at gap word ps l m h s =
     let stands = subst (Gap (drop at text)) (stuck_rest (drop at text) gap word s) s.is.gap in
     fault_by text at word BAD_CHARACTER ps (drop gap (drop at text)) (at + (gap + word)) (omega arith) h stands s.fault s.least (stuck_inside (drop at text) gap word s)
       (λ e. absurd (omega arith)) (stuck_place text at gap word l s.within)
+
+-- ---- a list of so many tokens, and a token too many
+
+few_by : (ps qs : List Piece) (q : Piece) (text last mid rest : List ℕ) → Chain IsToken ps text last → Gap last [] → Chain IsPiece qs text mid → IsPiece q mid rest → length qs < length ps
+few_by [] [] q text last mid rest a g b t =
+    absurd (no_word q.word rest t.word (gap_once (subst (λ u. Gap u []) (sym a ∙ b) g) t.gap))
+few_by [] (x ∷ qs) q text last mid rest a g b t = absurd (no_word x.word b.0 b.1.word (gap_once (subst (λ u. Gap u []) (sym a) g) b.1.gap))
+few_by (p ∷ ps) [] q text last mid rest a g b t = omega arith
+few_by (p ∷ ps) (x ∷ qs) q text last mid rest a g b t =
+    let both = piece_once a.1.piece b.1 in
+    let h = few_by ps qs q a.0 last mid rest a.2 g (subst (λ u. Chain IsPiece qs u mid) (sym both.1) b.2) t in omega arith
+
+-- a text that has a list of tokens has none too many
+pub list_few : (text : List ℕ) (ps : List Piece) (n at : ℕ) → HasPieces text ps → length ps ≤ n → IsTooMany n text at → ⊥
+list_few text ps n at h l t =
+    let a = few_by h.bare t.pieces t.piece (body text) h.last t.middle t.rest h.tokens h.gap t.before t.next in
+    let m = ap length h.marked in
+    let k = length_marked (mark text) h.bare in
+    let c = t.count in omega arith
+
+-- ---- the mark before the first gap
+
+-- what of the mark still waits for the first gap
+abbrev pub pending : List ℕ → List Piece → List ℕ
+pending m [] = m
+pending m (p ∷ ps) = []
+
+pub marked_last : (m : List ℕ) (ps : List Piece) (p : Piece) → with_mark m (ps ++ p ∷ []) ≡ with_mark m ps ++ record { gap = pending m ps ++ p.gap; word = p.word } ∷ []
+marked_last m [] p = refl
+marked_last m (q ∷ ps) p = refl
+
+pub pending_after : (m : List ℕ) (ps : List Piece) (p : Piece) → pending m (ps ++ p ∷ []) ≡ []
+pending_after m [] p = refl
+pending_after m (q ∷ ps) p = refl
