@@ -1,0 +1,5 @@
+pub mod MeaningLaws
+pub mod NameLaws
+pub mod FileLaws
+pub mod ReadLaws
+pub mod Uniqueness

@@ -1,0 +1,4 @@
+pub mod Spellings
+pub mod Meanings
+pub mod Files
+pub mod Building

@@ -1,0 +1,19 @@
+//! The tokens of a source file, or the first rule of the chapter "Tokens" that it breaks.
+#![tactic(auto)]
+
+mod builder;
+mod law;
+mod marks;
+mod meaning;
+mod names;
+mod reserved;
+mod source;
+mod text;
+
+pub use fort_scan::{
+    BAD_CHARACTER, BAD_ESCAPE, MOST_TOKENS, NOT_UTF8, NUMBER_TOO_LARGE, OPEN_COMMENT, OPEN_TEXT,
+    TOO_MANY_TOKENS,
+};
+pub use fort_token::{Kind, Mark, Reserved, Token, Tokens};
+pub use law::one_answer;
+pub use source::tokens;

@@ -1,0 +1,10 @@
+pub mod Lists
+pub mod Chain
+pub mod Gaps
+pub mod Spelling
+pub mod Tokens
+pub mod Places
+pub mod Faults
+pub mod Scan
+pub mod Words
+pub mod Steps
