@@ -3,8 +3,10 @@ use Rattle.std.proofs.Common.{◌≡◌, ℕ, ◌<◌, ◌≤◌, List, [], ◌�
 use Rattle.std.specs.Prelude.{◌⊎◌, codes}
 use Rattle.fort_port.specs.Outside.{Holding, Held, Rose}
 use Rattle.fort_run.specs.Words.{IsRun, IsNoCommand}
-use Rattle.fort_run.specs.Greeting.{Greets}
-use Rattle.fort_run.specs.Reply.{Reply, IsFile, Means, Prints, Refused, NoCommand, Unread, TooLarge, file_limit}
+use Rattle.fort_base.specs.declared.refusal.Rule.{Rule}
+use Rattle.fort_base.specs.declared.refusal.Place.{Place}
+use Rattle.fort_run.specs.Reply.{Reply, IsFile, Means, Completes, Refuses, NoCommand, Unread, TooLarge, Prints, IsRefused, file_limit}
+use Rattle.fort_run.proofs.Apart.{prints_apart}
 use Rattle.fort_run.specs.Delivery.{Whole, OutFailed, NotesFailed, Delivers}
 use Rattle.fort_run.specs.Outcome.{Outside, MeansToSay, Ends, Said, WantsMemory, IsCalm, IsComplete, Answers}
 
@@ -27,39 +29,40 @@ status_of : (s n : ℕ) (reply : Reply) (r : Reply) → s ≡ reply.status → r
 status_of s n reply r e f g = e ∙ (ap (λ (x : Reply). x.status) f ∙ g)
 
 no_command : (o : Outside) (s : ℕ) (reply : Reply) → IsNoCommand o.words → MeansToSay o reply → s ≡ reply.status → s ≡ 2
-no_command o s reply none (Prints name file text run is within greets calm e) f = absurd (none name run)
-no_command o s reply none (Refused name file run is within nothing calm e) f = absurd (none name run)
+no_command o s reply none (Completes name file text run is within prints calm e) f = absurd (none name run)
+no_command o s reply none (Refuses name file rule place run is within refused calm e) f = absurd (none name run)
 no_command o s reply none (NoCommand out calm e) f = status_of s 2 reply _ f e refl
 no_command o s reply none (Unread name run rose e) f = absurd (none name run)
 no_command o s reply none (TooLarge name file run is long calm e) f = absurd (none name run)
 
-prints : (o : Outside) (s : ℕ) (reply : Reply) (name file text : List ℕ) → IsCalm o → IsRun o.words name → o.holding name ≡ Held file
-    → length file ≤ file_limit → Greets file text → MeansToSay o reply → s ≡ reply.status → s ≡ 0
-prints o s reply name file text c run held within greets (Prints name' file' text' run' is' within' greets' calm e) f = status_of s 0 reply _ f e refl
-prints o s reply name file text c run held within greets (Refused name' file' run' is' within' none calm e) f =
-    absurd (none text (rw (same_file o name name' file file' run held run' is') greets))
-prints o s reply name file text c run held within greets (NoCommand none calm e) f = absurd (none name run)
-prints o s reply name file text c run held within greets (Unread name' run' rose e) f = absurd (c.shelf rose)
-prints o s reply name file text c run held within greets (TooLarge name' file' run' is' long calm e) f =
+-- What is said of a file within the limit, by a fact of it that rules the other answer out.
+completes : (o : Outside) (s : ℕ) (reply : Reply) (name file text : List ℕ) → IsCalm o → IsRun o.words name → o.holding name ≡ Held file
+    → length file ≤ file_limit → Prints file text → MeansToSay o reply → s ≡ reply.status → s ≡ 0
+completes o s reply name file text c run held within prints (Completes name' file' text' run' is' within' prints' calm e) f = status_of s 0 reply _ f e refl
+completes o s reply name file text c run held within prints (Refuses name' file' rule place run' is' within' refused calm e) f =
+    absurd (prints_apart file text rule place prints (subst (λ x. IsRefused x rule place) (same_file o name name' file file' run held run' is') refused))
+completes o s reply name file text c run held within prints (NoCommand none calm e) f = absurd (none name run)
+completes o s reply name file text c run held within prints (Unread name' run' rose e) f = absurd (c.shelf rose)
+completes o s reply name file text c run held within prints (TooLarge name' file' run' is' long calm e) f =
     absurd (let same : length file' ≡ length file = ap length (same_file o name name' file file' run held run' is') in omega arith)
 
-refused : (o : Outside) (s : ℕ) (reply : Reply) (name file : List ℕ) → IsCalm o → IsRun o.words name → o.holding name ≡ Held file
-    → length file ≤ file_limit → ((text : List ℕ) → Greets file text → ⊥) → MeansToSay o reply → s ≡ reply.status → s ≡ 1
-refused o s reply name file c run held within none (Prints name' file' text' run' is' within' greets' calm e) f =
-    absurd (none text' (subst (λ x. Greets x text') (same_file o name name' file file' run held run' is') greets'))
-refused o s reply name file c run held within none (Refused name' file' run' is' within' none' calm e) f = status_of s 1 reply _ f e refl
-refused o s reply name file c run held within none (NoCommand out calm e) f = absurd (out name run)
-refused o s reply name file c run held within none (Unread name' run' rose e) f = absurd (c.shelf rose)
-refused o s reply name file c run held within none (TooLarge name' file' run' is' long calm e) f =
+refused : (o : Outside) (s : ℕ) (reply : Reply) (name file : List ℕ) (rule : Rule) (place : Place) → IsCalm o → IsRun o.words name
+    → o.holding name ≡ Held file → length file ≤ file_limit → IsRefused file rule place → MeansToSay o reply → s ≡ reply.status → s ≡ 1
+refused o s reply name file rule place c run held within none (Completes name' file' text' run' is' within' prints' calm e) f =
+    absurd (prints_apart file text' rule place (subst (λ x. Prints x text') (same_file o name name' file file' run held run' is') prints') none)
+refused o s reply name file rule place c run held within none (Refuses name' file' rule' place' run' is' within' refused' calm e) f = status_of s 1 reply _ f e refl
+refused o s reply name file rule place c run held within none (NoCommand out calm e) f = absurd (out name run)
+refused o s reply name file rule place c run held within none (Unread name' run' rose e) f = absurd (c.shelf rose)
+refused o s reply name file rule place c run held within none (TooLarge name' file' run' is' long calm e) f =
     absurd (let same : length file' ≡ length file = ap length (same_file o name name' file file' run held run' is') in omega arith)
 
 too_large : (o : Outside) (s : ℕ) (reply : Reply) (name file : List ℕ) → IsCalm o → IsRun o.words name → o.holding name ≡ Held file
     → file_limit < length file → MeansToSay o reply → s ≡ reply.status → s ≡ 8
-too_large o s reply name file c run held long (Prints name' file' text' run' is' within' greets' calm e) f =
+too_large o s reply name file c run held long (Completes name' file' text' run' is' within' prints' calm e) f =
     absurd (let same : length file' ≡ length file = ap length (same_file o name name' file file' run held run' is') in omega arith)
-too_large o s reply name file c run held long (Refused name' file' run' is' within' none' calm e) f =
+too_large o s reply name file c run held long (Refuses name' file' rule place run' is' within' refused' calm e) f =
     absurd (let same : length file' ≡ length file = ap length (same_file o name name' file file' run held run' is') in omega arith)
-too_large o s reply name file c run held long (NoCommand out calm e) f = absurd (out name run)
+too_large o s reply name file c run held long (NoCommand none calm e) f = absurd (none name run)
 too_large o s reply name file c run held long (Unread name' run' rose e) f = absurd (c.shelf rose)
 too_large o s reply name file c run held long (TooLarge name' file' run' is' long' calm e) f = status_of s 8 reply _ f e refl
 
@@ -72,8 +75,8 @@ answers o s ends = record {
   ends = ends;
   complete = λ c. record {
     no_command = λ none. either o s 2 c ends (λ r m e. no_command o s r none m e);
-    prints = λ name file text run held within greets. either o s 0 c ends (λ r m e. prints o s r name file text c run held within greets m e);
-    refused = λ name file run held within none. either o s 1 c ends (λ r m e. refused o s r name file c run held within none m e);
+    completes = λ name file text run held within prints. either o s 0 c ends (λ r m e. completes o s r name file text c run held within prints m e);
+    refused = λ name file rule place run held within none. either o s 1 c ends (λ r m e. refused o s r name file rule place c run held within none m e);
     too_large = λ name file run held long. either o s 8 c ends (λ r m e. too_large o s r name file c run held long m e);
   };
 }

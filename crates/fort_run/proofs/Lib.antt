@@ -1,8 +1,7 @@
+pub mod Fitting
 pub mod Fronts
 pub mod Written
+pub mod Apart
 pub mod Complete
 pub mod Meaning
-pub mod Forms
-pub mod Names
-pub mod Texts
-pub mod Greetings
+pub mod Refused

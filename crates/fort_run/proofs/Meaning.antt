@@ -3,8 +3,8 @@ use Rattle.std.proofs.Common.{◌≡◌, ℕ, ◌<◌, ◌≤◌, List, length, 
 use Rattle.fort_base.specs.declared.refusal.Memory.{Memory}
 use Rattle.fort_port.specs.Outside.{Holding, Rose}
 use Rattle.fort_run.specs.Words.{IsRun}
-use Rattle.fort_run.specs.Reply.{Reply, IsFile, Means, Prints, Refused as RefusesFile, Unread, TooLarge, file_limit, read_fault, too_large}
-use Rattle.fort_run.specs.Said.{said, Judges, Runs, Refuses}
+use Rattle.fort_run.specs.Reply.{Reply, IsFile, Means, Completes, Refuses, file_limit}
+use Rattle.fort_run.specs.Said.{said, Judges, Runs, StandsBack}
 use Rattle.fort_run.specs.Delivery.{Change, Delivers}
 use Rattle.fort_run.specs.Outcome.{Outside, MeansToSay, Said, Answers}
 use Rattle.fort_run.specs.declared.reply.Answer.{Answer}
@@ -13,10 +13,10 @@ use Rattle.fort_run.proofs.Complete.{answers}
 judged_means : (words : List (List ℕ)) (holding : List ℕ → Holding) (before after : ℕ) (name file : List ℕ) (answer : Answer)
     → IsRun words name → IsFile (holding name) file → length file ≤ file_limit → after ≡ before → Judges name file answer
     → Means words holding before after (said answer)
-judged_means words holding before after name file answer run is within calm (Runs text greets e) =
-    Prints name file text run is within greets calm (ap said e)
-judged_means words holding before after name file answer run is within calm (Refuses none e) =
-    RefusesFile name file run is within none calm (ap said e)
+judged_means words holding before after name file answer run is within calm (Runs text prints e) =
+    Completes name file text run is within prints calm (ap said e)
+judged_means words holding before after name file answer run is within calm (StandsBack rule place refused e) =
+    Refuses name file rule place run is within refused calm (ap said e)
 
 -- What is judged of a file that was read whole.
 pub read_means : (words : List (List ℕ)) (holding : List ℕ → Holding) (before after : ℕ) (word name file : List ℕ) (r : Result Answer Memory)

@@ -1,65 +1,54 @@
 -- The components that run so far. It restates the chapter "What is built" of docs/LANGUAGE.md.
--- The definition prints a component; the code reads one, byte by byte.
-use Rattle.std.specs.Prelude.{◌≡◌, ◌≢◌, ℕ, ◌==◌, ◌&&◌, ◌||◌, Bool, not, nat_le, IsTrue, List, [], ◌∷◌, ◌++◌, length, flat_map, codes, if◌then◌else◌}
-use Rattle.std.specs.List.{list_all, list_any}
-use Rattle.std.specs.Bool.{MatchBool}
-use Rattle.std.specs.Str.{bytes_eq}
+-- The code compares one token after another with the form.
+use Rattle.std.specs.Prelude.{◌≡◌, ℕ, List, [], ◌∷◌, Some, slice_get, codes}
+use Rattle.fort_base.specs.declared.ids.NameId.{NameId}
+use Rattle.fort_base.specs.declared.refusal.Gap.TheVariants.{Empty}
+use Rattle.fort_ops.specs.declared.op.Op.TheVariants as an_op
+use Rattle.fort_token.specs.declared.token.Token.{Token}
+use Rattle.fort_token.specs.declared.token.Tokens.{Tokens}
+use Rattle.fort_token.specs.declared.token.Kind.{Kind}
+use Rattle.fort_token.specs.declared.token.Kind.TheVariants as a_kind
+use Rattle.fort_token.specs.declared.reserved.Reserved.TheVariants as a_word
+use Rattle.fort_token.specs.declared.marks.Mark.TheVariants as a_mark
 
--- a space or a line feed
-abbrev pub is_blank : ℕ → Bool
-is_blank c = (c == 32) || (c == 10)
+-- What a form wants at a place: a token of this kind, this name, any name, or any text.
+pub data Slot : Type 0 where
+  Is : Kind → Slot
+  Named : List ℕ → Slot
+  AnyName : Slot
+  AnyText : Slot
 
--- What a character of a form stands for: a space for blanks or none, a low line for one blank or more, every
--- other one for itself.
-abbrev pub Stands : ℕ → List ℕ → Type 0
-Stands c part = MatchBool (c == 32) (IsTrue (list_all is_blank part))
-    (MatchBool (c == 95) (IsTrue (list_all is_blank part) × (part ≢ [])) (part ≡ c ∷ []))
+-- A token of a token list is what the form wants.
+abbrev pub Fits : Tokens → Slot → Kind → Type 0
+Fits ts (Is wanted) kind = kind ≡ wanted
+Fits ts (Named word) kind = (name : NameId) × (kind ≡ a_kind.Name name) × (slice_get ts.names name.0 ≡ Some word)
+Fits ts AnyName kind = (name : NameId) × (kind ≡ a_kind.Name name)
+Fits ts AnyText kind = (text : ℕ) × (kind ≡ a_kind.Text text)
 
--- A text begins with what a form's characters stand for, one after the other, and goes on with the rest.
-abbrev pub Begins : List ℕ → List ℕ → List ℕ → Type 0
-Begins [] text rest = text ≡ rest
-Begins (c ∷ form) text rest = (part after : List ℕ) × (text ≡ part ++ after) × Stands c part × Begins form after rest
+-- These tokens are what the form wants, one for each place.
+abbrev pub FitsAll : Tokens → List Slot → List Token → Type 0
+FitsAll ts [] tokens = tokens ≡ []
+FitsAll ts (slot ∷ slots) tokens = (token : Token) × (rest : List Token) × (tokens ≡ token ∷ rest) × Fits ts slot token.kind × FitsAll ts slots rest
 
-abbrev pub is_lower : ℕ → Bool
-is_lower c = nat_le 97 c && nat_le c 122
+-- component NAME export Executable run ( ) : ( ) = println ( TEXT ) end
+abbrev pub form : List Slot
+form =
+    Is (a_kind.Word a_word.Component) ∷ AnyName ∷ Is (a_kind.Word a_word.Export) ∷ Named (codes "Executable")
+    ∷ Named (codes "run") ∷ Is (a_kind.Mark a_mark.OpenParen) ∷ Is (a_kind.Mark a_mark.CloseParen) ∷ Is (a_kind.Op an_op.Range)
+    ∷ Is (a_kind.Mark a_mark.OpenParen) ∷ Is (a_kind.Mark a_mark.CloseParen) ∷ Is (a_kind.Op an_op.Eq)
+    ∷ Named (codes "println") ∷ Is (a_kind.Mark a_mark.OpenParen) ∷ AnyText ∷ Is (a_kind.Mark a_mark.CloseParen)
+    ∷ Is (a_kind.Word a_word.End) ∷ []
 
-abbrev pub is_letter : ℕ → Bool
-is_letter c = is_lower c || (nat_le 65 c && nat_le c 90)
+-- The token at this place directly follows the one before it.
+abbrev pub IsTight : Tokens → ℕ → Type 0
+IsTight ts at = (token : Token) × (slice_get ts.list at ≡ Some token) × (token.gap ≡ Empty)
 
-abbrev pub is_letter_or_digit : ℕ → Bool
-is_letter_or_digit c = is_letter c || (nat_le 48 c && nat_le c 57)
+-- The token at this place is a text that says this.
+abbrev pub Says : Tokens → ℕ → List ℕ → Type 0
+Says ts at text = (token : Token) × (n : ℕ) × (slice_get ts.list at ≡ Some token) × (token.kind ≡ a_kind.Text n) × (slice_get ts.texts n ≡ Some text)
 
--- The reserved words that have a lower-case letter.
-abbrev pub reserved : List (List ℕ)
-reserved = codes "component" ∷ codes "export" ∷ codes "import" ∷ codes "api" ∷ codes "end" ∷ codes "trait" ∷ codes "object"
-    ∷ codes "extends" ∷ codes "excludes" ∷ codes "comprises" ∷ codes "opr" ∷ codes "self" ∷ codes "var" ∷ codes "do" ∷ codes "also"
-    ∷ codes "if" ∷ codes "then" ∷ codes "elif" ∷ codes "else" ∷ codes "while" ∷ codes "for" ∷ codes "seq" ∷ codes "case"
-    ∷ codes "typecase" ∷ codes "of" ∷ codes "try" ∷ codes "catch" ∷ codes "finally" ∷ codes "throw" ∷ codes "fn" ∷ codes "atomic"
-    ∷ codes "tryatomic" ∷ codes "spawn" ∷ codes "true" ∷ codes "false" ∷ codes "array" ∷ []
-
--- A component's name: a letter first, letters and digits, a lower-case letter among them unless it is one
--- capital alone, and no reserved word.
-pub record IsName (name : List ℕ) : Type 0 where
-  pub first : (c : ℕ) × (rest : List ℕ) × (name ≡ c ∷ rest) × IsTrue (is_letter c)
-  pub all : IsTrue (list_all is_letter_or_digit name)
-  pub lower : IsTrue (list_any is_lower name || (length name == 1))
-  pub free : IsTrue (not (list_any (bytes_eq name) reserved))
-
--- How a character of a text is written between its quotes.
-abbrev pub spelled : ℕ → List ℕ
-spelled c = if c == 10 then 92 ∷ 110 ∷ [] else if c == 9 then 92 ∷ 116 ∷ [] else if (c == 34) || (c == 92) then 92 ∷ c ∷ [] else c ∷ []
-
--- printable ASCII, a line feed or a tab
-abbrev pub can_stand : ℕ → Bool
-can_stand c = (nat_le 32 c && nat_le c 126) || (c == 10) || (c == 9)
-
--- The file is a component that prints this one text: a name, a text, and three forms round them.
-pub record Greets (file text : List ℕ) : Type 0 where
-  pub name : List ℕ
-  pub after_name : List ℕ
-  pub after_text : List ℕ
-  pub named : IsName name
-  pub written : IsTrue (list_all can_stand text)
-  pub head : Begins (codes " component_") file (name ++ after_name)
-  pub body : Begins (codes "_export_Executable_run ( ) : ( ) = println( \"") after_name (flat_map spelled text ++ after_text)
-  pub tail : Begins (codes "\" ) end ") after_text []
+-- The tokens are those of a component that prints this one text; the parenthesis of `println` directly follows it.
+pub record IsGreeting (ts : Tokens) (text : List ℕ) : Type 0 where
+  pub fits : FitsAll ts form ts.list
+  pub tight : IsTight ts 12
+  pub says : Says ts 13 text

@@ -1,6 +1,7 @@
 pub mod Words
 pub mod Greeting
 pub mod Reading
+pub mod Notes
 pub mod Reply
 pub mod Said
 pub mod Fronts

@@ -1,9 +1,11 @@
 -- How a call ends: its status, and what stands on both outputs. It restates the chapter "Statuses and notes" of docs/LANGUAGE.md.
 use Rattle.std.specs.Prelude.{◌≡◌, ℕ, ◌<◌, ◌≤◌, List, ◌⊎◌, length}
+use Rattle.fort_base.specs.declared.refusal.Rule.{Rule}
+use Rattle.fort_base.specs.declared.refusal.Place.{Place}
 use Rattle.fort_port.specs.Outside.{Holding, Held, Rose}
 use Rattle.fort_run.specs.Words.{IsRun, IsNoCommand}
-use Rattle.fort_run.specs.Greeting.{Greets}
-use Rattle.fort_run.specs.Reply.{Reply, Means, want_of_memory, file_limit}
+use Rattle.fort_run.specs.Notes.{want_of_memory}
+use Rattle.fort_run.specs.Reply.{Reply, Means, Prints, IsRefused, file_limit}
 use Rattle.fort_run.specs.Delivery.{Change, Delivers, TakesOrFails}
 
 -- The outside of a call: its words, what the shelf tells and its counts of faults, and both sinks.
@@ -33,10 +35,10 @@ pub record IsCalm (o : Outside) : Type 0 where
 -- Where no count rose and the shelf tells its bytes, the words and the file decide the status; want of memory aside.
 pub record IsComplete (o : Outside) (status : ℕ) : Type 0 where
   pub no_command : IsNoCommand o.words → (status ≡ 2) ⊎ (status ≡ 7)
-  pub prints : (name file text : List ℕ) → IsRun o.words name → o.holding name ≡ Held file → length file ≤ file_limit → Greets file text
+  pub completes : (name file text : List ℕ) → IsRun o.words name → o.holding name ≡ Held file → length file ≤ file_limit → Prints file text
       → (status ≡ 0) ⊎ (status ≡ 7)
-  pub refused : (name file : List ℕ) → IsRun o.words name → o.holding name ≡ Held file → length file ≤ file_limit
-      → ((text : List ℕ) → Greets file text → ⊥) → (status ≡ 1) ⊎ (status ≡ 7)
+  pub refused : (name file : List ℕ) (rule : Rule) (place : Place) → IsRun o.words name → o.holding name ≡ Held file → length file ≤ file_limit
+      → IsRefused file rule place → (status ≡ 1) ⊎ (status ≡ 7)
   pub too_large : (name file : List ℕ) → IsRun o.words name → o.holding name ≡ Held file → file_limit < length file
       → (status ≡ 8) ⊎ (status ≡ 7)
 

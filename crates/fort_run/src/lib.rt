@@ -4,6 +4,7 @@
 mod command;
 mod deliver;
 mod file;
+mod note;
 mod reader;
 mod reply;
 mod top;

@@ -1,48 +1,50 @@
-ghost use Rattle.std.specs.Prelude.{ℕ, List, ◌≡◌, MatchOption, IfOk, Some};
-ghost use Rattle.fort_run.specs.Greeting.{Greets};
-ghost use Rattle.fort_run.specs.Reading.{text_of};
+ghost use Rattle.std.specs.Prelude.{ℕ, List, ◌≡◌, ◌↔◌, Some, MatchOption, IfOk, IsTrue};
+ghost use Rattle.std.specs.Option.{option_copied};
+ghost use Rattle.fort_run.specs.Greeting.{IsTight, Says, IsGreeting};
 
 mod form;
-mod name;
-mod text;
 
-use form::after_form;
-use fort_base::{Bytes, Memory};
-use name::{is_free_name, name_len};
+use form::has_form;
+use fort_base::{Bytes, Gap, List, Memory};
+use fort_token::{Kind, Tokens};
 use std::alloc::Global;
-use text::text_up_to_quote;
 
-/// The text that the component prints, read from the front: a form, a name, a form, a text, a form.
-fn text_printed(alloc: Global, file: &[u8]) -> Result<Option<Bytes>, Memory>
-    ensures { IfOk result (λ found. found ≡ text_of file.now) }
+/// The place of the parenthesis that follows `println`, and of the text in it.
+const OPEN: usize = 12;
+
+const TEXT: usize = 13;
+
+/// Whether a token stands at a place and directly follows the one before it.
+fn is_tight(tokens: &Tokens, at: usize) -> bool
+    ensures { IsTrue result ↔ IsTight tokens.now at }
 {
-    let Some(named) = after_form(b" component_", file) else {
-        return Ok(None);
-    };
-    let end = name_len(named);
-    if !is_free_name(&named[..end]) {
-        return Ok(None);
-    }
-    let Some(written) = after_form(
-        b"_export_Executable_run ( ) : ( ) = println( \"",
-        &named[end..],
-    ) else {
-        return Ok(None);
-    };
-    let Some(found) = text_up_to_quote(alloc, written)? else {
-        return Ok(None);
-    };
-    match after_form(b"\" ) end ", found.rest) {
-        Some([]) => Ok(Some(found.text)),
-        _ => Ok(None),
+    match tokens.list.get(at) {
+        Some(token) => matches!(token.gap, Gap::Empty),
+        None => false,
     }
 }
 
-/// Reads a component file that prints one text, as the chapter "What is built" has it: answers the text, or `None` where the
-/// file is no such component. Its only error is want of memory.
-pub(crate) fn greeting(alloc: Global, file: &[u8]) -> Result<Option<Bytes>, Memory>
-    ensures read { IfOk result (λ found. MatchOption found ((text : List ℕ) → Greets file.now text → ⊥) (λ text. Greets file.now text)) }
-    ensures only { IfOk result (λ found. (text : List ℕ) → Greets file.now text → found ≡ Some text) }
+/// What the text at a place says, or `None` where no text stands there.
+fn text_said(tokens: &Tokens, at: usize) -> Option<&Bytes>
+    ensures { (text : List ℕ) → (option_copied result ≡ Some text) ↔ Says tokens.now at text }
 {
-    text_printed(alloc, file)
+    match tokens.list.get(at)?.kind {
+        Kind::Text(n) => tokens.texts.get(n as usize),
+        _ => None,
+    }
+}
+
+/// The text that the component prints, or `None` where the tokens are no such component's. Its only error is
+/// want of memory.
+pub(crate) fn greeting(alloc: Global, tokens: &Tokens) -> Result<Option<Bytes>, Memory>
+    ensures read { IfOk result (λ found. MatchOption found ((text : List ℕ) → IsGreeting tokens.now text → ⊥) (λ text. IsGreeting tokens.now text)) }
+    ensures only { IfOk result (λ found. (text : List ℕ) → IsGreeting tokens.now text → found ≡ Some text) }
+{
+    if !has_form(tokens) || !is_tight(tokens, OPEN) {
+        return Ok(None);
+    }
+    let Some(text) = text_said(tokens, TEXT) else {
+        return Ok(None);
+    };
+    Ok(Some(List::from_slice(alloc, text.as_slice())?))
 }

@@ -1,11 +1,16 @@
-ghost use Rattle.std.specs.Prelude.{◌≡◌, map, string_bytes, IfOk};
-ghost use Rattle.fort_run.specs.Reply.{Means};
-ghost use Rattle.fort_run.specs.Said.{said, Judges};
+ghost use Rattle.std.specs.Prelude.{ℕ, List as Seq, ◌≡◌, ◌≤◌, length, map, string_bytes, IfOk};
+ghost use Rattle.fort_lex.specs.Files.{HasTokens};
+ghost use Rattle.fort_run.specs.Notes.{refusal};
+ghost use Rattle.fort_run.specs.declared.reply.Answer.TheVariants as Answer;
+ghost use Rattle.fort_run.specs.Reply.{Means, file_limit};
+ghost use Rattle.fort_run.specs.Said.{said, Judges, RefusedBy};
 
 use crate::command::file_to_run;
 use crate::file::{Unread, read_file};
+use crate::note::refusal_note;
 use crate::reader::greeting;
-use fort_base::{Bytes, List, Memory};
+use fort_base::{Bytes, CheckFault, List, Memory, Place, Rule};
+use fort_lex::{Tokens, tokens};
 use fort_port::Shelf;
 use std::alloc::Global;
 
@@ -16,7 +21,11 @@ const READ_FAULT: &[u8] = b"read fault\n";
 
 const TOO_LARGE: &[u8] = b"file too large\n";
 
-const NOT_BUILT: &[u8] = b":1:1: rule 901 NotBuilt\n";
+/// The rule that refuses what isn't built yet.
+const NOT_BUILT: Rule = Rule(901);
+
+/// The place of a refusal of the whole file.
+const WHOLE_FILE: Place = Place { line: 1, column: 1 };
 
 /// What a call means to say.
 #[derive(Drop)]
@@ -89,19 +98,43 @@ pub(crate) fn reply_to<F: Shelf>(
     }
 }
 
-/// What is to say of the file of that name.
+/// What is to say of the file of that name: the rules of its tokens come first, then rule 901.
 fn judged(alloc: Global, name: Bytes, file: &Bytes) -> Result<Answer, Memory>
+    requires { length file.now ≤ file_limit }
     ensures { IfOk result (Judges name file.now) }
 {
-    match greeting(alloc, file.as_slice())? {
+    match tokens(alloc, file.as_slice()) {
+        Ok(tokens) => greeted(alloc, name, &tokens),
+        Err(fault) => refused_by(name, fault),
+    }
+}
+
+/// The refusal of a file by the fault of its check.
+fn refused_by(name: Bytes, fault: CheckFault) -> Result<Answer, Memory>
+    ensures { IfOk result (RefusedBy name fault) }
+{
+    match fault {
+        CheckFault::Refused(rule, place) => refused(name, rule, place),
+        CheckFault::Memory => Err(Memory),
+    }
+}
+
+/// What is to say of a file of these tokens.
+fn greeted(alloc: Global, name: Bytes, tokens: &Tokens) -> Result<Answer, Memory>
+    ensures { IfOk result (λ a. (file : Seq ℕ) → HasTokens file tokens.now → Judges name file a) }
+{
+    match greeting(alloc, tokens)? {
         Some(mut text) => {
             text.push(b'\n')?;
             Ok(Answer::Printed(text))
         }
-        None => {
-            let mut note = name;
-            note.push_slice(NOT_BUILT)?;
-            Ok(Answer::Refused(note))
-        }
+        None => refused(name, NOT_BUILT, WHOLE_FILE),
     }
+}
+
+/// The refusal of a file.
+fn refused(name: Bytes, rule: Rule, place: Place) -> Result<Answer, Memory>
+    ensures { IfOk result (λ a. a ≡ Answer.Refused (refusal name rule place)) }
+{
+    Ok(Answer::Refused(refusal_note(name, rule, place)?))
 }

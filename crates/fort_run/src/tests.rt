@@ -1,6 +1,8 @@
 use crate::fortress;
 use fort_base::{Bytes, List};
-use fort_port::{CalmShelf, CalmSink, FileShelf, IdleGate, MemoryShelf, MemorySink, Shelf, Sink, StreamSink};
+use fort_port::{
+    CalmShelf, CalmSink, FileShelf, IdleGate, MemoryShelf, MemorySink, Shelf, Sink, StreamSink,
+};
 use std::alloc::{AllocError, Global};
 use std::fs::{self, OpenOptions};
 use std::io::{self, Write};
@@ -36,11 +38,13 @@ fn texts(alloc: Global, words: &[&str]) -> Result<Vec<String>, AllocError> {
     Ok(all)
 }
 
-/// The file with spaces behind it, so many bytes in all.
-fn padded(alloc: Global, file: &str, len: usize) -> Result<Vec<u8>, AllocError> {
+/// The file with a text behind it over and over, up to so many bytes in all.
+fn padded(alloc: Global, file: &str, more: &str, len: usize) -> Result<Vec<u8>, AllocError> {
     let mut all = Vec::from_slice(alloc, file.as_bytes())?;
-    while all.len() < len {
-        all.push(b' ')?;
+    for _ in 0..len {
+        if all.len() < len {
+            all.extend_from_slice(more.as_bytes())?;
+        }
     }
     Ok(all)
 }
@@ -90,14 +94,15 @@ fn a_greeting_is_printed_and_every_other_file_is_not_built(rt: HostRuntime) -> R
     let escapes = b"component Ab export Executable run(): () =println( \"a\\tb\\n\\\"\\\\\") end";
     expect(&rt, &run, escapes, 5, 0, "a\tb\n\"\\\n", "")?;
     expect(&rt, &run, b"", 7, 1, "", NOT_BUILT)?;
+    let commented =
+        "(* T *) component T(*)\nexport Executable run (): (* () *) () =\nprintln(\n\"\u{e9}\") end";
+    expect(&rt, &run, commented.as_bytes(), 100, 0, "\u{e9}\n", "")?;
     for other in [
         "component if\nexport Executable\nrun(): () = println(\"\")\nend\n",
         "component AB\nexport Executable\nrun(): () = println(\"\")\nend\n",
         "component T\nexport Executable\nrun(): () = println (\"\")\nend\n",
-        "component T\nexport Executable\nrun(): () = println(\"\\q\")\nend\n",
         "component T\nexport Executable\nrun(): () = println(\"\")\nend x",
-        "component T\nexport Executable\nrun(): () = println(\"",
-        "\u{fffd}\u{0}\u{7f}",
+        "component T\nexport Executables\nrun(): () = println(\"\")\nend",
     ] {
         expect(&rt, &run, other.as_bytes(), 100, 1, "", NOT_BUILT)?;
     }
@@ -105,11 +110,49 @@ fn a_greeting_is_printed_and_every_other_file_is_not_built(rt: HostRuntime) -> R
 }
 
 #[test]
+fn a_broken_rule_of_the_tokens_is_named_with_its_place(rt: HostRuntime) -> Result<(), Fail> {
+    let run = ["run", "T.fss"];
+    for (file, note) in [
+        ("(* a (* b *)", "T.fss:1:1: rule 103 OpenComment\n"),
+        ("a\n \u{e9} 1x", "T.fss:2:5: rule 102 BadCharacter\n"),
+        ("a \"b\nc\"", "T.fss:1:3: rule 104 OpenText\n"),
+        ("\"\\q\"", "T.fss:1:2: rule 105 BadEscape\n"),
+        (
+            "\n9223372036854775808",
+            "T.fss:2:1: rule 106 NumberTooLarge\n",
+        ),
+    ] {
+        expect(&rt, &run, file.as_bytes(), 100, 1, "", note)?;
+    }
+    expect(
+        &rt,
+        &run,
+        b"a\n\xc3(",
+        100,
+        1,
+        "",
+        "T.fss:2:1: rule 101 NotUtf8\n",
+    )?;
+    let most = padded(rt.alloc(), "", "1 ", 524_288)?;
+    expect(&rt, &run, &most, 100_000, 1, "", NOT_BUILT)?;
+    let more = padded(rt.alloc(), "", "1 ", 524_290)?;
+    expect(
+        &rt,
+        &run,
+        &more,
+        100_000,
+        1,
+        "",
+        "T.fss:1:524289: rule 107 TooManyTokens\n",
+    )
+}
+
+#[test]
 fn a_file_may_have_as_many_bytes_as_the_limit(rt: HostRuntime) -> Result<(), Fail> {
     let run = ["run", "T.fss"];
-    let whole = padded(rt.alloc(), GREETING, 1_048_576)?;
+    let whole = padded(rt.alloc(), GREETING, " ", 1_048_576)?;
     expect(&rt, &run, &whole, 100_000, 0, "Hello, World!\n", "")?;
-    let longer = padded(rt.alloc(), GREETING, 1_048_577)?;
+    let longer = padded(rt.alloc(), GREETING, " ", 1_048_577)?;
     expect(&rt, &run, &longer, 100_000, 8, "", "file too large\n")
 }
 

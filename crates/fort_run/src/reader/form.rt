@@ -1,69 +1,60 @@
-ghost use Rattle.std.specs.Prelude.{◌≡◌};
-ghost use Rattle.std.specs.Option.{option_copied};
-ghost use Rattle.fort_run.specs.Greeting.{is_blank as blank};
-ghost use Rattle.fort_run.specs.Reading.{after_blanks as blanks_left, after_gap as gap_left, after_character as character_left, after_part as part_left, after_form as form_left};
+ghost use Rattle.std.specs.Prelude.{◌≡◌, ◌<◌, ◌↔◌, IsTrue, length};
+ghost use Rattle.fort_run.specs.Greeting.{Fits, FitsAll, Named, AnyName, form};
+ghost use Rattle.fort_run.specs.Reading.{slot};
 
-/// Whether a byte is a space or a line feed.
-fn is_blank(c: u8) -> bool
-    ensures { result ≡ blank c }
+use fort_ops::Op;
+use fort_token::{Kind, Mark, Reserved, Tokens};
+
+/// The number of tokens of the form.
+const LEN: usize = 16;
+
+/// Whether a token is this name.
+fn is_named(tokens: &Tokens, kind: Kind, word: &[u8]) -> bool
+    ensures { IsTrue result ↔ Fits tokens.now (Named word.now) kind }
 {
-    c == b' ' || c == b'\n'
+    match kind {
+        Kind::Name(name) => match tokens.names.get(name.0 as usize) {
+            Some(found) => found.as_slice() == word,
+            None => false,
+        },
+        _ => false,
+    }
 }
 
-/// What is left behind the blanks at the front.
-fn after_blanks(text: &[u8]) -> &[u8]
-    ensures { result.now ≡ blanks_left text.now }
+/// Whether a token is what the form wants at a place.
+fn fits(tokens: &Tokens, at: usize, kind: Kind) -> bool
+    requires { at < LEN }
+    ensures { IsTrue result ↔ Fits tokens.now (slot at) kind }
 {
-    for i in 0..text.len() {
-        if !is_blank(text[i]) {
-            return &text[i..];
+    match at {
+        0 => matches!(kind, Kind::Word(Reserved::Component)),
+        1 => matches!(kind, Kind::Name(_)),
+        2 => matches!(kind, Kind::Word(Reserved::Export)),
+        3 => is_named(tokens, kind, b"Executable"),
+        4 => is_named(tokens, kind, b"run"),
+        5 | 8 | 12 => matches!(kind, Kind::Mark(Mark::OpenParen)),
+        6 | 9 | 14 => matches!(kind, Kind::Mark(Mark::CloseParen)),
+        7 => matches!(kind, Kind::Op(Op::Range)),
+        10 => matches!(kind, Kind::Op(Op::Eq)),
+        11 => is_named(tokens, kind, b"println"),
+        13 => matches!(kind, Kind::Text(_)),
+        15 => matches!(kind, Kind::Word(Reserved::End)),
+        _ => unreachable!(),
+    }
+}
+
+/// Whether the tokens are those of the form, one for each place.
+pub fn has_form(tokens: &Tokens) -> bool
+    ensures { IsTrue result ↔ FitsAll tokens.now form tokens.now.list }
+{
+    let list = tokens.list.as_slice();
+    if list.len() != LEN {
+        return false;
+    }
+    for at in 0..LEN {
+        if !fits(tokens, at, list[at].kind) {
+            return false;
         }
     }
-    &text[text.len()..]
-}
-
-/// What is left behind one blank or more, or `None` where none stands at the front.
-fn after_gap(text: &[u8]) -> Option<&[u8]>
-    ensures { option_copied result ≡ gap_left text.now }
-{
-    if text.is_empty() || !is_blank(text[0]) {
-        return None;
-    }
-    Some(after_blanks(&text[1..]))
-}
-
-/// What is left behind one character, or `None` where it doesn't stand at the front.
-fn after_character(character: u8, text: &[u8]) -> Option<&[u8]>
-    ensures { option_copied result ≡ character_left character text.now }
-{
-    if text.is_empty() || text[0] != character {
-        return None;
-    }
-    Some(&text[1..])
-}
-
-/// What is left behind what one character of a form stands for: a space for blanks or none, a low line for one
-/// blank or more, every other one for itself.
-fn after_part(character: u8, text: &[u8]) -> Option<&[u8]>
-    ensures { option_copied result ≡ part_left character text.now }
-{
-    match character {
-        b' ' => Some(after_blanks(text)),
-        b'_' => after_gap(text),
-        _ => after_character(character, text),
-    }
-}
-
-/// What is left behind what a form stands for, or `None` where the text doesn't begin so.
-pub fn after_form<'a>(form: &[u8], text: &'a [u8]) -> Option<&'a [u8]>
-    ensures { option_copied result ≡ form_left form.now text.now }
-{
-    let mut rest = text;
-    for i in 0..form.len() {
-        let Some(after) = after_part(form[i], rest) else {
-            return None;
-        };
-        rest = after;
-    }
-    Some(rest)
+    true
 }

@@ -1,12 +1,15 @@
-use Rattle.std.proofs.Common.{ap}
-use Rattle.fort_run.specs.Said.{Runs, Refuses}
-use Rattle.fort_run.specs.declared.reply.Answer.TheVariants.{Printed, Refused}
+use Rattle.std.proofs.Common.{Err, subst}
+use Rattle.std.proofs.lemmas.Result.{IfOk-weaker}
+use Rattle.fort_lex.specs.Files.{Answers}
+use Rattle.fort_run.proofs.Refused.{judged_refused}
 use Rattle.fort_run.proofs.reply.judged.Goals as goal
 
-pub returns-in_ok-push-in-Some : goal.returns-in_ok-push-in-Some
-returns-in_ok-push-in-Some c =
-    Runs c.in-Some.text (rw (c.in-Some.is, c.as_slice.ensures) at c.in_ok-text.ensures.read) (ap Printed c.in_ok-push-in-Some.ensures.ok)
+pub returns-in-Ok : goal.returns-in-Ok
+returns-in-Ok c =
+    IfOk-weaker c.greeted.result _ _ (λ a judges. judges c.args.file.now (rw c.as_slice.ensures at c.in-Ok.ensures)) c.greeted.ensures
 
-pub returns-in_ok-push_slice-in-None : goal.returns-in_ok-push_slice-in-None
-returns-in_ok-push_slice-in-None c =
-    Refuses (rw (c.in-None.is, c.as_slice.ensures) at c.in_ok-text.ensures.read) (ap Refused c.in_ok-push_slice-in-None.ensures.ok)
+pub returns-in-Err : goal.returns-in-Err
+returns-in-Err c =
+    IfOk-weaker c.refused_by.result _ _
+    (λ a e. judged_refused c.args.name c.args.file.now c.in-Err.fault a (subst (λ x. Answers x (Err c.in-Err.fault)) c.as_slice.ensures c.in-Err.ensures) e)
+    c.refused_by.ensures
