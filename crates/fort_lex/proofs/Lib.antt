@@ -2,3 +2,4 @@ pub mod MeaningLaws
 pub mod NameLaws
 pub mod FileLaws
 pub mod ReadLaws
+pub mod Uniqueness

@@ -1,5 +1,5 @@
 -- A text that is read up to some place.
-use Rattle.std.proofs.Common.{◌≡◌, ℕ, zero, suc, ◌+◌, ◌-◌, ◌<◌, ◌≤◌, List, [], ◌∷◌, ◌++◌, length, take, drop, refl, sym, ap, subst, ◌∙◌, arith, length-append, length-drop, length-take}
+use Rattle.std.proofs.Common.{◌≡◌, ℕ, zero, suc, ◌+◌, ◌-◌, ◌<◌, ◌≤◌, ◌^◌, Bool, true, false, ◌&&◌, List, [], ◌∷◌, ◌++◌, length, take, drop, refl, sym, ap, subst, ◌∙◌, arith, length-append, length-drop, length-take}
 use Rattle.std.proofs.lemmas.List.{drop-drop}
 use Rattle.fort_scan.specs.Chain.{Chain}
 use Rattle.fort_scan.specs.Gaps.{Gap, mark, body}
@@ -7,9 +7,11 @@ use Rattle.fort_scan.specs.Tokens.{Piece, IsToken, with_mark}
 use Rattle.fort_scan.specs.declared.word.Shape.{Shape}
 use Rattle.fort_scan.specs.Steps.{piece_at, IsNext}
 use Rattle.fort_scan.proofs.Chains.{chain_more}
-use Rattle.fort_scan.proofs.Theorem.{pending, marked_last, pending_after}
+use Rattle.fort_scan.proofs.Theorem.{pending, marked_last, pending_after, length_marked}
 use Rattle.fort_lex.specs.declared.builder.Builder.{Builder}
+use Rattle.std.proofs.Math.Utf8.{scalar, scalars}
 use Rattle.fort_lex.specs.Building.{Holds}
+use Rattle.fort_lex.proofs.FileLaws.{lengths}
 use Rattle.fort_lex.proofs.FileLaws.{lengths}
 
 -- The text is read up to `at`: the tokens there are what the builder holds, and of the next gap stands from `from` on what is its mark.
@@ -62,3 +64,37 @@ read_more text from at gap word s old new l m r i add =
       held = subst (λ qs. Holds qs new) (ap (λ (q : Piece). with_mark (mark text) r.ps ++ q ∷ []) piece ∙ sym (marked_last (mark text) r.ps p)) (add (with_mark (mark text) r.ps) r.held);
       waits = ap (λ n. take n (drop (at + gap + word) text)) none ∙ sym (pending_after (mark text) r.ps p)
     }
+
+-- as many pieces as tokens
+pub count_read : (text : List ℕ) (from at : ℕ) (b : Builder) (r : IsRead text from at b) → length r.ps ≡ length b.list
+count_read text from at b r = sym (length_marked (mark text) r.ps) ∙ sym (lengths (with_mark (mark text) r.ps) b r.held).0
+
+pub few_read : (text : List ℕ) (from at : ℕ) (b : Builder) → IsRead text from at b → length b.list ≤ 262144 → (length b.texts < 2 ^ 31) × (length b.names.names < 2 ^ 31)
+few_read text from at b r l =
+    let s = lengths (with_mark (mark text) r.ps) b r.held in
+    let x = s.0 in let y = s.1 in let z = s.2 in (omega arith, omega arith)
+
+pub begins_read : (text : List ℕ) (b : Builder) → Holds [] b → (n : ℕ) → drop n text ≡ body text → take n text ≡ mark text → IsRead text 0 n b
+begins_read text b h n e f = record {
+    ps = [];
+    chain = sym e;
+    held = h;
+    waits = (let same : n - 0 ≡ n = omega arith in ap (λ m. take m text) same ∙ f)
+  }
+
+and_both : (p q : Bool) → (p && q) ≡ true → (p ≡ true) × (q ≡ true)
+and_both true q h = (refl, h)
+and_both false q h = absurd cc
+
+scalars_drop : (n : ℕ) (xs : List ℕ) → scalars xs ≡ true → scalars (drop n xs) ≡ true
+scalars_drop zero xs h = h
+scalars_drop (suc n) [] h = h
+scalars_drop (suc n) (x ∷ xs) h = scalars_drop n xs (and_both (scalar x) (scalars xs) h).1
+
+scalars_take : (n : ℕ) (xs : List ℕ) → scalars xs ≡ true → scalars (take n xs) ≡ true
+scalars_take zero xs h = refl
+scalars_take (suc n) [] h = refl
+scalars_take (suc n) (x ∷ xs) h = let b = and_both (scalar x) (scalars xs) h in let f = b.0 in rw f (scalars_take n xs b.1)
+
+pub scalars_part : (n m : ℕ) (xs : List ℕ) → scalars xs ≡ true → scalars (take n (drop m xs)) ≡ true
+scalars_part n m xs h = scalars_take n (drop m xs) (scalars_drop m xs h)

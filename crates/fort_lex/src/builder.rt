@@ -81,6 +81,7 @@ impl<'a> Builder<'a> {
         requires scalars { scalars word.now ≡ true }
         requires shape { shape ≡ shape_of word.now }
         ensures held { OnOk result ((ps : Seq Piece) → Holds ps self.old → Holds (ps ++ record { gap = gap.now; word = word.now } ∷ []) self.new) }
+        ensures one { OnOk result (length self.new.list ≡ length self.old.list + 1) }
         ensures begun { OnOk result (0 < self.new.place.column) }
         ensures small { OnOk result (self.new.place.line + self.new.place.column ≤ self.old.place.line + self.old.place.column + length gap.now + length word.now) }
     {
