@@ -1,5 +1,5 @@
 -- Each file has a list of tokens or breaks a rule.
-use Rattle.std.proofs.Common.{◌≡◌, ◌⊎◌, ℕ, zero, suc, ◌≤◌, ◌<◌, Bool, true, false, cond, ◌||◌, List, [], ◌∷◌, ◌++◌, length, map, take, Some, refl, sym, ap, subst, ◌∙◌, arith}
+use Rattle.std.proofs.Common.{◌≡◌, ◌⊎◌, ℕ, zero, suc, ◌≤◌, ◌<◌, Bool, true, false, cond, ◌||◌, List, [], ◌∷◌, ◌++◌, length, map, take, Some, refl, ap, subst, arith}
 use mathlib.Core.Logic.{inl, inr}
 use Rattle.std.specs.Prelude.{slice_get, encode_utf8_all}
 use Rattle.std.specs.Str.{chars, IsUtf8, is_utf8, IsValidUpTo}
@@ -24,7 +24,7 @@ use Rattle.fort_lex.specs.declared.token.Kind.{Kind}
 use Rattle.fort_lex.specs.declared.token.Kind.TheVariants as kind
 use Rattle.fort_lex.specs.declared.token.Token.{Token}
 use Rattle.fort_lex.specs.declared.token.Tokens.{Tokens}
-use Rattle.fort_lex.specs.Meanings.{meaning_of, is_numbered, is_numbered_shape, has_number, KindFor, MeansShape, Means}
+use Rattle.fort_lex.specs.Meanings.{meaning_of, is_numbered, is_numbered_shape, has_number, KindFor, MeansShape}
 use Rattle.fort_lex.specs.Files.{without, once, numbered_in, names_of, texts_of, texts_after, AreTokens, StandsFor, HasTokens, BreaksRule, not_utf8, too_many, fault}
 use Rattle.fort_lex.proofs.NameLaws.{or_true}
 
