@@ -3,3 +3,4 @@ pub mod NameLaws
 pub mod FileLaws
 pub mod ReadLaws
 pub mod Uniqueness
+pub mod Exists
