@@ -90,9 +90,13 @@ means_keep words more texts w shape.Symbol k h = kind_keep words more w (meaning
 are_keep : (words more : List (List ℕ)) (place : Place) (texts : ℕ) (ps : List Piece) (ts : List Token) → AreTokens words place texts ps ts → AreTokens (words ++ more) place texts ps ts
 are_keep words more place texts [] ts h = h
 are_keep words more place texts (p ∷ ps) ts h =
-    let t = h.3 in
-    (h.0, h.1, h.2, record { kind = means_keep words more texts p.word (shape_of p.word) h.0.kind t.kind; gap = t.gap; place_is = t.place_is },
-      are_keep words more (place_after place (p.gap ++ p.word)) (texts_after texts p.word) ps h.1 h.4)
+    let t = h.3 in (
+      h.0,
+      h.1,
+      h.2,
+      record { kind = means_keep words more texts p.word (shape_of p.word) h.0.kind t.kind; gap = t.gap; place_is = t.place_is },
+      are_keep words more (place_after place (p.gap ++ p.word)) (texts_after texts p.word) ps h.1 h.4,
+    )
 
 are_grow : (words : List (List ℕ)) (w : List ℕ) (b c : Bool) (place : Place) (texts : ℕ) (ps : List Piece) (ts : List Token) → AreTokens words place texts ps ts
     → AreTokens (cond b (cond c words (words ++ w ∷ [])) words) place texts ps ts
@@ -143,7 +147,7 @@ holds_last ps old mid new gap w k h a list texts names place =
     let is : IsTokenOf words (end_of the_start ps) (count 0 ps) p t = record {
       kind = subst (λ n. Means words n w k) texts_before (a.means (names_of ps) h.names);
       gap = refl;
-      place_is = ap (λ q. place_after q gap) at_end
+      place_is = ap (λ q. place_after q gap) at_end;
     } in
     let grown = are_grow (names_of ps) w (has_number w) (among (names_of ps) w) the_start 0 ps old.list h.list in
     let all = are_last words the_start 0 ps old.list p t grown is in
@@ -152,7 +156,7 @@ holds_last ps old mid new gap w k h a list texts names place =
       list = subst (λ ws. AreTokens ws the_start 0 (ps ++ p ∷ []) new.list) (sym words_are) (subst (AreTokens words the_start 0 (ps ++ p ∷ [])) (sym list_is) all);
       names = subst (λ ws. HoldsNames ws new.names) (sym words_are) (subst (HoldsNames words) (sym names) (a.names (names_of ps) h.names));
       texts = texts ∙ a.texts ∙ ap (λ u. u ++ cond (is_text_word w) (encode_utf8_all (said w) ∷ []) []) h.texts ∙ sym (texts_last ps p);
-      place = place ∙ ap (λ q. place_after (place_after q gap) w) at_end ∙ sym (place_append gap w (end_of the_start ps)) ∙ sym (end_last the_start ps p)
+      place = place ∙ ap (λ q. place_after (place_after q gap) w) at_end ∙ sym (place_append gap w (end_of the_start ps)) ∙ sym (end_last the_start ps p);
     }
 
 -- ---- lengths

@@ -128,5 +128,5 @@ new_held words old new w k h e a names known =
     record {
       names = names ∙ names_grow words w old.names (is_numbered (meaning_of w)) n h.names;
       sound = λ v l i. sound_by words old w v k l h is (bytes_eq w v) refl (sym (known v) ∙ i);
-      complete = λ v i. complete_by words old w v k h n (bytes_eq w v) refl (sym (known v) ∙ i)
+      complete = λ v i. complete_by words old w v k h n (bytes_eq w v) refl (sym (known v) ∙ i);
     }

@@ -56,13 +56,13 @@ read_more text from at gap word s old new l m r i add =
     let chain = subst (Chain IsToken (r.ps ++ p ∷ []) (body text)) far (chain_more IsToken r.ps p (body text) (drop at text) (drop (gap + word) (drop at text)) r.chain i.is) in
     let gap_text = gap_is text from at gap l m ∙ ap (λ t. t ++ take gap (drop at text)) r.waits in
     let piece : record { gap = take (at + gap - from) (drop from text); word = take (at + gap + word - (at + gap)) (drop (at + gap) text) } ≡ record { gap = pending (mark text) r.ps ++ p.gap; word = p.word } =
-        ap (λ (t : List ℕ × List ℕ). record { gap = t.0; word = t.1 }) (ap (λ (g : List ℕ). (g, take (at + gap + word - (at + gap)) (drop (at + gap) text))) gap_text ∙ ap (λ (w : List ℕ). (pending (mark text) r.ps ++ p.gap, w)) (word_is text at gap word)) in
+    ap (λ (t : List ℕ × List ℕ). record { gap = t.0; word = t.1 }) (ap (λ (g : List ℕ). (g, take (at + gap + word - (at + gap)) (drop (at + gap) text))) gap_text ∙ ap (λ (w : List ℕ). (pending (mark text) r.ps ++ p.gap, w)) (word_is text at gap word)) in
     let none : at + gap + word - (at + gap + word) ≡ 0 = omega arith in
     record {
       ps = r.ps ++ p ∷ [];
       chain = chain;
       held = subst (λ qs. Holds qs new) (ap (λ (q : Piece). with_mark (mark text) r.ps ++ q ∷ []) piece ∙ sym (marked_last (mark text) r.ps p)) (add (with_mark (mark text) r.ps) r.held);
-      waits = ap (λ n. take n (drop (at + gap + word) text)) none ∙ sym (pending_after (mark text) r.ps p)
+      waits = ap (λ n. take n (drop (at + gap + word) text)) none ∙ sym (pending_after (mark text) r.ps p);
     }
 
 -- as many pieces as tokens
@@ -76,11 +76,11 @@ few_read text from at b r l =
 
 pub begins_read : (text : List ℕ) (b : Builder) → Holds [] b → (n : ℕ) → drop n text ≡ body text → take n text ≡ mark text → IsRead text 0 n b
 begins_read text b h n e f = record {
-    ps = [];
-    chain = sym e;
-    held = h;
-    waits = (let same : n - 0 ≡ n = omega arith in ap (λ m. take m text) same ∙ f)
-  }
+  ps = [];
+  chain = sym e;
+  held = h;
+  waits = (let same : n - 0 ≡ n = omega arith in ap (λ m. take m text) same ∙ f);
+}
 
 and_both : (p q : Bool) → (p && q) ≡ true → (p ≡ true) × (q ≡ true)
 and_both true q h = (refl, h)

@@ -60,7 +60,7 @@ word_ascii word.Prod = codes "PROD"
 
 -- the Unicode spelling of a reserved word that has one
 abbrev pub word_sign : Reserved → Option ℕ
-word_sign word.Sum = Some 8721   -- ∑
+word_sign word.Sum = Some 8721  -- ∑
 word_sign word.Prod = Some 8719  -- ∏
 word_sign _ = None
 
@@ -78,8 +78,8 @@ reserved_named w = reserved_in WORDS w
 
 -- the ASCII spelling of another symbol
 abbrev pub mark_ascii : Mark → List ℕ
-mark_ascii a_mark.OpenStatic = 91 ∷ 92 ∷ []   -- [\
-mark_ascii a_mark.CloseStatic = 92 ∷ 93 ∷ []   -- \]
+mark_ascii a_mark.OpenStatic = 91 ∷ 92 ∷ []  -- [\
+mark_ascii a_mark.CloseStatic = 92 ∷ 93 ∷ []  -- \]
 mark_ascii a_mark.LeftArrow = codes "<-"
 mark_ascii a_mark.RightArrow = codes "->"
 mark_ascii a_mark.DoubleArrow = codes "=>"
@@ -98,11 +98,11 @@ mark_ascii a_mark.Dot = codes "."
 
 -- the Unicode spelling of another symbol that has one
 abbrev pub mark_sign : Mark → Option ℕ
-mark_sign a_mark.OpenStatic = Some 10214   -- ⟦
-mark_sign a_mark.CloseStatic = Some 10215   -- ⟧
-mark_sign a_mark.LeftArrow = Some 8592   -- ←
-mark_sign a_mark.RightArrow = Some 8594   -- →
-mark_sign a_mark.DoubleArrow = Some 8658   -- ⇒
+mark_sign a_mark.OpenStatic = Some 10214  -- ⟦
+mark_sign a_mark.CloseStatic = Some 10215  -- ⟧
+mark_sign a_mark.LeftArrow = Some 8592  -- ←
+mark_sign a_mark.RightArrow = Some 8594  -- →
+mark_sign a_mark.DoubleArrow = Some 8658  -- ⇒
 mark_sign _ = None
 
 abbrev pub spells_mark : Mark → List ℕ → Bool
@@ -125,6 +125,10 @@ operator_in (p ∷ ps) w = cond (same p.1 w) (Some p.0) (operator_in ps w)
 -- the operator that the characters spell
 unfoldable pub operator_named : List ℕ → Option Op
 operator_named w = operator_in spellings w
+
+-- a small ASCII letter
+abbrev pub is_small : ℕ → Bool
+is_small c = nat_le 97 c && nat_le c 122
 
 -- an ASCII capital
 abbrev pub is_capital : ℕ → Bool

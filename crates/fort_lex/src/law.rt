@@ -8,5 +8,4 @@ ghost use Rattle.fort_lex.specs.Files.{HasTokens, BreaksRule};
 pub fn one_answer(_source: &[u8])
     ensures once { (ts us : Tokens) → HasTokens _source.now ts → HasTokens _source.now us → ts ≡ us }
     ensures apart { (ts : Tokens) (r : Rule) (place : Place) → HasTokens _source.now ts → BreaksRule _source.now r place → ⊥ }
-{
-}
+{}

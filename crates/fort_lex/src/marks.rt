@@ -63,6 +63,7 @@ pub const MARKS: [Mark; 17] = [
     Mark::Dot,
 ];
 
+#[inline(always)]
 fn ascii(mark: Mark) -> &'static str
     ensures { result.now ≡ mark_ascii mark }
 {
@@ -87,6 +88,7 @@ fn ascii(mark: Mark) -> &'static str
     }
 }
 
+#[inline(always)]
 fn sign(mark: Mark) -> Option<char>
     ensures { result ≡ mark_sign mark }
 {
@@ -100,6 +102,7 @@ fn sign(mark: Mark) -> Option<char>
     }
 }
 
+#[inline(always)]
 fn spells(mark: Mark, text: &[char]) -> bool
     ensures { result ≡ spells_mark mark text.now }
 {

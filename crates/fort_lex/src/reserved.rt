@@ -129,6 +129,7 @@ pub const WORDS: [Reserved; 39] = [
     Reserved::Prod,
 ];
 
+#[inline(always)]
 fn ascii(word: Reserved) -> &'static str
     ensures { result.now ≡ word_ascii word }
 {
@@ -175,6 +176,7 @@ fn ascii(word: Reserved) -> &'static str
     }
 }
 
+#[inline(always)]
 fn sign(word: Reserved) -> Option<char>
     ensures { result ≡ word_sign word }
 {
@@ -185,6 +187,7 @@ fn sign(word: Reserved) -> Option<char>
     }
 }
 
+#[inline(always)]
 fn spells(word: Reserved, text: &[char]) -> bool
     ensures { result ≡ spells_word word text.now }
 {

@@ -22,27 +22,35 @@ and_both false q h = absurd cc
 pub no_name_34 : begins_name 34 ≡ false
 unfolding unicode_ident
 no_name_34 = refl
+
 no_name_60 : begins_name 60 ≡ false
 unfolding unicode_ident
 no_name_60 = refl
+
 no_name_61 : begins_name 61 ≡ false
 unfolding unicode_ident
 no_name_61 = refl
+
 no_name_62 : begins_name 62 ≡ false
 unfolding unicode_ident
 no_name_62 = refl
+
 no_name_43 : begins_name 43 ≡ false
 unfolding unicode_ident
 no_name_43 = refl
+
 no_name_45 : begins_name 45 ≡ false
 unfolding unicode_ident
 no_name_45 = refl
+
 no_name_58 : begins_name 58 ≡ false
 unfolding unicode_ident
 no_name_58 = refl
+
 no_name_91 : begins_name 91 ≡ false
 unfolding unicode_ident
 no_name_91 = refl
+
 no_name_92 : begins_name 92 ≡ false
 unfolding unicode_ident
 no_name_92 = refl
@@ -171,6 +179,6 @@ run_stands c xs p spelled o =
       apart = o;
       longest = record {
         fits = spelled (take (prefix_len p xs) xs) ∙ front_passes p xs;
-        longest = λ v more f e. run_by c xs p v more spelled f (whole ∙ e)
-      }
+        longest = λ v more f e. run_by c xs p v more spelled f (whole ∙ e);
+      };
     }

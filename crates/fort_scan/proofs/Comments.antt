@@ -66,9 +66,9 @@ inside_read {a} depth rest (inner x y e h k) =
     let first = inside_read (depth + 1) (y ++ rest) h in
     let second = inside_read depth rest k in
     rw e (ap (λ t. option_map suc (option_map suc t))
-      (ap (comment_end (depth + 1) Other) (append_assoc x y rest) ∙ first ∙ ap (add (length x)) (after_more depth (y ++ rest) ∙ second) ∙ add_add (length x) (length y) (after depth rest))
-      ∙ ap (option_map suc) (add_suc (length x + length y) (after depth rest)) ∙ add_suc (suc (length x + length y)) (after depth rest)
-      ∙ ap (λ n. add (suc (suc n)) (after depth rest)) (sym (length-append x y)))
+    (ap (comment_end (depth + 1) Other) (append_assoc x y rest) ∙ first ∙ ap (add (length x)) (after_more depth (y ++ rest) ∙ second) ∙ add_add (length x) (length y) (after depth rest))
+    ∙ ap (option_map suc) (add_suc (length x + length y) (after depth rest)) ∙ add_suc (suc (length x + length y)) (after depth rest)
+    ∙ ap (λ n. add (suc (suc n)) (after depth rest)) (sym (length-append x y)))
 
 -- ---- what is read is a comment's inside
 
@@ -81,9 +81,13 @@ plain_front : (depth c e : ℕ) (a x y : List ℕ) → e ∷ a ≡ x ++ y → In
     → opens (c ∷ e ∷ a) ≡ false → closes (c ∷ e ∷ a) ≡ false → Closed (suc depth) (c ∷ e ∷ a)
 plain_front depth c e a [] y w i r o k = let s = inside_some i in absurd (omega arith)
 plain_front depth c e a (f ∷ x) y w i r o k =
-    let same : e ≡ f = cc in
-    (c ∷ f ∷ x, y, ap (λ t. c ∷ t) w,
-      plain c (f ∷ x) refl (subst (λ t. opens (c ∷ t ∷ x) ≡ false) same o) (subst (λ t. closes (c ∷ t ∷ x) ≡ false) same k) i, r)
+    let same : e ≡ f = cc in (
+      c ∷ f ∷ x,
+      y,
+      ap (λ t. c ∷ t) w,
+      plain c (f ∷ x) refl (subst (λ t. opens (c ∷ t ∷ x) ≡ false) same o) (subst (λ t. closes (c ∷ t ∷ x) ≡ false) same k) i,
+      r,
+    )
 
 -- behind a character that doesn't open or close anything
 closed_plain : (depth c : ℕ) (e : ℕ) (a : List ℕ) → opens (c ∷ e ∷ a) ≡ false → closes (c ∷ e ∷ a) ≡ false → Closed depth (e ∷ a) → Closed depth (c ∷ e ∷ a)
@@ -173,10 +177,11 @@ mark_step cs o k depth c e m false false r s a b x y h =
 found : (text : List ℕ) → AtOther text × AtMark text
 found [] = (λ depth n h. absurd cc, λ depth c n h. absurd cc)
 found (e ∷ cs) =
-    let at = found cs in
-    (λ depth n h. let s = suc_some (comment_end depth (mark_of e) cs) n h in behind e cs s.0 n s.2 (λ a k. k) (at.1 depth e s.0 s.1),
-     λ depth c n h. let s = suc_some (chosen (c == 40) (c == 42) (e == 42) (e == 41) depth e cs) n (sym (chosen_is depth c e cs (c == 40) (c == 42) (e == 42) (e == 41) refl refl refl refl) ∙ h) in
-       behind e cs s.0 n s.2 (λ a k. k) (mark_step cs at.0 at.1 depth c e s.0 (c == 40) (c == 42) (e == 42) (e == 41) refl refl refl refl s.1))
+    let at = found cs in (
+      λ depth n h. let s = suc_some (comment_end depth (mark_of e) cs) n h in behind e cs s.0 n s.2 (λ a k. k) (at.1 depth e s.0 s.1),
+      λ depth c n h. let s = suc_some (chosen (c == 40) (c == 42) (e == 42) (e == 41) depth e cs) n (sym (chosen_is depth c e cs (c == 40) (c == 42) (e == 42) (e == 41) refl refl refl refl) ∙ h) in
+          behind e cs s.0 n s.2 (λ a k. k) (mark_step cs at.0 at.1 depth c e s.0 (c == 40) (c == 42) (e == 42) (e == 41) refl refl refl refl s.1),
+    )
 
 -- where the text that follows a comment's opening is read to n, a comment ends there
 pub comment_found : (text : List ℕ) (n : ℕ) → comment_end 0 Other text ≡ Some n → Front text n Inside

@@ -103,7 +103,7 @@ line_is xs =
     let n = prefix_len is_no_line_feed xs in
     let e : suc (suc (suc n)) ≡ 3 + n = omega arith in
     subst (λ m. Part (take m (40 ∷ 42 ∷ 41 ∷ xs)) (40 ∷ 42 ∷ 41 ∷ xs) (drop m (40 ∷ 42 ∷ 41 ∷ xs))) e
-      (line (take n xs) refl (ap (λ t. 40 ∷ 42 ∷ 41 ∷ t) (sym (take-append-drop n xs))) (front_passes is_no_line_feed xs) (line_stops xs))
+    (line (take n xs) refl (ap (λ t. 40 ∷ 42 ∷ 41 ∷ t) (sym (take-append-drop n xs))) (front_passes is_no_line_feed xs) (line_stops xs))
 
 begins_front : (a b : List ℕ) → 0 < length a → (get_or (a ++ b) 0 0 == 41) ≡ false → begins_with 41 a ≡ false
 begins_front [] b l h = absurd (omega arith)
@@ -118,7 +118,7 @@ comment_is ds (Some n) e t =
     let front : take n ds ≡ f.front = ap (take n) f.whole ∙ take_at f.front f.rest n f.size in
     let rest : drop n ds ≡ f.rest = ap (drop n) f.whole ∙ drop_at f.front f.rest n f.size in
     subst (λ m. Part (take m (40 ∷ 42 ∷ ds)) (40 ∷ 42 ∷ ds) (drop m (40 ∷ 42 ∷ ds))) up
-      (comment f.front (ap (λ z. 40 ∷ 42 ∷ z) front) (ap (λ z. 40 ∷ 42 ∷ z) (f.whole ∙ ap (λ z. f.front ++ z) (sym rest))) b f.is)
+    (comment f.front (ap (λ z. 40 ∷ 42 ∷ z) front) (ap (λ z. 40 ∷ 42 ∷ z) (f.whole ∙ ap (λ z. f.front ++ z) (sym rest))) b f.is)
 comment_is ds None e t =
     let never : (a after : List ℕ) → ds ≡ a ++ after → Inside a → ⊥ = (λ a after w i. let l = comment_length after i in let m = ap (comment_end 0 Other) w in absurd cc) in
     ((ds, refl, begins_41 ds ∙ t, never), λ a after p. unclosed ds a after t never p)
@@ -138,7 +138,7 @@ open_is ds false e = comment_is ds (comment_end 0 Other ds) refl e
 
 abbrev else_part : Bool → List ℕ → PartEnd
 else_part b cs = cond b (cond (get_or cs 1 0 == 41) (end.Part (3 + prefix_len is_no_line_feed (drop 2 cs)))
-        (option_map_or (λ n. end.Part (2 + n)) (comment_end 0 Other (drop 1 cs)) end.Unclosed)) end.Stop
+    (option_map_or (λ n. end.Part (2 + n)) (comment_end 0 Other (drop 1 cs)) end.Unclosed)) end.Stop
 
 and_both : (p q : Bool) → (p && q) ≡ true → (p ≡ true) × (q ≡ true)
 and_both true q h = (refl, h)
@@ -153,7 +153,7 @@ paren_is c (d ∷ ds) true w e =
     let is : c ≡ 40 = grind (arith, nat_tests) in
     let js : d ≡ 42 = grind (arith, nat_tests) in
     subst (λ u. PartIs (u ∷ d ∷ ds) (else_part true (d ∷ ds))) (sym is)
-      (subst (λ u. PartIs (40 ∷ u ∷ ds) (else_part true (u ∷ ds))) (sym js) (open_is ds (get_or ds 0 0 == 41) refl))
+    (subst (λ u. PartIs (40 ∷ u ∷ ds) (else_part true (u ∷ ds))) (sym js) (open_is ds (get_or ds 0 0 == 41) refl))
 
 white_is : (c : ℕ) (cs : List ℕ) (b : Bool) → is_white c ≡ b → PartIs (c ∷ cs) (cond b (end.Part 1) (else_part ((c == 40) && (get_or cs 0 0 == 42)) cs))
 white_is c cs true w = white c refl refl w

@@ -87,7 +87,6 @@ larger_by : (m n : ℕ) → (m < n) ⊎ (n ≤ m) → 0 < m → (max m n ≡ m) 
 larger_by m n (inr h) k = inl (omega arith)
 larger_by m n (inl h) k = inr (omega arith, omega arith)
 
-
 -- a symbol of the table that stands there, of that length
 pub record Symbol (table : List (List ℕ)) (text : List ℕ) (n : ℕ) : Type 0 where
   pub word : List ℕ

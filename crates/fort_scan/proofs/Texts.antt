@@ -99,7 +99,7 @@ control_found n b (x ∷ xs) [] back c e h =
     record { r = BAD_CHARACTER; m = n; is = rw (ap is_control is ∙ h) refl; early = omega arith }
 control_found n b (x ∷ xs) (d ∷ front) back c e h =
     step_found n x b xs (length front) (is_control x) (((x == 92) && not b) && not (is_escape xs)) refl refl
-      (control_found (n + 1) ((x == 92) && not b) xs front back c (cc) h)
+    (control_found (n + 1) ((x == 92) && not b) xs front back c (cc) h)
 
 escape_by : (n c : ℕ) (b : Bool) (cs : List ℕ) (p : Bool) → is_control c ≡ p → (((c == 92) && not b) && not (is_escape cs)) ≡ true → Found n b (c ∷ cs) 0
 escape_by n c b cs true e f = record { r = BAD_CHARACTER; m = n; is = rw e refl; early = omega arith }
@@ -115,7 +115,7 @@ escape_found n b (x ∷ xs) [] back e h k =
 escape_found n b (x ∷ xs) (d ∷ front) back e h k =
     let is : d ≡ x = cc in
     step_found n x b xs (length front) (is_control x) (((x == 92) && not b) && not (is_escape xs)) refl refl
-      (escape_found (n + 1) ((x == 92) && not b) xs front back (cc) (subst (λ z. escapes ((z == 92) && not b) front ≡ false) is h) k)
+    (escape_found (n + 1) ((x == 92) && not b) xs front back (cc) (subst (λ z. escapes ((z == 92) && not b) front ≡ false) is h) k)
 
 -- what the fault is
 pub record IsFaulty (n : ℕ) (b : Bool) (xs : List ℕ) (r : Rule) (m : ℕ) : Type 0 where

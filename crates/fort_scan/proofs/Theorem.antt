@@ -29,8 +29,16 @@ broken_is text n k r g l w =
 pub open_is : (text : List ℕ) (n : ℕ) → Gap text (drop n text) → n ≤ length text → IsOpenComment (drop n text) → IsBroken OPEN_COMMENT text n
 open_is text n g l o =
     let d = length-drop n text in
-    record { rest = drop n text; k = 0; gap = g; fault = tokens.comment refl refl o; least = λ q s b. omega arith;
-      inside = λ w after s. absurd (no_word_open s.apart o.1); place = omega arith; within = l }
+    record {
+      rest = drop n text;
+      k = 0;
+      gap = g;
+      fault = tokens.comment refl refl o;
+      least = λ q s b. omega arith;
+      inside = λ w after s. absurd (no_word_open s.apart o.1);
+      place = omega arith;
+      within = l;
+    }
   where
     no_word_open : {t x : List ℕ} → opens t ≡ false → t ≡ 40 ∷ 42 ∷ x → ⊥
     no_word_open h e = let k = subst (λ u. opens u ≡ false) e h in absurd cc
@@ -43,7 +51,7 @@ at_front text n m g stands =
     record {
       whole = sym (take-append-drop n text) ∙ ap (λ t. take n text ++ t) front;
       gap = subst (Gap text) front g;
-      word = subst (λ t. Stands (take m (drop n text)) t (drop (n + m) text)) front (subst (λ t. Stands (take m (drop n text)) (drop n text) t) rest stands)
+      word = subst (λ t. Stands (take m (drop n text)) t (drop (n + m) text)) front (subst (λ t. Stands (take m (drop n text)) (drop n text) t) rest stands);
     }
 
 front_is : (text : List ℕ) (n m : ℕ) → Stands (take m (drop n text)) (drop n text) (drop m (drop n text)) → drop n text ≡ take m (drop n text) ++ drop (n + m) text
@@ -56,7 +64,7 @@ next_is text n m s g l w =
       is = record { piece = at_front text n m g w.0; sound = subst BreaksNone (front_is text n m w.0) w.1 };
       shape = w.2;
       some = (let a = w.3 in omega arith);
-      within = (let b = w.4 in omega arith)
+      within = (let b = w.4 in omega arith);
     }
 
 pub stuck_is : (text : List ℕ) (n m : ℕ) → Gap text (drop n text) → n ≤ length text → WordIs (drop n text) (Stuck m) → IsStuck text n m
@@ -67,7 +75,7 @@ stuck_is text n m g l w =
       fault = w.1;
       least = w.2;
       some = (let a = w.3 in omega arith);
-      within = (let b = w.4 in omega arith)
+      within = (let b = w.4 in omega arith);
     }
 
 -- ---- a token list is the only one, and leaves no fault
@@ -179,10 +187,18 @@ many_is text at gap word ps s l m h i =
     let chain = chain_more IsToken ps p (body text) (drop at text) rest h i.is in
     record {
       at = at + gap;
-      many = record { pieces = ps; piece = p; middle = drop at text; rest = rest; count = m; before = tokens_pieces ps (body text) (drop at text) h; next = i.is.piece;
+      many = record {
+        pieces = ps;
+        piece = p;
+        middle = drop at text;
+        rest = rest;
+        count = m;
+        before = tokens_pieces ps (body text) (drop at text) h;
+        next = i.is.piece;
         sound = λ q r f. let s = later_by (ps ++ p ∷ []) f.pieces (body text) rest f.middle f.rest f.k r chain f.before f.gap f.fault in let w = f.place in omega arith;
-        begins = begins_at text at gap word rest l i.within i.is.piece };
-      place_is = refl
+        begins = begins_at text at gap word rest l i.within i.is.piece;
+      };
+      place_is = refl;
     }
 
 -- ---- a number with a name's character directly behind it
@@ -213,10 +229,18 @@ stuck_many text at gap word ps l m h s =
     let first = first_fault ps text (drop at text) (drop gap (drop at text)) word (at + (gap + word)) h stands s.least (stuck_inside (drop at text) gap word s) (stuck_place text at gap word l s.within) in
     record {
       at = at + gap;
-      many = record { pieces = ps; piece = piece_at (drop at text) gap word; middle = drop at text; rest = rest; count = m; before = tokens_pieces ps (body text) (drop at text) h; next = s.is;
+      many = record {
+        pieces = ps;
+        piece = piece_at (drop at text) gap word;
+        middle = drop at text;
+        rest = rest;
+        count = m;
+        before = tokens_pieces ps (body text) (drop at text) h;
+        next = s.is;
         sound = λ q r f. let b = first q r f in let d = length-drop at text in let e = length-drop (gap + word) (drop at text) in omega arith;
-        begins = begins_at text at gap word rest l s.within s.is };
-      place_is = refl
+        begins = begins_at text at gap word rest l s.within s.is;
+      };
+      place_is = refl;
     }
 
 -- the mark adds no piece
@@ -242,12 +266,12 @@ fault_by text at k r ps rest n m h g f least inside full place =
       first = record { fault = fault; first = first_fault ps text (drop at text) rest k n h g least inside place };
       none = λ qs t. tokens_sound text qs n r t fault;
       few = λ q t.
-        let c = t.count in
-        let size : length ps ≤ length t.pieces = omega arith in
-        let tight : length ps ≡ length t.pieces → (w after : List ℕ) → Stands w rest after → k < length w = (λ e. full (omega arith)) in
-        let x = many_by ps t.pieces t.piece (body text) (drop at text) rest t.middle t.rest k size h g inside tight t.before t.next in
-        let y = t.sound n r fault in omega arith;
-      place_is = refl
+          let c = t.count in
+          let size : length ps ≤ length t.pieces = omega arith in
+          let tight : length ps ≡ length t.pieces → (w after : List ℕ) → Stands w rest after → k < length w = (λ e. full (omega arith)) in
+          let x = many_by ps t.pieces t.piece (body text) (drop at text) rest t.middle t.rest k size h g inside tight t.before t.next in
+          let y = t.sound n r fault in omega arith;
+      place_is = refl;
     }
 
 pub fault_is : (text : List ℕ) (at n : ℕ) (ps : List Piece) (r : Rule) → at ≤ length text → length ps ≤ 262144 → Chain IsToken ps (body text) (drop at text) → IsBroken r (drop at text) n
@@ -262,7 +286,7 @@ pub stuck_fault : (text : List ℕ) (at gap word : ℕ) (ps : List Piece) → at
 stuck_fault text at gap word ps l m h s =
     let stands = subst (Gap (drop at text)) (stuck_rest (drop at text) gap word s) s.is.gap in
     fault_by text at word BAD_CHARACTER ps (drop gap (drop at text)) (at + (gap + word)) (omega arith) h stands s.fault s.least (stuck_inside (drop at text) gap word s)
-      (λ e. absurd (omega arith)) (stuck_place text at gap word l s.within)
+    (λ e. absurd (omega arith)) (stuck_place text at gap word l s.within)
 
 -- ---- a list of so many tokens, and a token too many
 

@@ -97,10 +97,13 @@ number_by w text after len s l h a n t c false true e f =
     let small : 9223372036854775807 < decimal 0 w → ⊥ = (λ g. grind (arith, nat_tests)) in
     let size : length text ≡ length w + length after = ap length s.whole ∙ length-append w after in
     let front : take len text ≡ w = ap (take len) s.whole ∙ take_at w after len l in
-    let rest : drop len text ≡ after = ap (drop len) s.whole ∙ drop_at w after len l in
-    (subst (λ u. Stands (take len text) text u) (sym rest) (subst (λ u. Stands u text after) (sym front) s),
+    let rest : drop len text ≡ after = ap (drop len) s.whole ∙ drop_at w after len l in (
+      subst (λ u. Stands (take len text) text u) (sym rest) (subst (λ u. Stands u text after) (sym front) s),
       tokens.follows w after refl (sym l) s n f,
-      (λ k r b. let m = (number_fault w text after s t c small k r b).0 in omega arith), h, omega arith)
+      (λ k r b. let m = (number_fault w text after s t c small k r b).0 in omega arith),
+      h,
+      omega arith,
+    )
 number_by w text after len s l h a n t c false false e f =
     let small : 9223372036854775807 < decimal 0 w → ⊥ = (λ g. grind (arith, nat_tests)) in
     let number : shape.Number (decimal 0 w) ≡ shape_of w = rw a (rw n refl) in
@@ -117,7 +120,7 @@ number_is c xs h o len e =
     let number : is_number w ≡ true = rw h (front_passes is_ascii_digit xs) in
     let text : is_text w ≡ false = rw (digit_quote c h) refl in
     subst (λ m. WordIs (c ∷ xs) (number_of m (c ∷ xs))) up
-      (number_by w (c ∷ xs) (drop n xs) (suc n) s (omega arith) (omega arith) name number text (no_quote c xs (digit_quote c h)) (nat_lt 9223372036854775807 (decimal 0 w)) (continues (drop n xs)) refl refl)
+    (number_by w (c ∷ xs) (drop n xs) (suc n) s (omega arith) (omega arith) name number text (no_quote c xs (digit_quote c h)) (nat_lt 9223372036854775807 (decimal 0 w)) (continues (drop n xs)) refl refl)
 
 -- ---- symbols
 
@@ -146,6 +149,7 @@ symbol_is c xs h k q o true e =
     some_front : (w after : List ℕ) → Stands w (c ∷ xs) after → 0 < length w
     some_front [] after s = let f = s.longest.fits in absurd cc
     some_front (d ∷ w) after s = omega arith
+
     empty : (w after : List ℕ) → Stands w (c ∷ xs) after → symbol_len (c ∷ xs) ≡ 0 → ⊥
     empty w after s z = let l = symbol_front c xs w after h k q s.whole s.longest.fits in let m = some_front w after s in omega arith
 symbol_is c xs h k q o false e =
@@ -160,8 +164,8 @@ symbol_is c xs h k q o false e =
       apart = o;
       longest = record {
         fits = spelled_symbol c f.word h k q ∙ f.among_is;
-        longest = λ v more g i. let l = symbol_front c xs v more h k q (whole ∙ i) g in omega arith
-      }
+        longest = λ v more g i. let l = symbol_front c xs v more h k q (whole ∙ i) g in omega arith;
+      };
     } in
     let name : is_name w ≡ false = rw h refl in
     let number : is_number w ≡ false = rw k refl in
@@ -230,8 +234,9 @@ fault_of ys after text m r s t f =
     let place = f.place in
     let more : suc (length f.front) ≡ 1 + m = omega arith in
     subst (λ k. Breaks text k r) more (elim f.fault [
-      inl c ↦ tokens.control (34 ∷ ys) after (34 ∷ f.front) f.back f.c c.0 refl s t (ap (λ z. 34 ∷ z) f.whole) c.1
-    | inr e ↦ tokens.escape (34 ∷ ys) after f.front f.back e.0 refl s t (ap (λ z. 34 ∷ z) (f.whole ∙ ap (λ z. f.front ++ z ∷ f.back) e.1)) e.2 e.3 ])
+      | inl c ↦ tokens.control (34 ∷ ys) after (34 ∷ f.front) f.back f.c c.0 refl s t (ap (λ z. 34 ∷ z) f.whole) c.1
+      | inr e ↦ tokens.escape (34 ∷ ys) after f.front f.back e.0 refl s t (ap (λ z. 34 ∷ z) (f.whole ∙ ap (λ z. f.front ++ z ∷ f.back) e.1)) e.2 e.3
+    ])
 
 faulty_inside : (ys : List ℕ) (m : ℕ) (r : Rule) → IsFaulty 0 false ys r m → m < length ys
 faulty_inside ys m r f = let a = f.place in let l = ap length f.whole in let k = length-append f.front (f.c ∷ f.back) in omega arith
@@ -240,14 +245,16 @@ text_by : (ys after text : List ℕ) (n : ℕ) → Stands (34 ∷ ys) text after
     → (o : Option (Rule × ℕ)) → text_fault 0 false ys ≡ o → WordIs text (text_of n o)
 text_by ys after text n s t g l None e =
     as_word text (34 ∷ ys) after (1 + n) shape.Text s (omega arith) (omega arith)
-      (λ k r b. let f = text_broken ys after text s k r b in no_fault ys f.0 e f.2) g
+    (λ k r b. let f = text_broken ys after text s k r b in no_fault ys f.0 e f.2) g
 text_by ys after text n s t g l (Some p) e =
     let f = is_faulty 0 false ys p.0 p.1 e in
     let i = faulty_inside ys p.1 p.0 f in
-    let size : length text ≡ length (34 ∷ ys) + length after = ap length s.whole ∙ length-append (34 ∷ ys) after in
-    (fault_of ys after text p.1 p.0 s t f,
+    let size : length text ≡ length (34 ∷ ys) + length after = ap length s.whole ∙ length-append (34 ∷ ys) after in (
+      fault_of ys after text p.1 p.0 s t f,
       (λ k r b. let h = text_broken ys after text s k r b in let m = same_fault ys h.0 p.1 p.0 e h.2 in let q = h.1 in omega arith),
-      (λ v y z. let m = ap length (stands_once s z).0 in omega arith), omega arith)
+      (λ v y z. let m = ap length (stands_once s z).0 in omega arith),
+      omega arith,
+    )
 
 text_end_by : (xs : List ℕ) → opens (34 ∷ xs) ≡ false → (o : Option ℕ) → text_end false xs ≡ o
     → WordIs (34 ∷ xs) (option_map_or (λ n. text_of n (text_fault 0 false (take n xs))) o (Fault OPEN_TEXT 0))
@@ -264,8 +271,8 @@ text_end_by xs o (Some n) e =
       apart = o;
       longest = record {
         fits = spelled_quote ys ∙ f.closes;
-        longest = λ v more g i. let l = quote_by xs v more n e g (whole ∙ i) in omega arith
-      }
+        longest = λ v more g i. let l = quote_by xs v more n e g (whole ∙ i) in omega arith;
+      };
     } in
     let means : shape.Text ≡ shape_of (34 ∷ ys) = rw no_name_34 (rw f.closes refl) in
     text_by ys after (34 ∷ xs) n s f.closes means size (text_fault 0 false ys) refl

@@ -30,9 +30,9 @@ text_end false (c ∷ cs) = cond (c == 34) (Some 1) (cond (c == 10) None (option
 abbrev pub part_end : List ℕ → PartEnd
 part_end text = cond (is_white (get_or text 0 0)) (Part 1)
     (cond ((get_or text 0 0 == 40) && (get_or text 1 0 == 42))
-      (cond (get_or text 2 0 == 41) (Part (3 + prefix_len is_no_line_feed (drop 3 text)))
-        (option_map_or (λ n. Part (2 + n)) (comment_end 0 Other (drop 2 text)) Unclosed))
-      Stop)
+    (cond (get_or text 2 0 == 41) (Part (3 + prefix_len is_no_line_feed (drop 3 text)))
+    (option_map_or (λ n. Part (2 + n)) (comment_end 0 Other (drop 2 text)) Unclosed))
+    Stop)
 
 abbrev pub WithinPart : ℕ → PartEnd → Type 0
 WithinPart n (Part k) = (0 < k) × (k ≤ n)

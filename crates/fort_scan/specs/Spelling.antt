@@ -42,14 +42,14 @@ singles = codes "()]{},;.#^×·≠≤≥≡∧∨¬⟦⟧←→⇒∑∏"
 -- the symbols that begin with a character: what may follow it
 abbrev pub endings : ℕ → List (List ℕ)
 endings c =
-    cond (c == 60) ([] ∷ codes "=" ∷ codes "-" ∷ [])                  -- < <= <-
-    (cond (c == 61) ([] ∷ codes "==" ∷ codes "/=" ∷ codes ">" ∷ [])   -- = === =/= =>
-    (cond (c == 62) ([] ∷ codes "=" ∷ [])                             -- > >=
-    (cond (c == 43) ([] ∷ codes "=" ∷ [])                             -- + +=
-    (cond (c == 45) ([] ∷ codes "=" ∷ codes ">" ∷ [])                 -- - -= ->
-    (cond (c == 58) ([] ∷ codes "=" ∷ [])                             -- : :=
-    (cond (c == 91) ([] ∷ (92 ∷ []) ∷ [])                             -- [ [\
-    (cond (c == 92) (codes "]" ∷ [])                                  -- \]
+    cond (c == 60) ([] ∷ codes "=" ∷ codes "-" ∷ [])  -- < <= <-
+    (cond (c == 61) ([] ∷ codes "==" ∷ codes "/=" ∷ codes ">" ∷ [])  -- = === =/= =>
+    (cond (c == 62) ([] ∷ codes "=" ∷ [])  -- > >=
+    (cond (c == 43) ([] ∷ codes "=" ∷ [])  -- + +=
+    (cond (c == 45) ([] ∷ codes "=" ∷ codes ">" ∷ [])  -- - -= ->
+    (cond (c == 58) ([] ∷ codes "=" ∷ [])  -- : :=
+    (cond (c == 91) ([] ∷ (92 ∷ []) ∷ [])  -- [ [\
+    (cond (c == 92) (codes "]" ∷ [])  -- \]
     (cond (is_among c singles) ([] ∷ []) []))))))))
 
 -- an operator or another symbol, no word

@@ -36,7 +36,7 @@ abbrev pub text_fault : ℕ → Bool → List ℕ → Option (Rule × ℕ)
 text_fault n escaped [] = None
 text_fault n escaped (c ∷ cs) = cond (is_control c) (Some (BAD_CHARACTER, n))
     (cond (((c == 92) && not escaped) && not (is_escape cs)) (Some (BAD_ESCAPE, n))
-      (text_fault (n + 1) ((c == 92) && not escaped) cs))
+    (text_fault (n + 1) ((c == 92) && not escaped) cs))
 
 -- a number of that many digits
 abbrev pub number_of : ℕ → List ℕ → Read

@@ -7,5 +7,4 @@ ghost use Rattle.fort_scan.specs.Faults.{BreaksAt};
 pub fn one_reading(_text: &[char])
     ensures once { (ps qs : List Piece) → HasPieces _text.now ps → HasPieces _text.now qs → ps ≡ qs }
     ensures apart { (ps : List Piece) (at : ℕ) (r : Rule) → HasPieces _text.now ps → BreaksAt _text.now at r → ⊥ }
-{
-}
+{}

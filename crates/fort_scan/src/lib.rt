@@ -10,7 +10,6 @@ mod step;
 mod word;
 
 use fort_base::Rule;
-
 pub use gap::mark_len;
 pub use laws::one_reading;
 pub use place::{gap_kind, place_after};

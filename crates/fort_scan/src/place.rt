@@ -33,5 +33,9 @@ pub fn gap_kind(gap: &[char]) -> Gap
             return Gap::Line;
         }
     }
-    if gap.is_empty() { Gap::Empty } else { Gap::Space }
+    if gap.is_empty() {
+        Gap::Empty
+    } else {
+        Gap::Space
+    }
 }

@@ -159,28 +159,18 @@ fn symbol_len(text: &[char]) -> usize
             _ => 1,
         },
         '=' => match at(text, 1) {
-            '=' | '/' => {
-                if at(text, 2) == '=' { 3 } else { 1 }
-            }
+            '=' | '/' => { if at(text, 2) == '=' { 3 } else { 1 } }
             '>' => 2,
             _ => 1,
         },
-        '>' | '+' | ':' => {
-            if at(text, 1) == '=' { 2 } else { 1 }
-        }
+        '>' | '+' | ':' => { if at(text, 1) == '=' { 2 } else { 1 } }
         '-' => match at(text, 1) {
             '=' | '>' => 2,
             _ => 1,
         },
-        '[' => {
-            if at(text, 1) == '\\' { 2 } else { 1 }
-        }
-        '\\' => {
-            if at(text, 1) == ']' { 2 } else { 0 }
-        }
-        c => {
-            if is_single(c) { 1 } else { 0 }
-        }
+        '[' => { if at(text, 1) == '\\' { 2 } else { 1 } }
+        '\\' => { if at(text, 1) == ']' { 2 } else { 0 } }
+        c => { if is_single(c) { 1 } else { 0 } }
     }
 }
 

@@ -19,10 +19,11 @@ returns-in-End c =
     let r = l.invariant.read in
     let text = c.args.text.now in
     let few = l.invariant.few in
-    let n = count_read text l.from l.at l.builder r in
-    (with_mark (mark text) r.ps,
+    let n = count_read text l.from l.at l.builder r in (
+      with_mark (mark text) r.ps,
       list_is text l.at r.ps r.chain (omega arith) (step_is text l.at c.next_step.result _ c.next_step.ensures c.in-End.is),
-      c.finish.ensures (with_mark (mark text) r.ps) r.held)
+      c.finish.ensures (with_mark (mark text) r.ps) r.held,
+    )
 
 pub returns-in-Broken : goal.returns-in-Broken
 returns-in-Broken c =
@@ -98,5 +99,5 @@ loop-builder-preserved c =
       within = within;
       small = omega arith;
       begun = c.in_ok-add-in-Next.ensures.begun;
-      few = (let f = i.few in let g = c.in_ok-add-in-Next.ensures.one in let h = c.len-in-Next.ensures in let j = c.if-len-eq-MOST_TOKENS-2.false in omega arith)
+      few = (let f = i.few in let g = c.in_ok-add-in-Next.ensures.one in let h = c.len-in-Next.ensures in let j = c.if-len-eq-MOST_TOKENS-2.false in omega arith);
     }

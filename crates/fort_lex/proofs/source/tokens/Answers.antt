@@ -8,4 +8,4 @@ pub text_tokens-requires-clause-scalars : goal.text_tokens-requires-clause-scala
 text_tokens-requires-clause-scalars c =
     let cases = c.in-Ok.ensures.cases in
     subst (λ t. scalars t ≡ true) (sym (c.deref.ensures.value ∙ c.in_ok-all-in-Ok.ensures.value))
-      (scalars-chars c.in-Ok.text.now (subst IsUtf8 (sym cases.0) cases.1))
+    (scalars-chars c.in-Ok.text.now (subst IsUtf8 (sym cases.0) cases.1))

@@ -32,7 +32,7 @@ returns-in-Fault c =
     let f = c.in-Ok.ensures in
     let l = f.gap.1 in
     broken_is text n c.in-Fault.k c.in-Fault.rule f.gap.0 l
-      (at_word text n c.word_of.result _ c.word_of.ensures (omega arith) f.apart c.in-Fault.is)
+    (at_word text n c.word_of.result _ c.word_of.ensures (omega arith) f.apart c.in-Fault.is)
 
 pub returns-in-Stuck : goal.returns-in-Stuck
 returns-in-Stuck c =
@@ -41,7 +41,7 @@ returns-in-Stuck c =
     let f = c.in-Ok.ensures in
     let l = f.gap.1 in
     stuck_is text n c.in-Stuck.len f.gap.0 l
-      (at_word text n c.word_of.result _ c.word_of.ensures (omega arith) f.apart c.in-Stuck.is)
+    (at_word text n c.word_of.result _ c.word_of.ensures (omega arith) f.apart c.in-Stuck.is)
 
 pub returns-in-Whole : goal.returns-in-Whole
 returns-in-Whole c =
@@ -50,4 +50,4 @@ returns-in-Whole c =
     let f = c.in-Ok.ensures in
     let l = f.gap.1 in
     next_is text n c.in-Whole.len c.in-Whole.shape f.gap.0 l
-      (at_word text n c.word_of.result _ c.word_of.ensures (omega arith) f.apart c.in-Whole.is)
+    (at_word text n c.word_of.result _ c.word_of.ensures (omega arith) f.apart c.in-Whole.is)

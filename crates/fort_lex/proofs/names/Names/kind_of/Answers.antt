@@ -26,6 +26,6 @@ returns-clause-held c = λ words h.
     let k = c.in_ok-kind.kind in
     let a = subst (λ m. KindAt (length old.names) m k) c.meaning_of.ensures c.in_ok-kind.ensures.kind in
     let names = c.in_ok-kind.ensures.names ∙ ap (λ m. old.names ++ cond (is_numbered m) (string_bytes c.in_ok-text.text ∷ []) []) c.meaning_of.ensures
-        ∙ ap (λ t. old.names ++ cond (is_numbered (meaning_of w)) (t ∷ []) []) c.in_ok-text.ensures in
+    ∙ ap (λ t. old.names ++ cond (is_numbered (meaning_of w)) (t ∷ []) []) c.in_ok-text.ensures in
     new_held words old _ w k h (sym c.in_default.ensures.value) a names
-      (λ v. hash_map_updates_str w c.kind_for.new.self.known c.insert.new.self (Some k) c.in_ok-insert.ensures.updates v ∙ ap (λ m. cond (bytes_eq w v) (Some k) (get_by (λ key. bytes_eq v key.now) m)) c.in_ok-kind.ensures.known)
+    (λ v. hash_map_updates_str w c.kind_for.new.self.known c.insert.new.self (Some k) c.in_ok-insert.ensures.updates v ∙ ap (λ m. cond (bytes_eq w v) (Some k) (get_by (λ key. bytes_eq v key.now) m)) c.in_ok-kind.ensures.known)
