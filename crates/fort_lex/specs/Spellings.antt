@@ -126,6 +126,10 @@ operator_in (p ∷ ps) w = cond (same p.1 w) (Some p.0) (operator_in ps w)
 unfoldable pub operator_named : List ℕ → Option Op
 operator_named w = operator_in spellings w
 
+-- a small ASCII letter
+abbrev pub is_small : ℕ → Bool
+is_small c = nat_le 97 c && nat_le c 122
+
 -- an ASCII capital
 abbrev pub is_capital : ℕ → Bool
 is_capital c = nat_le 65 c && nat_le c 90

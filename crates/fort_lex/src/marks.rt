@@ -25,6 +25,7 @@ pub const MARKS: [Mark; 17] = [
     Mark::Dot,
 ];
 
+#[inline(always)]
 fn ascii(mark: Mark) -> &'static str
     ensures { result.now ≡ mark_ascii mark }
 {
@@ -49,6 +50,7 @@ fn ascii(mark: Mark) -> &'static str
     }
 }
 
+#[inline(always)]
 fn sign(mark: Mark) -> Option<char>
     ensures { result ≡ mark_sign mark }
 {
@@ -62,6 +64,7 @@ fn sign(mark: Mark) -> Option<char>
     }
 }
 
+#[inline(always)]
 fn spells(mark: Mark, text: &[char]) -> bool
     ensures { result ≡ spells_mark mark text.now }
 {

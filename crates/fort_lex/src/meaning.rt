@@ -1,7 +1,7 @@
 ghost use Rattle.std.specs.Prelude.{◌≡◌, true, encode_utf8_all, get_or};
 ghost use Rattle.std.proofs.Math.Utf8.{scalars};
 ghost use Rattle.fort_scan.specs.Lists.{every};
-ghost use Rattle.fort_lex.specs.Spellings.{is_capital, is_capital_or_bar, has_other, has_operator_form};
+ghost use Rattle.fort_lex.specs.Spellings.{is_small, is_capital, is_capital_or_bar, has_other, has_operator_form};
 ghost use Rattle.fort_lex.specs.Meanings.{meaning_of};
 
 use crate::marks::mark_named;
@@ -68,6 +68,16 @@ fn has_operator_form(word: &[char]) -> bool
         && has_other(first, word)
 }
 
+/// Whether a word begins with a small ASCII letter, as no operator and no symbol does.
+fn begins_small(word: &[char]) -> bool
+    ensures { result ≡ is_small (get_or word.now 0 0) }
+{
+    match word {
+        ['a'..='z', ..] => true,
+        _ => false,
+    }
+}
+
 /// What a word stands for, given its characters and the same as UTF-8.
 pub fn meaning_of(word: &[char], text: &str) -> Meaning
     requires same { text.now ≡ encode_utf8_all word.now }
@@ -76,6 +86,9 @@ pub fn meaning_of(word: &[char], text: &str) -> Meaning
 {
     if let Some(reserved) = reserved_named(word) {
         return Meaning::Word(reserved);
+    }
+    if begins_small(word) {
+        return Meaning::Name;
     }
     if let Some(mark) = mark_named(word) {
         return Meaning::Mark(mark);

@@ -47,6 +47,7 @@ pub const WORDS: [Reserved; 39] = [
     Reserved::Prod,
 ];
 
+#[inline(always)]
 fn ascii(word: Reserved) -> &'static str
     ensures { result.now ≡ word_ascii word }
 {
@@ -93,6 +94,7 @@ fn ascii(word: Reserved) -> &'static str
     }
 }
 
+#[inline(always)]
 fn sign(word: Reserved) -> Option<char>
     ensures { result ≡ word_sign word }
 {
@@ -103,6 +105,7 @@ fn sign(word: Reserved) -> Option<char>
     }
 }
 
+#[inline(always)]
 fn spells(word: Reserved, text: &[char]) -> bool
     ensures { result ≡ spells_word word text.now }
 {

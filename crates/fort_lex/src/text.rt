@@ -5,6 +5,7 @@ ghost use Rattle.fort_lex.specs.Spellings.{is_sign};
 use std::alloc::{AllocError, Global};
 
 /// Whether a word is an ASCII text.
+#[inline(always)]
 pub fn is_ascii(word: &[char], text: &str) -> bool
     ensures { result ≡ same text.now word.now }
 {
@@ -21,6 +22,7 @@ pub fn is_ascii(word: &[char], text: &str) -> bool
 }
 
 /// Whether a word is a sign of one character, where there is one.
+#[inline(always)]
 pub fn is_sign(word: &[char], sign: Option<char>) -> bool
     ensures { result ≡ is_sign sign word.now }
 {

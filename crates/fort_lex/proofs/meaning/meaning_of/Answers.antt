@@ -6,7 +6,7 @@ use Rattle.std.proofs.lemmas.Str.{chars-encodes}
 use Rattle.fort_ops.specs.declared.op.Op.{Op}
 use Rattle.fort_ops.specs.Spellings.{Spells}
 use Rattle.fort_lex.specs.Spellings.{operator_named}
-use Rattle.fort_lex.proofs.MeaningLaws.{operator_is, by_reserved, by_mark, by_operator, by_form, by_name}
+use Rattle.fort_lex.proofs.MeaningLaws.{operator_is, by_reserved, by_mark, by_operator, by_form, by_name, by_small}
 use Rattle.fort_lex.proofs.meaning.meaning_of.Goals as goal
 
 operator_at : (w text : List ℕ) (r : Option Op) → text ≡ encode_utf8_all w → scalars w ≡ true → ((op : Op) → (r ≡ Some op) ↔ Spells op (chars text)) → r ≡ operator_named w
@@ -34,3 +34,6 @@ returns-else-has_operator_form c =
     by_name c.args.word.now (sym c.reserved_named.ensures ∙ c.in_default.is) (sym c.mark_named.ensures ∙ c.in_default-mark_named.is)
     (sym (operator_at c.args.word.now c.args.text.now c.spelling_of.result c.requires.same c.requires.scalars c.spelling_of.ensures) ∙ c.in_default-spelling_of.is)
     (sym c.has_operator_form.ensures ∙ c.if-has_operator_form.false)
+
+pub returns-then-begins_small : goal.returns-then-begins_small
+returns-then-begins_small c = by_small c.args.word.now (sym c.reserved_named.ensures ∙ c.in_default.is) (sym c.begins_small.ensures ∙ c.if-begins_small.true)
