@@ -1,6 +1,6 @@
 -- Token lists that grow by one token.
-use Rattle.std.proofs.Common.{◌≡◌, ℕ, zero, suc, ◌+◌, ◌<◌, ◌≤◌, Bool, true, false, cond, ◌||◌, List, [], ◌∷◌, ◌++◌, length, map, Option, None, Some, refl, sym, ap, subst, ◌∙◌, arith, length-append, append_assoc}
-use Rattle.std.specs.Prelude.{slice_get, encode_utf8_all}
+use Rattle.std.proofs.Common.{◌≡◌, ℕ, suc, ◌+◌, ◌≤◌, Bool, true, false, cond, ◌||◌, List, [], ◌∷◌, ◌++◌, length, refl, sym, ap, subst, ◌∙◌, arith}
+use Rattle.std.specs.Prelude.{encode_utf8_all}
 use Rattle.std.proofs.lemmas.List.{append-nil, length-map}
 use Rattle.fort_base.specs.declared.refusal.Place.{Place}
 use Rattle.fort_scan.specs.Lists.{same, among}
@@ -13,9 +13,9 @@ use Rattle.fort_scan.proofs.Symbols.{same_is}
 use Rattle.fort_lex.specs.declared.builder.Builder.{Builder}
 use Rattle.fort_token.specs.declared.token.Kind.{Kind}
 use Rattle.fort_token.specs.declared.token.Token.{Token}
-use Rattle.fort_lex.specs.Meanings.{meaning_of, is_numbered, is_numbered_shape, has_number, is_text_shape, is_text_word, KindFor, MeansShape, Means, said}
+use Rattle.fort_lex.specs.Meanings.{meaning_of, has_number, is_text_word, MeansShape, Means, said}
 use Rattle.fort_lex.specs.Files.{without, once, numbered_in, names_of, texts_of, texts_after, IsTokenOf, AreTokens, StandsFor}
-use Rattle.fort_lex.specs.Building.{HoldsNames, with_word, words_with, end_of, Holds, AddsWord}
+use Rattle.fort_lex.specs.Building.{HoldsNames, with_word, end_of, Holds, AddsWord}
 use Rattle.fort_lex.proofs.NameLaws.{kind_keep}
 
 -- ---- each name once

@@ -1,5 +1,5 @@
 -- A file's tokens are the only ones.
-use Rattle.std.proofs.Common.{◌≡◌, ℕ, zero, suc, ◌+◌, ◌<◌, ◌≤◌, Bool, true, false, cond, not, ◌&&◌, ◌||◌, List, [], ◌∷◌, ◌++◌, length, map, take, Option, None, Some, refl, sym, ap, subst, ◌∙◌, arith}
+use Rattle.std.proofs.Common.{◌≡◌, ℕ, zero, suc, Bool, true, false, cond, not, ◌&&◌, ◌||◌, List, [], ◌∷◌, ◌++◌, length, Some, refl, sym, ap, subst, ◌∙◌, arith}
 use Rattle.std.specs.Prelude.{slice_get}
 use Rattle.std.specs.Str.{IsUtf8, IsValidUpTo}
 use Rattle.std.proofs.lemmas.List.{take_all}
@@ -21,8 +21,8 @@ use Rattle.fort_token.specs.declared.token.Kind.{Kind}
 use Rattle.fort_token.specs.declared.token.Kind.TheVariants as kind
 use Rattle.fort_token.specs.declared.token.Token.{Token}
 use Rattle.fort_token.specs.declared.token.Tokens.{Tokens}
-use Rattle.fort_lex.specs.Meanings.{meaning_of, KindFor, MeansShape, Means}
-use Rattle.fort_lex.specs.Files.{without, once, numbered_in, names_of, texts_after, IsTokenOf, AreTokens, StandsFor, HasTokens, IsNotUtf8, BreaksRule, not_utf8, too_many, fault}
+use Rattle.fort_lex.specs.Meanings.{meaning_of, KindFor, MeansShape}
+use Rattle.fort_lex.specs.Files.{without, once, numbered_in, names_of, texts_after, IsTokenOf, AreTokens, StandsFor, HasTokens, BreaksRule, not_utf8, too_many, fault}
 use Rattle.fort_lex.proofs.NameLaws.{get_among, or_true}
 
 -- ---- a word has one number

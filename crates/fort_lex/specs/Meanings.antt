@@ -1,5 +1,5 @@
 -- The chapter "Tokens", what a spelling stands for. The code keeps what it found in a map.
-use Rattle.std.specs.Prelude.{◌≡◌, ℕ, Bool, true, false, cond, not, ◌&&◌, ◌==◌, List, [], ◌∷◌, Option, None, Some, slice_get, drop}
+use Rattle.std.specs.Prelude.{◌≡◌, ℕ, Bool, true, false, cond, ◌==◌, List, [], ◌∷◌, Some, slice_get, drop}
 use Rattle.std.specs.Option.{option_map_or}
 use Rattle.fort_scan.specs.declared.word.Shape.{Shape}
 use Rattle.fort_scan.specs.declared.word.Shape.TheVariants as shape

@@ -1,6 +1,6 @@
 -- The chapter "Tokens", reserved words and other symbols by their spellings, and operators by the table of `fort_ops`.
 -- The code compares a word with one spelling after another.
-use Rattle.std.specs.Prelude.{◌≡◌, ℕ, ◌-◌, Bool, true, false, cond, not, ◌&&◌, ◌||◌, ◌==◌, List, [], ◌∷◌, Option, None, Some, codes, nat_le, get_or, length}
+use Rattle.std.specs.Prelude.{ℕ, ◌-◌, Bool, false, cond, not, ◌&&◌, ◌||◌, ◌==◌, List, [], ◌∷◌, Option, None, Some, codes, nat_le, get_or, length}
 use Rattle.fort_ops.specs.declared.op.Op.{Op}
 use Rattle.fort_ops.specs.Spellings.{spellings}
 use Rattle.fort_token.specs.declared.reserved.Reserved.{Reserved}

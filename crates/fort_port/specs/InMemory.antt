@@ -1,6 +1,6 @@
 -- Files and outputs in memory. It restates the chapter "The outside" of docs/LANGUAGE.md.
 -- The code looks names up one by one, and keeps what is written in memory taken beforehand.
-use Rattle.std.specs.Prelude.{◌≡◌, ℕ, List, [], ◌∷◌, if◌then◌else◌}
+use Rattle.std.specs.Prelude.{ℕ, List, [], ◌∷◌, if◌then◌else◌}
 use Rattle.std.specs.Str.{bytes_eq}
 use Rattle.fort_port.specs.Outside.{Holding, Absent, Held}
 

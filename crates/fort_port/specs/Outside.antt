@@ -1,7 +1,6 @@
 -- What shelves and sinks mean. It restates the chapter "The outside" of docs/LANGUAGE.md.
 -- The code reads and writes in pieces; the words below speak of whole files and of all that was written.
-use Rattle.std.specs.Prelude.{◌≡◌, ℕ, ◌+◌, ◌<◌, ◌≤◌, List, [], ◌++◌, length, drop, Option, option_map, ◌⊎◌}
-use Rattle.std.specs.List.{starts_with}
+use Rattle.std.specs.Prelude.{◌≡◌, ℕ, ◌<◌, ◌≤◌, List, [], ◌++◌, length, drop, Option, option_map, ◌⊎◌}
 
 -- What a shelf tells of a name: nothing, that it hasn't the name, or the file's bytes.
 pub data Holding : Type 0 where

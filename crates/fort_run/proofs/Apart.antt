@@ -1,9 +1,7 @@
 -- A file that prints a text is not refused.
-use Rattle.std.proofs.Common.{◌≡◌, ℕ, List, subst}
+use Rattle.std.proofs.Common.{ℕ, List, subst}
 use Rattle.fort_base.specs.declared.refusal.Rule.{Rule}
 use Rattle.fort_base.specs.declared.refusal.Place.{Place}
-use Rattle.fort_token.specs.declared.token.Tokens.{Tokens}
-use Rattle.fort_lex.specs.Files.{HasTokens, BreaksRule}
 use Rattle.fort_lex.proofs.Uniqueness.{one_list_of_tokens, list_or_fault}
 use Rattle.fort_run.specs.Greeting.{IsGreeting}
 use Rattle.fort_run.specs.Reply.{Prints, IsRefused, breaks, not_built}

@@ -1,14 +1,14 @@
 -- Where no count rose, the words and the file decide the status, want of memory aside.
 use Rattle.std.proofs.Common.{◌≡◌, ℕ, ◌<◌, ◌≤◌, List, [], ◌∷◌, length, ap, sym, ◌∙◌, subst, arith, inl, inr, refl}
 use Rattle.std.specs.Prelude.{◌⊎◌, codes}
-use Rattle.fort_port.specs.Outside.{Holding, Held, Rose}
+use Rattle.fort_port.specs.Outside.{Held}
 use Rattle.fort_run.specs.Words.{IsRun, IsNoCommand}
 use Rattle.fort_base.specs.declared.refusal.Rule.{Rule}
 use Rattle.fort_base.specs.declared.refusal.Place.{Place}
-use Rattle.fort_run.specs.Reply.{Reply, IsFile, Means, Completes, Refuses, NoCommand, Unread, TooLarge, Prints, IsRefused, file_limit}
+use Rattle.fort_run.specs.Reply.{Reply, IsFile, Completes, Refuses, NoCommand, Unread, TooLarge, Prints, IsRefused, file_limit}
 use Rattle.fort_run.proofs.Apart.{prints_apart}
-use Rattle.fort_run.specs.Delivery.{Whole, OutFailed, NotesFailed, Delivers}
-use Rattle.fort_run.specs.Outcome.{Outside, MeansToSay, Ends, Said, WantsMemory, IsCalm, IsComplete, Answers}
+use Rattle.fort_run.specs.Delivery.{Whole, OutFailed, NotesFailed}
+use Rattle.fort_run.specs.Outcome.{Outside, MeansToSay, Ends, Said, WantsMemory, IsCalm, Answers}
 
 -- What was meant was said, or memory was wanting.
 settled : (o : Outside) (s : ℕ) → IsCalm o → Ends o s → ((reply : Reply) × MeansToSay o reply × (s ≡ reply.status)) ⊎ (s ≡ 7)

@@ -1,11 +1,11 @@
 -- What the code finds out is what a call means to say.
-use Rattle.std.proofs.Common.{◌≡◌, ℕ, ◌<◌, ◌≤◌, List, length, Result, Ok, Err, IfOk, ap, sym, ◌∙◌, subst}
+use Rattle.std.proofs.Common.{◌≡◌, ℕ, ◌≤◌, List, length, Result, Ok, Err, IfOk, ap, sym, ◌∙◌, subst}
 use Rattle.fort_base.specs.declared.refusal.Memory.{Memory}
-use Rattle.fort_port.specs.Outside.{Holding, Rose}
+use Rattle.fort_port.specs.Outside.{Holding}
 use Rattle.fort_run.specs.Words.{IsRun}
 use Rattle.fort_run.specs.Reply.{Reply, IsFile, Means, Completes, Refuses, file_limit}
 use Rattle.fort_run.specs.Said.{said, Judges, Runs, StandsBack}
-use Rattle.fort_run.specs.Delivery.{Change, Delivers}
+use Rattle.fort_run.specs.Delivery.{Delivers}
 use Rattle.fort_run.specs.Outcome.{Outside, MeansToSay, Said, Answers}
 use Rattle.fort_run.specs.declared.reply.Answer.{Answer}
 use Rattle.fort_run.proofs.Complete.{answers}

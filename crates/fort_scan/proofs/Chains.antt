@@ -1,4 +1,4 @@
-use Rattle.std.proofs.Common.{◌≡◌, ℕ, List, [], ◌∷◌, refl, subst, sym, ◌++◌, length, drop, take, ◌-◌, ◌<◌, ◌≤◌, length-drop, arith}
+use Rattle.std.proofs.Common.{◌≡◌, ℕ, List, [], ◌∷◌, refl, subst, sym, ◌++◌, length, drop, take, ◌-◌, ◌<◌, length-drop, arith}
 use Rattle.std.proofs.lemmas.List.{take_all}
 use Rattle.fort_scan.specs.Chain.{Chain}
 

@@ -1,11 +1,9 @@
 -- Where a comment ends.
-use Rattle.std.proofs.Common.{◌≡◌, ℕ, zero, suc, ◌≤◌, ◌<◌, ◌+◌, ◌-◌, Bool, true, false, cond, ◌&&◌, ◌==◌, nat_eq, List, [], ◌∷◌, ◌++◌, length, Option, None, Some, refl, sym, ap, subst, ◌∙◌, arith, rules, append_assoc, length-append}
+use Rattle.std.proofs.Common.{◌≡◌, ℕ, zero, suc, ◌<◌, ◌+◌, ◌-◌, Bool, true, false, cond, ◌&&◌, ◌==◌, List, [], ◌∷◌, ◌++◌, length, Option, None, Some, refl, sym, ap, subst, ◌∙◌, arith, append_assoc, length-append}
 use Rattle.std.proofs.lemmas.Bool.Decides.{nat_tests}
 use Rattle.std.specs.Option.{option_map}
-use Rattle.fort_scan.specs.Lists.{begins_with}
 use Rattle.fort_scan.specs.Gaps.{Inside, ends, plain, inner, opens, closes}
 use Rattle.fort_scan.specs.Scan.{comment_end, mark_of}
-use Rattle.fort_scan.specs.declared.gap.Before.{Before}
 use Rattle.fort_scan.specs.declared.gap.Before.TheVariants.{Other, Open, Star}
 
 -- ---- a comment's inside is read to its end

@@ -1,18 +1,17 @@
 -- The parts of gaps: each is the only one at its place, and part_end finds it.
-use Rattle.std.proofs.Common.{◌≡◌, ℕ, zero, suc, ◌≤◌, ◌<◌, ◌+◌, Bool, true, false, cond, not, ◌&&◌, ◌==◌, List, [], ◌∷◌, ◌++◌, length, take, drop, get_or, Option, None, Some, refl, sym, ap, subst, ◌∙◌, arith, rules, append_assoc, length-append}
+use Rattle.std.proofs.Common.{◌≡◌, ℕ, suc, ◌≤◌, ◌<◌, ◌+◌, Bool, true, false, cond, not, ◌&&◌, ◌==◌, List, [], ◌∷◌, ◌++◌, length, take, drop, get_or, Option, None, Some, refl, sym, ap, subst, ◌∙◌, arith, length-append}
 use Rattle.std.proofs.lemmas.Bool.Decides.{nat_tests}
 use Rattle.std.proofs.lemmas.List.{take_at, drop_at, take-append-drop}
 use Rattle.std.specs.Option.{option_map_or}
 use Rattle.std.specs.List.{prefix_len}
 use Rattle.fort_scan.specs.Lists.{every, begins_with}
-use Rattle.fort_scan.specs.Gaps as gaps
 use Rattle.fort_scan.specs.Gaps.{Part, NoPart, IsOpenComment, Inside, white, line, comment, is_white, opens, is_no_line_feed, is_line_end}
 use Rattle.fort_scan.specs.Scan.{comment_end, part_end}
 use Rattle.fort_scan.specs.declared.gap.Before.TheVariants.{Other}
 use Rattle.fort_scan.specs.declared.gap.PartEnd.{PartEnd}
 use Rattle.fort_scan.specs.declared.gap.PartEnd.TheVariants as end
 use Rattle.fort_scan.proofs.Fronts.{same_front}
-use Rattle.fort_scan.proofs.Comments.{inside_some, comment_length, comment_found, Front}
+use Rattle.fort_scan.proofs.Comments.{inside_some, comment_length, comment_found}
 
 some_same : (m n : ℕ) → Some m ≡ Some n → m ≡ n
 some_same m n h = cc

@@ -1,12 +1,11 @@
 -- Where pieces stand in a text they are the only ones.
-use Rattle.std.proofs.Common.{◌≡◌, ℕ, suc, ◌≤◌, ◌<◌, ◌+◌, Bool, true, false, List, [], ◌∷◌, ◌++◌, length, refl, sym, ap, subst, ◌∙◌, arith, rules, append_assoc, length-append}
-use Rattle.std.proofs.lemmas.List.{append_cancel_left, append_cancel_right}
+use Rattle.std.proofs.Common.{◌≡◌, ℕ, ◌≤◌, ◌+◌, List, [], ◌∷◌, ◌++◌, length, sym, ap, subst, ◌∙◌, arith, length-append}
+use Rattle.std.proofs.lemmas.List.{append_cancel_right}
 use Rattle.fort_base.specs.declared.refusal.Rule.{Rule}
 use Rattle.fort_scan.specs.Chain.{Chain}
-use Rattle.fort_scan.specs.Spelling.{Longest}
 use Rattle.fort_scan.specs.Gaps.{Gap, Part, NoPart, body}
-use Rattle.fort_scan.specs.Tokens.{Piece, Stands, IsPiece, IsToken, Breaks, BreaksNone}
-use Rattle.fort_scan.specs.Faults.{BreaksAt, IsSoundBefore}
+use Rattle.fort_scan.specs.Tokens.{Piece, Stands, IsPiece, IsToken, Breaks}
+use Rattle.fort_scan.specs.Faults.{IsSoundBefore}
 use Rattle.fort_scan.proofs.Fronts.{same_front}
 use Rattle.fort_scan.proofs.Parts.{part_once, part_shorter}
 

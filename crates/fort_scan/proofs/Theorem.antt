@@ -1,18 +1,16 @@
 -- What the scan answers: its step, and the theorem on whole texts.
-use Rattle.std.proofs.Common.{◌≡◌, ℕ, zero, suc, ◌≤◌, ◌<◌, ◌+◌, ◌-◌, Bool, true, false, List, [], ◌∷◌, ◌++◌, length, take, drop, refl, sym, ap, subst, ◌∙◌, arith, rules, append_assoc, length-append, length-drop}
+use Rattle.std.proofs.Common.{◌≡◌, ℕ, ◌≤◌, ◌<◌, ◌+◌, false, List, [], ◌∷◌, ◌++◌, length, take, drop, refl, sym, ap, subst, ◌∙◌, arith, length-append, length-drop}
 use Rattle.std.proofs.lemmas.List.{take-append-drop, drop-drop, drop_at, length-take-le}
 use Rattle.fort_base.specs.declared.refusal.Rule.{Rule}
-use Rattle.fort_base.specs.declared.refusal.Place.{Place}
 use Rattle.fort_scan.specs.declared.TheConstants.{BAD_CHARACTER, OPEN_COMMENT}
 use Rattle.fort_scan.specs.declared.word.Shape.{Shape}
 use Rattle.fort_scan.specs.declared.word.Read.TheVariants.{Whole, Stuck, Fault}
 use Rattle.fort_scan.specs.Chain.{Chain}
-use Rattle.fort_scan.specs.Spelling.{is_spelling, Longest}
 use Rattle.fort_scan.specs.Gaps.{Gap, IsOpenComment, opens, body, mark}
 use Rattle.fort_scan.specs.Places.{place_at}
 use Rattle.fort_scan.specs.Tokens as tokens
 use Rattle.fort_scan.specs.Tokens.{Piece, Stands, IsPiece, IsToken, Breaks, BreaksNone, HasPieces, with_mark}
-use Rattle.fort_scan.specs.Faults.{BreaksAt, IsSoundBefore, IsFirstFault, IsTooMany, IsList, IsFault, IsMany}
+use Rattle.fort_scan.specs.Faults.{BreaksAt, IsTooMany, IsList, IsFault, IsMany}
 use Rattle.fort_scan.specs.Steps.{piece_at, IsNext, IsStuck, IsBroken}
 use Rattle.fort_scan.proofs.Pieces.{piece_once, gap_once, stands_once, first_fault, gap_shorter, piece_shorter, pieces_shorter}
 use Rattle.fort_scan.proofs.Chains.{chain_more}

@@ -1,31 +1,30 @@
 -- The word at the front of a text.
-use Rattle.std.proofs.Common.{◌≡◌, ◌≢◌, ℕ, zero, suc, ◌≤◌, ◌<◌, ◌+◌, Bool, true, false, cond, not, ◌&&◌, ◌==◌, ◌⊎◌, List, [], ◌∷◌, ◌++◌, length, take, drop, get_or, nat_lt, Option, None, Some, refl, sym, ap, subst, ◌∙◌, arith, rules, append_assoc, length-append}
+use Rattle.std.proofs.Common.{◌≡◌, ℕ, suc, ◌≤◌, ◌<◌, ◌+◌, Bool, true, false, cond, ◌==◌, List, [], ◌∷◌, ◌++◌, length, take, drop, nat_lt, Option, None, Some, refl, sym, ap, subst, ◌∙◌, arith, length-append}
 use mathlib.Core.Logic.{inl, inr}
 use Rattle.std.proofs.lemmas.Bool.Decides.{nat_tests}
 use Rattle.std.proofs.lemmas.List.{take_at, drop_at, take-append-drop, length-take-le}
 use Rattle.std.specs.List.{prefix_len}
 use Rattle.std.specs.Char.{is_ascii_digit}
 use Rattle.std.specs.Option.{option_map_or}
-use Rattle.unicode_ident.specs.Ident.{is_xid_start, is_xid_continue}
+use Rattle.unicode_ident.specs.Ident.{is_xid_continue}
 use Rattle.ucd_category.proofs.Computing.{ucd_category}
 use Rattle.fort_base.specs.declared.refusal.Rule.{Rule}
-use Rattle.fort_scan.specs.declared.TheConstants.{BAD_CHARACTER, OPEN_TEXT, BAD_ESCAPE, NUMBER_TOO_LARGE}
+use Rattle.fort_scan.specs.declared.TheConstants.{BAD_CHARACTER, OPEN_TEXT, NUMBER_TOO_LARGE}
 use Rattle.fort_scan.specs.declared.word.Shape.{Shape}
 use Rattle.fort_scan.specs.declared.word.Shape.TheVariants as shape
 use Rattle.fort_scan.specs.declared.word.Read.{Read}
 use Rattle.fort_scan.specs.declared.word.Read.TheVariants.{Whole, Stuck, Fault}
 use Rattle.fort_scan.specs.Gaps.{opens}
-use Rattle.fort_scan.specs.Lists.{every, among}
 use Rattle.fort_scan.specs.Scan.{text_end}
-use Rattle.fort_scan.specs.Spelling.{begins_name, is_name, is_number, is_text, is_control, is_symbol, is_spelling, endings, closes_text, decimal}
-use Rattle.fort_scan.specs.Words.{shape_of, word_of, number_of, text_of, text_fault, text_word, symbol_word, symbol_len, longest_of}
+use Rattle.fort_scan.specs.Spelling.{begins_name, is_name, is_number, is_text, is_control, is_spelling, endings, closes_text, decimal}
+use Rattle.fort_scan.specs.Words.{shape_of, word_of, number_of, text_of, text_fault, text_word, symbol_word, symbol_len}
 use Rattle.fort_scan.specs.Tokens as tokens
 use Rattle.fort_scan.specs.Tokens.{Stands, Breaks, BreaksNone, continues, escapes, is_escape}
 use Rattle.fort_scan.proofs.Parts.{front_passes}
 use Rattle.fort_scan.proofs.Pieces.{stands_once}
 use Rattle.fort_scan.proofs.Classes.{name_digit, name_quote, digit_name, digit_quote, spelled_name, spelled_digit, spelled_quote, spelled_symbol, run_stands, front_length, no_name_34}
 use Rattle.fort_scan.proofs.Texts.{text_read, text_found, Found, control_found, escape_found, IsFaulty, is_faulty, pair_first}
-use Rattle.fort_scan.proofs.Symbols.{Symbol, symbol_found, symbol_longest, endings_zero}
+use Rattle.fort_scan.proofs.Symbols.{symbol_found, symbol_longest, endings_zero}
 
 abbrev pub WordIs : List ℕ → Read → Type 0
 WordIs text (Whole n k) = Stands (take n text) text (drop n text) × BreaksNone text × (k ≡ shape_of (take n text)) × (0 < n) × (n ≤ length text)

@@ -1,5 +1,5 @@
 -- The chapter "Tokens", which fault of a text is reported. The code stops at the first one that it meets.
-use Rattle.std.specs.Prelude.{◌≡◌, ℕ, ◌≤◌, ◌+◌, List, ◌++◌, length, take}
+use Rattle.std.specs.Prelude.{◌≡◌, ℕ, ◌≤◌, ◌+◌, List, ◌++◌, length}
 use Rattle.fort_base.specs.declared.refusal.Rule.{Rule}
 use Rattle.fort_base.specs.declared.refusal.Place.{Place}
 use Rattle.fort_scan.specs.declared.TheConstants.{MOST_TOKENS}

@@ -1,5 +1,5 @@
 -- Words on lists of characters that the other files share.
-use Rattle.std.specs.Prelude.{ℕ, Bool, true, false, cond, ◌&&◌, ◌||◌, ◌==◌, List, [], ◌∷◌}
+use Rattle.std.specs.Prelude.{ℕ, Bool, true, false, ◌&&◌, ◌||◌, ◌==◌, List, [], ◌∷◌}
 
 -- whether each character passes
 abbrev pub every : (ℕ → Bool) → List ℕ → Bool

@@ -1,4 +1,4 @@
-use Rattle.std.proofs.Common.{◌≡◌, ◌<◌, ◌≤◌, ◌^◌, ◌+◌, ◌-◌, length, drop, take, ℕ, ◌∙◌, List, [], ◌∷◌, ◌++◌, arith, subst, sym, ap, refl, length-drop, length-take, length-append}
+use Rattle.std.proofs.Common.{◌≡◌, ◌≤◌, ◌+◌, ◌-◌, length, drop, take, ℕ, ◌∙◌, List, arith, subst, ap, refl, length-drop, length-take}
 use mathlib.Core.Logic.{inl, inr}
 use Rattle.fort_scan.specs.declared.step.Step.{Step}
 use Rattle.fort_scan.specs.Gaps.{mark}
@@ -7,7 +7,7 @@ use Rattle.fort_scan.specs.Steps.{StepIs}
 use Rattle.fort_scan.specs.Tokens.{with_mark}
 use Rattle.fort_scan.proofs.Chains.{rest_is}
 use Rattle.fort_scan.proofs.Theorem.{list_is, fault_is, stuck_fault, many_is, stuck_many}
-use Rattle.fort_lex.proofs.ReadLaws.{read_more, count_read, few_read, begins_read, scalars_part}
+use Rattle.fort_lex.proofs.ReadLaws.{read_more, count_read, few_read, scalars_part}
 use Rattle.fort_lex.proofs.source.text_tokens.Goals as goal
 
 step_is : (text : List ℕ) (at : ℕ) (result s : Step) → StepIs (take (length text - at) (drop at text)) result → result ≡ s → StepIs (drop at text) s

@@ -1,4 +1,4 @@
-use Rattle.std.proofs.Common.{◌≡◌, ◌≢◌, ◌&&◌, ◌==◌, ℕ, Bool, true, false, List, [], ◌∷◌, length, refl, sym, ap, ◌∙◌, arith}
+use Rattle.std.proofs.Common.{◌≡◌, ◌≢◌, ℕ, Bool, true, false, List, length, refl, ap, ◌∙◌}
 use Rattle.fort_scan.specs.Lists.{same}
 use Rattle.fort_scan.proofs.Symbols.{same_is}
 use Rattle.fort_lex.proofs.text.is_ascii.Goals as goal

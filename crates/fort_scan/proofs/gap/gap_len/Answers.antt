@@ -1,9 +1,8 @@
-use Rattle.std.proofs.Common.{rules, ◌≡◌, ◌<◌, ◌≤◌, ◌+◌, length, drop, take, ℕ, List, ◌∷◌, ◌∙◌, [], ◌++◌, arith, subst, sym, ap, refl, length-drop}
+use Rattle.std.proofs.Common.{drop, take, ◌∷◌, ◌∙◌, [], ◌++◌, arith, subst, sym, ap, length-drop}
 use Rattle.std.proofs.lemmas.List.{drop-drop}
 use Rattle.fort_scan.specs.Chain.{Chain}
 use Rattle.fort_scan.specs.Gaps.{Part}
 use Rattle.fort_scan.specs.Scan.{part_end}
-use Rattle.fort_scan.specs.declared.gap.PartEnd.TheVariants as end
 use Rattle.fort_scan.proofs.Chains.{chain_more, rest_is, rest_some}
 use Rattle.fort_scan.proofs.Parts.{PartIs, part_is}
 use Rattle.fort_scan.proofs.gap.gap_len.Goals as goal

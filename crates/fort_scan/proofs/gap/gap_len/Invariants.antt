@@ -1,4 +1,4 @@
-use Rattle.std.proofs.Common.{◌≡◌, ◌≤◌, ◌-◌, List, ℕ, length, drop}
+use Rattle.std.proofs.Common.{◌≤◌, ◌-◌, List, ℕ, length, drop}
 use Rattle.fort_scan.specs.Chain.{Chain}
 use Rattle.fort_scan.specs.Gaps.{Part}
 use Rattle.fort_scan.proofs.gap.gap_len.Given as goal

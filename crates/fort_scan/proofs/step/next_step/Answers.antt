@@ -1,4 +1,4 @@
-use Rattle.std.proofs.Common.{◌≡◌, ◌<◌, ◌≤◌, ◌+◌, ◌-◌, length, drop, take, ℕ, ◌∙◌, List, arith, subst, sym, ap, refl, length-drop, false}
+use Rattle.std.proofs.Common.{◌≡◌, ◌<◌, ◌-◌, length, drop, take, ℕ, ◌∙◌, List, arith, subst, sym, ap, length-drop, false}
 use Rattle.fort_scan.specs.declared.word.Read.{Read}
 use Rattle.fort_scan.specs.Words.{word_of}
 use Rattle.fort_scan.specs.Gaps.{opens}

@@ -1,5 +1,4 @@
-use Rattle.std.proofs.Common.{rules, ◌≡◌, ◌<◌, ℕ, subst, arith, drop, suc, ◌∙◌, get_or, ◌+◌, ◌*◌, ◌-◌}
-use Rattle.fort_scan.specs.Spelling.{decimal}
+use Rattle.std.proofs.Common.{arith, drop, suc, get_or, ◌+◌, ◌*◌, ◌-◌}
 use Rattle.fort_scan.proofs.Digits.{decimal_grows, decimal_large, decimal_next}
 use Rattle.fort_scan.proofs.word.number.Goals as goal
 

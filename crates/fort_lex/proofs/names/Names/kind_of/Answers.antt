@@ -1,10 +1,10 @@
-use Rattle.std.proofs.Common.{◌≡◌, ℕ, List, [], ◌∷◌, ◌++◌, cond, length, Option, None, Some, refl, sym, ap, subst, ◌∙◌}
+use Rattle.std.proofs.Common.{[], ◌∷◌, ◌++◌, cond, length, Some, sym, ap, subst, ◌∙◌}
 use Rattle.std.specs.Str.{bytes_eq}
 use Rattle.std.specs.Prelude.{string_bytes}
 use Rattle.std.proofs.lemmas.Map.Text.{hash_map_updates_str}
 use Rattle.indexmap.specs.IndexMap.{get_by}
 use Rattle.fort_lex.specs.Meanings.{meaning_of, is_numbered}
-use Rattle.fort_lex.specs.Building.{KindAt, known_kind}
+use Rattle.fort_lex.specs.Building.{KindAt}
 use Rattle.fort_lex.proofs.NameLaws.{known_kind_is, known_held, new_kind_is, new_held}
 use Rattle.fort_lex.proofs.names.Names.kind_of.Goals as goal
 

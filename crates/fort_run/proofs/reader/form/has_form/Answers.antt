@@ -1,4 +1,4 @@
-use Rattle.std.proofs.Common.{length, refl}
+use Rattle.std.proofs.Common.{refl}
 use Rattle.fort_run.specs.Greeting.{form}
 use Rattle.fort_run.proofs.Fitting.{fits_on}
 use Rattle.fort_run.proofs.reader.form.has_form.Goals as goal
