@@ -1,39 +1,36 @@
 -- Two groupings that are joined are one.
-use Rattle.std.proofs.Common.{◌≡◌, ℕ, ◌+◌, ◌<◌, ◌≤◌, Bool, true, false, cond, List, [], ◌∷◌, ◌++◌, Option, Some, None, IsTrue, MatchOption, ◌⊎◌, inl, inr, refl, sym, ap, ◌∙◌, arith, subst}
-use Rattle.std.proofs.lemmas.Bool.{cases_lt}
+use Rattle.std.proofs.Common.{◌≡◌, ℕ, ◌+◌, Bool, true, false, cond, List, [], ◌∷◌, ◌++◌, Some, None, refl, sym, ap, ◌∙◌, subst}
 use Rattle.fort_ops.specs.declared.op.Op.{Op}
-use Rattle.fort_ops.specs.declared.precedence.Group.{Group}
 use Rattle.fort_ops.specs.declared.precedence.Group.TheVariants.{Relation}
 use Rattle.fort_ops.specs.declared.op.Op.TheVariants.{Juxt}
 use Rattle.fort_group.specs.declared.link.Link.{Link}
 use Rattle.fort_group.specs.declared.tree.Grouped.{Grouped, out-Grouped}
 use Rattle.fort_group.specs.declared.tree.Grouped as tree
 use Rattle.fort_group.specs.declared.tree.Grouped.TheOpen.{Grouped-F}
-use Rattle.fort_ops.specs.Precedence.{group_of, rank}
-use Rattle.fort_group.specs.Links.{rank_in, between, strength}
+use Rattle.fort_group.specs.Links.{between}
 use Rattle.fort_group.specs.declared.form.Form.{Form}
 use Rattle.fort_group.specs.declared.form.Form.TheVariants as a_form
-use Rattle.fort_group.specs.Grouping.{form_at, form_of, root_at, root, fits, Fits, FitsLeft, IsRow, two, one_more, IsGrouping, unit, row, binary, chain, IsChain, first, next}
-use Rattle.fort_group.specs.Joining.{joined_units, juxtaposed_at, juxtaposed, first_link, linked_at, linked, Pairs, JoinsBy, Joins, IsWeakest, Sound, IsTheGrouping}
-use Rattle.fort_group.proofs.Least.{out-unit, out-binary, out-chain, out-juxt}
+use Rattle.fort_group.specs.Grouping.{form_of, root, fits, Fits, IsRow, two, one_more, IsGrouping, unit, row, binary, chain, IsChain, first, next}
+use Rattle.fort_group.specs.Joining.{juxtaposed_at, linked_at, JoinsBy, Joins}
+use Rattle.fort_group.proofs.Trees.{out-unit, out-binary, out-chain, out-juxt}
 
 module _ (links : List Link) where
   is_unit : (i j : ℕ) (g : Grouped) (n : ℕ) → IsGrouping links i j g → out-Grouped g ≡ Grouped-F.Unit n → (i ≡ j) × (n ≡ i)
   is_unit i j g n unit e = let z = out-unit i in (refl, cc)
   is_unit i j g n (row {units = units} r) e = let z = out-juxt units in absurd cc
-  is_unit i j g n (binary {op = op} {l = l} {r = r} b f gl gr fl fr) e = let z = out-binary op l r in absurd cc
+  is_unit i j g n (binary {op = op} {left = l} {right = r} b f gl gr fl fr) e = let z = out-binary op l r in absurd cc
   is_unit i j g n (chain {ops = ops} {parts = parts} c) e = let z = out-chain ops parts in absurd cc
 
   is_row : (i j : ℕ) (g : Grouped) (us : List ℕ) → IsGrouping links i j g → out-Grouped g ≡ Grouped-F.Juxt us → IsRow links i j us
   is_row i j g us unit e = let z = out-unit i in absurd cc
   is_row i j g us (row {units = units} r) e = let z = out-juxt units in let d : units ≡ us = cc in subst (IsRow links i j) d r
-  is_row i j g us (binary {op = op} {l = l} {r = r} b f gl gr fl fr) e = let z = out-binary op l r in absurd cc
+  is_row i j g us (binary {op = op} {left = l} {right = r} b f gl gr fl fr) e = let z = out-binary op l r in absurd cc
   is_row i j g us (chain {ops = ops} {parts = parts} c) e = let z = out-chain ops parts in absurd cc
 
   is_chain : (i j : ℕ) (g : Grouped) (os : List Op) (ps : List Grouped) → IsGrouping links i j g → out-Grouped g ≡ Grouped-F.Chain os ps → IsChain links i j os ps
   is_chain i j g os ps unit e = let z = out-unit i in absurd cc
   is_chain i j g os ps (row {units = units} r) e = let z = out-juxt units in absurd cc
-  is_chain i j g os ps (binary {op = op} {l = l} {r = r} b f gl gr fl fr) e = let z = out-binary op l r in absurd cc
+  is_chain i j g os ps (binary {op = op} {left = l} {right = r} b f gl gr fl fr) e = let z = out-binary op l r in absurd cc
   is_chain i j g os ps (chain {ops = ops} {parts = parts} c) e =
       let z = out-chain ops parts in let d : ops ≡ os = cc in let d' : parts ≡ ps = cc in
       subst (λ o. IsChain links i j o ps) d (subst (IsChain links i j ops) d' c)

@@ -1,3 +1,4 @@
+pub mod Trees
 pub mod Ranks
 pub mod Least
 pub mod Split
@@ -8,4 +9,6 @@ pub mod Ordered
 pub mod Weakest
 pub mod Numbers
 pub mod Spaces
+pub mod Agreement
+pub mod Senses
 pub mod Rules

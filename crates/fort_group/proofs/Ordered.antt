@@ -1,10 +1,9 @@
 -- A grouping has its units in order.
-use Rattle.std.proofs.Common.{◌≡◌, ℕ, zero, suc, ◌+◌, ◌-◌, ◌<◌, ◌≤◌, List, [], ◌∷◌, ◌++◌, map, refl, sym, ap, ◌∙◌, arith, append_assoc, subst}
+use Rattle.std.proofs.Common.{◌≡◌, ℕ, zero, suc, ◌+◌, ◌-◌, List, [], ◌∷◌, ◌++◌, map, refl, sym, ap, ◌∙◌, arith, append_assoc}
 use Rattle.std.proofs.lemmas.List.{map-append, append-nil}
 use Rattle.fort_ops.specs.declared.op.Op.{Op}
 use Rattle.fort_group.specs.declared.link.Link.{Link}
 use Rattle.fort_group.specs.declared.tree.Grouped.{Grouped, fold-roll-Grouped}
-use Rattle.fort_group.specs.declared.tree.Grouped as tree
 use Rattle.fort_group.specs.declared.tree.Grouped.TheOpen.{Grouped-F}
 use Rattle.fort_group.specs.declared.tree.Grouped.TheVariants.{rolls-Unit, rolls-Binary, rolls-Chain, rolls-Juxt}
 use Rattle.fort_group.specs.Grouping.{IsRow, two, one_more, IsGrouping, unit, row, binary, chain, IsChain, first, next}
@@ -40,25 +39,25 @@ module _ (links : List Link) where
         ap units_of (sym (rolls-Unit i)) ∙ fold-roll-Grouped (List ℕ) units_step (Grouped-F.Unit i) ∙ ap (counted i) (sym h)
     ordered i j n t (row {units = us} r) e =
         ap units_of (sym (rolls-Juxt us)) ∙ fold-roll-Grouped (List ℕ) units_step (Grouped-F.Juxt us) ∙ row_ordered i j n us r e
-    ordered i j n t (binary {k = k} {op = op} {l = l} {r = r} b f gl gr fl fr) e =
+    ordered i j n t (binary {k = k} {op = op} {left = l} {right = r} b f gl gr fl fr) e =
         let d = (least links i k l gl).0 in let d' = (least links (k + 1) j r gr).0 in
         ap units_of (sym (rolls-Binary op l r)) ∙ fold-roll-Grouped (List ℕ) units_step (Grouped-F.Binary op l r)
         ∙ meets i k j ((k + 1) - i) (j - k) n (units_of l) (units_of r) (omega arith) (omega arith) e
-            (ordered i k ((k + 1) - i) l gl (omega arith)) (ordered (k + 1) j (j - k) r gr (omega arith))
+        (ordered i k ((k + 1) - i) l gl (omega arith)) (ordered (k + 1) j (j - k) r gr (omega arith))
     ordered i j n t (chain {ops = ops} {parts = parts} c) e =
         ap units_of (sym (rolls-Chain ops parts)) ∙ fold-roll-Grouped (List ℕ) units_step (Grouped-F.Chain ops parts) ∙ chained_ordered i j n ops parts c e
 
     chained_ordered : (i j n : ℕ) (ops : List Op) (parts : List Grouped) → IsChain links i j ops parts → j + 1 ≡ i + n → all_of (map units_of parts) ≡ counted i n
-    chained_ordered i j n ops parts (first {k = k} {l = l} {r = r} b f gl gr fl fr) e =
+    chained_ordered i j n ops parts (first {k = k} {left = l} {right = r} b f gl gr fl fr) e =
         let d = (least links i k l gl).0 in let d' = (least links (k + 1) j r gr).0 in
         ap (λ v. units_of l ++ v) (append-nil (units_of r))
         ∙ meets i k j ((k + 1) - i) (j - k) n (units_of l) (units_of r) (omega arith) (omega arith) e
-            (ordered i k ((k + 1) - i) l gl (omega arith)) (ordered (k + 1) j (j - k) r gr (omega arith))
-    chained_ordered i j n ops parts (next {k = k} {ops = ops'} {parts = parts'} {r = r} c b f gr fr) e =
+        (ordered i k ((k + 1) - i) l gl (omega arith)) (ordered (k + 1) j (j - k) r gr (omega arith))
+    chained_ordered i j n ops parts (next {k = k} {ops = ops'} {parts = parts'} {right = r} c b f gr fr) e =
         let d = (chained_least links i k ops' parts' c).0 in let d' = (least links (k + 1) j r gr).0 in
         ap all_of (map-append units_of parts' (r ∷ [])) ∙ all_append (map units_of parts') (units_of r)
         ∙ meets i k j ((k + 1) - i) (j - k) n (all_of (map units_of parts')) (units_of r) (omega arith) (omega arith) e
-            (chained_ordered i k ((k + 1) - i) ops' parts' c (omega arith)) (ordered (k + 1) j (j - k) r gr (omega arith))
+        (chained_ordered i k ((k + 1) - i) ops' parts' c (omega arith)) (ordered (k + 1) j (j - k) r gr (omega arith))
 
-pub ordered_law : (links : List Link) → UnitsInOrder links
+pub ordered_law : UnitsInOrder
 ordered_law links i j n t g e = ordered links i j n t g e

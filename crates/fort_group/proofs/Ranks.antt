@@ -1,13 +1,13 @@
 -- What is over another group has the larger rank.
-use Rattle.std.proofs.Common.{◌≡◌, ℕ, ◌+◌, ◌<◌, ◌≤◌, Bool, true, false, Option, Some, None, IsTrue, ◌⊎◌, inl, inr, refl, sym, ap, ◌∙◌, arith, subst}
+use Rattle.std.proofs.Common.{◌≡◌, ℕ, ◌<◌, ◌≤◌, Option, Some, None, IsTrue, inl, inr, sym, ap, ◌∙◌, arith}
 use Rattle.fort_ops.specs.declared.op.Op.{Op}
 use Rattle.fort_ops.specs.declared.precedence.Group.{Group}
-use Rattle.fort_ops.specs.declared.precedence.Group.TheVariants.{Adjacent, Product, Sum, Bits, Span, Relation, Conjunction, Disjunction, Own}
+use Rattle.fort_ops.specs.declared.precedence.Group.TheVariants.{Adjacent}
 use Rattle.fort_group.specs.declared.tree.Grouped.{Grouped, out-Grouped}
 use Rattle.fort_group.specs.declared.tree.Grouped.TheOpen.{Grouped-F}
 use Rattle.fort_ops.proofs.Ranks.{rank_falls}
-use Rattle.fort_ops.specs.Precedence.{group_of, pair, rank}
-use Rattle.fort_group.specs.Grouping.{root_at, root, fits, Fits, FitsLeft, Continues}
+use Rattle.fort_ops.specs.Precedence.{group_of, rank}
+use Rattle.fort_group.specs.Grouping.{root_at, root, fits, FitsLeft, Continues}
 
 -- a unit counts as stronger than all
 abbrev pub rank_over : Option Group → ℕ

@@ -1,14 +1,15 @@
 -- The rule that is broken, from what the code has asked.
-use Rattle.std.proofs.Common.{◌≡◌, ℕ, Bool, true, false, not, refl, List, length, Option, Some, None, sym, ◌∙◌, ap}
+use Rattle.std.proofs.Common.{◌≡◌, Bool, true, false, not, refl, List, length, Some, None, Ok, sym}
 use Rattle.fort_base.specs.declared.refusal.Place.{Place}
 use Rattle.fort_group.specs.declared.answer.TheConstants.{MIXED_SPACING, NO_PRECEDENCE, SPACING_CONTRADICTS, BAD_CHAIN}
 use Rattle.fort_group.specs.declared.link.Link.{Link}
 use Rattle.fort_group.specs.declared.tree.Grouped.{Grouped}
-use Rattle.fort_group.specs.Grouping.{IsGrouping}
-use Rattle.fort_group.specs.Spacing.{first_mixed, spaced}
-use Rattle.fort_group.specs.Chains.{sensible}
+use Rattle.fort_group.specs.Spacing.{first_mixed}
+use Rattle.fort_group.specs.Walks.{spaced, sensible}
 use Rattle.fort_group.specs.Joining.{IsTheGrouping}
-use Rattle.fort_group.specs.Answers.{IsOnly, Breaks, mixed_spacing, no_precedence, spacing_contradicts, bad_chain}
+use Rattle.fort_group.proofs.Agreement as agreement
+use Rattle.fort_group.proofs.Senses as senses
+use Rattle.fort_group.specs.Answers.{IsOnly, Breaks, Answers, mixed_spacing, no_precedence, spacing_contradicts, bad_chain}
 
 pub is_false : (b : Bool) → not b ≡ true → b ≡ false
 is_false true e = absurd (cc e)
@@ -29,7 +30,10 @@ module _ (links : List Link) (start : Place) where
   none_there even the = no_precedence (sym even) (λ h g. let same = the.only h g in absurd cc)
 
   pub contradicts : (g : Grouped) → None ≡ first_mixed links → IsTheGrouping links 0 (length links) (Some g) → (spaced links g).good ≡ false → Breaks links start SPACING_CONTRADICTS start
-  contradicts g even the bad = spacing_contradicts (sym even) (only g the) bad
+  contradicts g even the bad = spacing_contradicts (sym even) (only g the) (λ all. let z = (agreement.tells links g).good all in absurd cc)
 
   pub senseless : (g : Grouped) → None ≡ first_mixed links → IsTheGrouping links 0 (length links) (Some g) → (spaced links g).good ≡ true → sensible g ≡ false → Breaks links start BAD_CHAIN start
-  senseless g even the good bad = bad_chain (sym even) (only g the) good bad
+  senseless g even the good bad = bad_chain (sym even) (only g the) ((agreement.tells links g).agrees good) (λ all. let z = (senses.tells g).passes all in absurd cc)
+
+  pub whole : (g : Grouped) → None ≡ first_mixed links → IsTheGrouping links 0 (length links) (Some g) → (spaced links g).good ≡ true → sensible g ≡ true → Answers links start (Ok g)
+  whole g even the good sense = (sym even, only g the, (agreement.tells links g).agrees good, (senses.tells g).good sense)

@@ -1,5 +1,5 @@
 -- One part more in a chain.
-use Rattle.std.proofs.Common.{◌≡◌, ℕ, suc, Bool, true, false, not, ◌&&◌, ◌||◌, List, [], ◌∷◌, ◌++◌, map, length, take, get_or, ◌+◌, ◌<◌, refl, sym, ap, ◌∙◌, arith}
+use Rattle.std.proofs.Common.{◌≡◌, ℕ, suc, Bool, true, false, not, ◌&&◌, ◌||◌, List, [], ◌∷◌, ◌++◌, length, take, get_or, ◌+◌, ◌<◌, refl, sym, ap, ◌∙◌, arith}
 use Rattle.std.proofs.Math.Seq.{take-suc}
 use Rattle.std.proofs.lemmas.List.{map-append}
 use Rattle.fort_ops.specs.declared.op.Op.{Op}
@@ -9,7 +9,8 @@ use Rattle.fort_group.specs.declared.tree.Grouped.{Grouped, fold-Grouped, fold-r
 use Rattle.fort_group.specs.declared.tree.Grouped as tree
 use Rattle.fort_group.specs.declared.tree.Grouped.TheOpen.{Grouped-F}
 use Rattle.fort_group.specs.declared.tree.Grouped.TheVariants.{rolls-Chain}
-use Rattle.fort_group.specs.Spacing.{loose_before, chain_spaced, spaced_step, spaced, all_spaced, all_good, some_loose_part, some_loose, some_tight}
+use Rattle.fort_group.specs.Spacing.{loose_before}
+use Rattle.fort_group.specs.Walks.{chain_spaced, spaced_step, spaced, all_spaced, all_good, some_loose_part, some_loose, some_tight}
 
 and_true : (a b c : Bool) → (a && b) && c ≡ a && (b && c)
 and_true true b c = refl

@@ -1,8 +1,7 @@
 -- Each grouping is a unit, or two groupings joined at the last of its weakest places.
-use Rattle.std.proofs.Common.{◌≡◌, ℕ, ◌+◌, ◌<◌, ◌≤◌, Bool, true, false, cond, List, [], ◌∷◌, ◌++◌, Option, Some, None, IsTrue, MatchOption, ◌⊎◌, inl, inr, refl, sym, ap, ◌∙◌, arith, subst}
+use Rattle.std.proofs.Common.{◌≡◌, ℕ, ◌+◌, ◌<◌, ◌≤◌, false, cond, List, [], ◌∷◌, Option, Some, None, inl, inr, refl, sym, ap, ◌∙◌, arith, subst}
 use Rattle.std.proofs.lemmas.Bool.{cases_lt}
 use Rattle.fort_ops.specs.declared.op.Op.{Op}
-use Rattle.fort_ops.specs.declared.precedence.Group.{Group}
 use Rattle.fort_ops.specs.declared.precedence.Group.TheVariants.{Relation}
 use Rattle.fort_ops.specs.declared.op.Op.TheVariants.{Juxt}
 use Rattle.fort_group.specs.declared.link.Link.{Link}
@@ -11,21 +10,23 @@ use Rattle.fort_group.specs.declared.tree.Grouped as tree
 use Rattle.fort_group.specs.declared.tree.Grouped.TheOpen.{Grouped-F}
 use Rattle.fort_ops.specs.Precedence.{group_of, rank}
 use Rattle.fort_group.specs.Links.{rank_in, between, strength}
-use Rattle.fort_group.specs.declared.form.Form.{Form}
 use Rattle.fort_group.specs.declared.form.Form.TheVariants as a_form
-use Rattle.fort_group.specs.Grouping.{form_at, form_of, root_at, root, fits, Fits, FitsLeft, IsRow, two, one_more, IsGrouping, unit, row, binary, chain, IsChain, first, next}
-use Rattle.fort_group.specs.Joining.{joined_units, juxtaposed_at, juxtaposed, first_link, linked_at, linked, Pairs, JoinsBy, Joins, IsWeakest, Sound, IsTheGrouping}
+use Rattle.fort_group.specs.Grouping.{form_of, root_at, root, fits, Fits, FitsLeft, IsRow, two, one_more, IsGrouping, unit, row, binary, chain, IsChain, first, next}
+use Rattle.fort_group.specs.Joining.{juxtaposed_at, linked_at, linked, Pairs, JoinsBy, Joins, IsWeakest}
 use Rattle.fort_group.proofs.Ranks.{rank_over, fits_rank, left_rank}
-use Rattle.fort_group.proofs.Least.{out-unit, out-binary, out-chain, out-juxt, relation_rank, AtLeast, beside, least, chained_least}
+use Rattle.fort_group.proofs.Trees.{out-unit, out-chain, out-juxt}
+use Rattle.fort_group.proofs.Least.{relation_rank, AtLeast, beside, least, chained_least}
 
 module _ (links : List Link) where
   weakest_once : (i j k m : ℕ) → IsWeakest links i j k → IsWeakest links i j m → k ≡ m
   weakest_once i j k m v w =
       elim (cases_lt k m) as (λ z. k ≡ m) [
-        inl h ↦ (let a = v.last m h w.to in let b = w.least k v.from v.to in absurd (omega arith))
-      | inr h ↦ elim (cases_lt m k) as (λ z. k ≡ m) [
-          inl h' ↦ (let a = w.last k h' v.to in let b = v.least m w.from w.to in absurd (omega arith))
-        | inr h' ↦ omega arith ] ]
+        | inl h ↦ (let a = v.last m h w.to in let b = w.least k v.from v.to in absurd (omega arith))
+        | inr h ↦ elim (cases_lt m k) as (λ z. k ≡ m) [
+          | inl h' ↦ (let a = w.last k h' v.to in let b = v.least m w.from w.to in absurd (omega arith))
+          | inr h' ↦ omega arith
+        ]
+      ]
 
   -- a place of strength m between sides that are at least m and above it
   weakest_at : (i k j m x y : ℕ) → strength links k ≡ m → i ≤ k → k + 1 ≤ j → AtLeast links i k x → m ≤ x → AtLeast links (k + 1) j y → m < y → IsWeakest links i j k
@@ -106,7 +107,7 @@ module _ (links : List Link) where
       }
 
   chained_split : (i j : ℕ) (ops : List Op) (parts : List Grouped) → IsChain links i j ops parts → Split i j (tree.Chain ops parts)
-  chained_split i j ops parts (first {k = k} {op = op} {l = l} {r = r} b e gl gr fl fr) =
+  chained_split i j ops parts (first {k = k} {op = op} {left = l} {right = r} b e gl gr fl fr) =
       let hl = least links i k l gl in
       let hr = least links (k + 1) j r gr in
       let f : 2 < rank_over (root l) = fits_rank (root l) Relation fl in
@@ -124,7 +125,7 @@ module _ (links : List Link) where
           joins = joins_linked op l r _ e fr (not_chain_fits [] l r (out-Grouped l) refl fl op);
         };
       }
-  chained_split i j ops parts (next {k = k} {ops = ops'} {parts = parts'} {op = op} {r = r} c b e gr fr) =
+  chained_split i j ops parts (next {k = k} {ops = ops'} {parts = parts'} {op = op} {right = r} c b e gr fr) =
       let hl = chained_least links i k ops' parts' c in
       let hr = least links (k + 1) j r gr in
       record {
@@ -146,7 +147,7 @@ module _ (links : List Link) where
   split i j h unit lt = absurd (omega arith)
   split i j h (row {units = units} r) lt = row_split i j units r
   split i j h (chain {ops = ops} {parts = parts} c) lt = chained_split i j ops parts c
-  split i j h (binary {k = k} {op = op} {l = l} {r = r} b e gl gr fl fr) lt =
+  split i j h (binary {k = k} {op = op} {left = l} {right = r} b e gl gr fl fr) lt =
       let hl = least links i k l gl in
       let hr = least links (k + 1) j r gr in
       record {

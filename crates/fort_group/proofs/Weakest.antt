@@ -1,5 +1,5 @@
 -- One place more.
-use Rattle.std.proofs.Common.{◌≡◌, ℕ, ◌+◌, ◌<◌, ◌≤◌, List, ◌⊎◌, inl, inr, refl, sym, ap, ◌∙◌, arith, subst}
+use Rattle.std.proofs.Common.{◌≡◌, ℕ, ◌+◌, ◌<◌, ◌≤◌, List, inl, inr, ap, arith}
 use Rattle.std.proofs.lemmas.Bool.{cases_lt}
 use Rattle.fort_group.specs.declared.link.Link.{Link}
 use Rattle.fort_group.specs.Links.{strength}
@@ -17,9 +17,13 @@ module _ (links : List Link) where
     from = w.from;
     to = let a = w.to in omega arith;
     least = λ m a b. elim (cases_lt m n) as (λ z. strength links k ≤ strength links m) [
-      inl h ↦ w.least m a h | inr h ↦ (let e = same_strength m n (omega arith) in omega arith) ];
+      | inl h ↦ w.least m a h
+      | inr h ↦ (let e = same_strength m n (omega arith) in omega arith)
+    ];
     last = λ m a b. elim (cases_lt m n) as (λ z. strength links k < strength links m) [
-      inl h ↦ w.last m a h | inr h ↦ (let e = same_strength m n (omega arith) in omega arith) ];
+      | inl h ↦ w.last m a h
+      | inr h ↦ (let e = same_strength m n (omega arith) in omega arith)
+    ];
   }
 
   pub moves : (i n k : ℕ) → IsWeakest links i n k → strength links n ≤ strength links k → IsWeakest links i (n + 1) n
@@ -27,6 +31,8 @@ module _ (links : List Link) where
     from = let a = w.from in let b = w.to in omega arith;
     to = omega arith;
     least = λ m a b. elim (cases_lt m n) as (λ z. strength links n ≤ strength links m) [
-      inl h ↦ (let e = w.least m a h in omega arith) | inr h ↦ (let e = same_strength m n (omega arith) in omega arith) ];
+      | inl h ↦ (let e = w.least m a h in omega arith)
+      | inr h ↦ (let e = same_strength m n (omega arith) in omega arith)
+    ];
     last = λ m a b. absurd (omega arith);
   }

@@ -1,5 +1,5 @@
 -- The chapter "Operators", its groupings. The code divides at the last of the weakest operators.
-use Rattle.std.specs.Prelude.{◌≡◌, ℕ, ◌+◌, Bool, true, false, List, [], ◌∷◌, ◌++◌, Option, Some, None, IsTrue, ◌⊎◌}
+use Rattle.std.specs.Prelude.{◌≡◌, ℕ, ◌+◌, Bool, true, List, [], ◌∷◌, ◌++◌, Option, Some, None, IsTrue, ◌⊎◌}
 use Rattle.fort_ops.specs.declared.op.Op.{Op}
 use Rattle.fort_ops.specs.declared.op.Op.TheVariants.{Juxt}
 use Rattle.fort_ops.specs.declared.precedence.Group.{Group}
@@ -13,6 +13,7 @@ use Rattle.fort_group.specs.declared.tree.Grouped as tree
 use Rattle.fort_group.specs.declared.tree.Grouped.TheOpen.{Grouped-F}
 use Rattle.fort_group.specs.Links.{between}
 
+-- the form of the nodes that a group makes
 abbrev pub form_at : Group → Form
 form_at Adjacent = a_form.Row
 form_at Relation = a_form.Chain
@@ -22,9 +23,10 @@ form_at _ = a_form.Binary
 abbrev pub form_of : Op → Form
 form_of op = form_at (group_of op)
 
+-- the group of a node by its layer
 abbrev pub root_at : Grouped-F Grouped → Option Group
 root_at (Grouped-F.Unit n) = None
-root_at (Grouped-F.Binary op l r) = Some (group_of op)
+root_at (Grouped-F.Binary op left right) = Some (group_of op)
 root_at (Grouped-F.Chain ops parts) = Some Relation
 root_at (Grouped-F.Juxt units) = Some Adjacent
 
@@ -32,6 +34,7 @@ root_at (Grouped-F.Juxt units) = Some Adjacent
 abbrev pub root : Grouped → Option Group
 root t = root_at (out-Grouped t)
 
+-- nothing there, or a group over the parent's
 abbrev pub fits : Option Group → Group → Bool
 fits None parent = true
 fits (Some child) parent = pair child parent
@@ -44,8 +47,9 @@ Fits t parent = IsTrue (fits (root t) parent)
 abbrev pub SameSide : Op → Op → Type 0
 SameSide other op = (other ≡ op) ⊎ ((group_of other ≡ Sum) × (group_of op ≡ Sum))
 
+-- a binary node whose operator is on the same side
 abbrev pub Continues : Grouped-F Grouped → Op → Type 0
-Continues (Grouped-F.Binary other l r) op = SameSide other op
+Continues (Grouped-F.Binary other left right) op = SameSide other op
 Continues (Grouped-F.Unit n) op = ⊥
 Continues (Grouped-F.Chain ops parts) op = ⊥
 Continues (Grouped-F.Juxt units) op = ⊥
@@ -65,20 +69,20 @@ mutual
     unit : {i : ℕ} → IsGrouping links i i (tree.Unit i)
     row : {i j : ℕ} {units : List ℕ} → IsRow links i j units → IsGrouping links i j (tree.Juxt units)
     binary :
-        {i k j : ℕ} {op : Op} {l r : Grouped}
+        {i k j : ℕ} {op : Op} {left right : Grouped}
         → between links k ≡ Some op → form_of op ≡ a_form.Binary
-        → IsGrouping links i k l → IsGrouping links (k + 1) j r
-        → FitsLeft l op → Fits r (group_of op) → IsGrouping links i j (tree.Binary op l r)
+        → IsGrouping links i k left → IsGrouping links (k + 1) j right
+        → FitsLeft left op → Fits right (group_of op) → IsGrouping links i j (tree.Binary op left right)
     chain : {i j : ℕ} {ops : List Op} {parts : List Grouped} → IsChain links i j ops parts → IsGrouping links i j (tree.Chain ops parts)
 
   -- relational operators with groupings before, between and after them, over the units from i to j
   pub data IsChain (links : List Link) : ℕ → ℕ → List Op → List Grouped → Type 0 where
     first :
-        {i k j : ℕ} {op : Op} {l r : Grouped}
+        {i k j : ℕ} {op : Op} {left right : Grouped}
         → between links k ≡ Some op → form_of op ≡ a_form.Chain
-        → IsGrouping links i k l → IsGrouping links (k + 1) j r
-        → Fits l Relation → Fits r Relation → IsChain links i j (op ∷ []) (l ∷ r ∷ [])
+        → IsGrouping links i k left → IsGrouping links (k + 1) j right
+        → Fits left Relation → Fits right Relation → IsChain links i j (op ∷ []) (left ∷ right ∷ [])
     next :
-        {i k j : ℕ} {ops : List Op} {parts : List Grouped} {op : Op} {r : Grouped}
+        {i k j : ℕ} {ops : List Op} {parts : List Grouped} {op : Op} {right : Grouped}
         → IsChain links i k ops parts → between links k ≡ Some op → form_of op ≡ a_form.Chain
-        → IsGrouping links (k + 1) j r → Fits r Relation → IsChain links i j (ops ++ op ∷ []) (parts ++ r ∷ [])
+        → IsGrouping links (k + 1) j right → Fits right Relation → IsChain links i j (ops ++ op ∷ []) (parts ++ right ∷ [])

@@ -4,6 +4,7 @@ use Rattle.fort_ops.specs.declared.op.Op.{Op}
 use Rattle.fort_ops.specs.Precedence.{group_of, rank}
 use Rattle.fort_group.specs.declared.link.Link.{Link}
 
+-- the operator of a link that is there
 abbrev pub operator_in : Option Link → Option Op
 operator_in (Some link) = Some link.op
 operator_in None = None
@@ -12,6 +13,7 @@ operator_in None = None
 abbrev pub between : List Link → ℕ → Option Op
 between links n = operator_in (slice_get links n)
 
+-- the rank of an operator that is there
 abbrev pub rank_in : Option Op → ℕ
 rank_in (Some op) = rank (group_of op)
 rank_in None = 0

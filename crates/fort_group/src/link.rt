@@ -37,7 +37,8 @@ fn own_rank(op: Op) -> u8
 {
     match op {
         Op::Juxt => 6,
-        Op::Times | Op::Dot | Op::Div | Op::Rem | Op::Mod | Op::Max | Op::Min | Op::Gcd | Op::Lcm => 5,
+        Op::Times | Op::Dot | Op::Div | Op::Rem | Op::Mod | Op::Max | Op::Min | Op::Gcd | Op::Lcm =>
+            5,
         Op::Plus | Op::Minus => 4,
         Op::BitAnd | Op::BitOr | Op::BitXor | Op::LShift | Op::RShift => 3,
         Op::Range | Op::Count | Op::Not | Op::Power | Op::Word(_) => 3,

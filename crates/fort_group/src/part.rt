@@ -26,7 +26,12 @@ fn weakest(links: &[Link], from: usize, to: usize) -> usize
 /// none.
 ///
 /// It divides at the last of the weakest operators, since no grouping has its root anywhere else.
-pub fn part(alloc: Global, links: &[Link], from: usize, to: usize) -> Result<Option<Grouped>, Memory>
+pub fn part(
+    alloc: Global,
+    links: &[Link],
+    from: usize,
+    to: usize,
+) -> Result<Option<Grouped>, Memory>
     requires { (from ≤ to) × (to ≤ length links.now) }
     ensures { IfOk result (λ o. IsTheGrouping links.now from to o) }
 {

@@ -1,12 +1,14 @@
 ghost use Rattle.std.specs.Prelude.{◌≡◌, ◌<◌, length};
-ghost use Rattle.fort_group.specs.Spacing.{is_mixed, first_mixed, loose_before, binary_spaced, chain_spaced, spaced, all_spaced};
+ghost use Rattle.fort_group.specs.Spacing.{is_mixed, first_mixed, loose_before};
+ghost use Rattle.fort_group.specs.Walks.{binary_spaced, chain_spaced, spaced, all_spaced};
 
 use crate::link::Link;
 use crate::tree::Grouped;
 use fort_base::{List, Place};
 use fort_ops::Op;
 
-/// A part's first unit, whether its node is loose, and whether no tight node below has a loose child.
+/// What a tree's spacing is: its first unit, whether it is a juxtaposition or has a loose operator
+/// at its root, and whether the spacing agrees with the grouping at each of its nodes.
 #[derive(Clone, Copy)]
 pub struct Spaced {
     pub first: usize,
@@ -14,31 +16,29 @@ pub struct Spaced {
     pub good: bool,
 }
 
-impl Link {
-    /// Has an infix operator a gap on one side only?
-    pub fn is_mixed(&self) -> bool
-        ensures { result ≡ is_mixed self.now }
-    {
-        match self.op {
-            Op::Juxt => false,
-            _ => self.before != self.after,
-        }
+/// Whether an infix operator has a gap on one side only.
+fn is_mixed(link: &Link) -> bool
+    ensures { result ≡ is_mixed link.now }
+{
+    match link.op {
+        Op::Juxt => false,
+        _ => link.before != link.after,
     }
 }
 
-/// The place of the first operator with a gap on one side only.
-pub fn mixed(links: &[Link]) -> Option<Place>
+/// The place of the first operator with a gap on one side only, or `None` where there is none.
+pub fn first_mixed(links: &[Link]) -> Option<Place>
     ensures { result ≡ first_mixed links.now }
 {
     for link in links {
-        if link.is_mixed() {
+        if is_mixed(link) {
             return Some(link.place);
         }
     }
     None
 }
 
-/// Is the operator before this unit loose?
+/// Whether the operator before a unit is loose.
 fn is_loose_before(links: &[Link], unit: usize) -> bool
     ensures { result ≡ loose_before links.now unit }
 {
@@ -51,6 +51,7 @@ fn is_loose_before(links: &[Link], unit: usize) -> bool
     }
 }
 
+/// The spacing of a binary node, from its children's.
 fn of_binary(links: &[Link], left: Spaced, right: Spaced) -> Spaced
     ensures { result ≡ binary_spaced links.now left right }
 {
@@ -62,39 +63,59 @@ fn of_binary(links: &[Link], left: Spaced, right: Spaced) -> Spaced
     }
 }
 
-impl Grouped {
-    #[cycle(spacing)]
-    #[tactic(auto, using(crate::proofs::Spaces::chain_law))]
-    pub fn spacing(&self, links: &[Link]) -> Spaced
-        ensures { result ≡ spaced links.now self.now }
-    {
-        match self {
-            Grouped::Unit(unit) => Spaced { first: *unit, loose: false, good: true },
-            Grouped::Juxt(units) => match units.get(0) {
-                Some(unit) => Spaced { first: *unit, loose: true, good: true },
-                None => Spaced { first: 0, loose: true, good: true },
+/// The spacing of a tree. An operator's gaps are found by the first unit of the part behind it.
+#[cycle(spacing)]
+#[tactic(auto, using(crate::proofs::Spaces::chain_law))]
+pub fn spacing_of(tree: &Grouped, links: &[Link]) -> Spaced
+    ensures { result ≡ spaced links.now tree.now }
+{
+    match tree {
+        Grouped::Unit(unit) => Spaced {
+            first: *unit,
+            loose: false,
+            good: true,
+        },
+        Grouped::Juxt(units) => match units.get(0) {
+            Some(unit) => Spaced {
+                first: *unit,
+                loose: true,
+                good: true,
             },
-            Grouped::Binary(_, left, right) => of_binary(links, left.get().spacing(links), right.get().spacing(links)),
-            Grouped::Chain(_, parts) => of_chain(parts, links),
-        }
+            None => Spaced {
+                first: 0,
+                loose: true,
+                good: true,
+            },
+        },
+        Grouped::Binary(_, left, right) => of_binary(
+            links,
+            spacing_of(left.get(), links),
+            spacing_of(right.get(), links),
+        ),
+        Grouped::Chain(_, parts) => of_chain(parts, links),
     }
 }
 
+/// The spacing of a chain.
 #[cycle(spacing)]
 #[tactic(auto, using(crate::proofs::Spaces::good_last, crate::proofs::Spaces::loose_part_last, crate::proofs::Spaces::loose_last, crate::proofs::Spaces::tight_last))]
 fn of_chain(parts: &List<Grouped>, links: &[Link]) -> Spaced
     ensures { result ≡ chain_spaced links.now (all_spaced links.now parts.now) }
 {
     match parts.as_slice().split_first() {
-        None => Spaced { first: 0, loose: false, good: true },
+        None => Spaced {
+            first: 0,
+            loose: false,
+            good: true,
+        },
         Some((head, rest)) => {
-            let first = head.spacing(links);
+            let first = spacing_of(head, links);
             let mut good = first.good;
             let mut loose_part = first.loose;
             let mut loose = false;
             let mut tight = false;
             for part in rest {
-                let next = part.spacing(links);
+                let next = spacing_of(part, links);
                 let is_loose = is_loose_before(links, next.first);
                 good = good & next.good;
                 loose_part = loose_part | next.loose;

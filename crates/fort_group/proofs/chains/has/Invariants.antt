@@ -1,5 +1,5 @@
 use Rattle.std.proofs.Common.{◌≡◌, drop}
-use Rattle.fort_group.specs.Chains.{has_sense}
+use Rattle.fort_group.specs.Walks.{has_sense}
 use Rattle.fort_group.proofs.chains.has.Given as goal
 
 abbrev pub invariant-loop-op : goal.invariant-loop-op

@@ -1,4 +1,3 @@
-use Rattle.std.proofs.Common.{◌≡◌, ℕ, ◌+◌, arith, sym}
 use Rattle.fort_group.specs.Joining.{Joins, IsTheGrouping}
 use Rattle.fort_group.proofs.Whole.{one_unit, none_left, none_right, both, if_ok_map}
 use Rattle.fort_group.proofs.part.+part.Goals as goal
@@ -18,5 +17,5 @@ pub returns-in-Some-2 : goal.returns-in-Some-2
 returns-in-Some-2 t c =
     if_ok_map (Joins c.operator_at-op.result c.in-Some.left c.in-Some-2.right) (IsTheGrouping c.args.links.now c.args.from c.args.to) c.join.result
     (λ o m. both c.args.links.now _ _ _ c.operator_at-op.result c.in-Some.left c.in-Some-2.right o c.weakest-at.ensures c.operator_at-op.ensures
-        (rw c.in-Some.is at c.in_ok-part.ensures) (rw c.in-Some-2.is at c.in_ok-part-in-Some.ensures) m)
+    (rw c.in-Some.is at c.in_ok-part.ensures) (rw c.in-Some-2.is at c.in_ok-part-in-Some.ensures) m)
     c.join.ensures
