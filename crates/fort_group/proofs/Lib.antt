@@ -1,0 +1,14 @@
+pub mod Trees
+pub mod Ranks
+pub mod Least
+pub mod Split
+pub mod Compose
+pub mod Whole
+pub mod Once
+pub mod Ordered
+pub mod Weakest
+pub mod Numbers
+pub mod Spaces
+pub mod Agreement
+pub mod Senses
+pub mod Rules

@@ -1,0 +1,10 @@
+pub mod Links
+pub mod Grouping
+pub mod Yield
+pub mod Nodes
+pub mod Spacing
+pub mod Chains
+pub mod Answers
+pub mod Numbers
+pub mod Joining
+pub mod Walks
