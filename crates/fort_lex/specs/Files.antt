@@ -1,5 +1,5 @@
 -- The chapter "Tokens", whole: the tokens of a file, or the rule that it breaks. The code scans the file once.
-use Rattle.std.specs.Prelude.{◌≡◌, ℕ, ◌+◌, cond, List, [], ◌∷◌, ◌++◌, map, take, Result, Ok, Err, encode_utf8_all}
+use Rattle.std.specs.Prelude.{◌≡◌, ℕ, ◌+◌, cond, List, [], ◌∷◌, ◌++◌, map, take, Result, Ok, Err, encode_utf8_all, ◌<◌, length, All}
 use Rattle.std.specs.Str.{chars, IsUtf8, IsValidUpTo}
 use Rattle.fort_base.specs.declared.refusal.Rule.{Rule}
 use Rattle.fort_base.specs.declared.refusal.Place.{Place}
@@ -10,6 +10,10 @@ use Rattle.fort_scan.specs.Lists.{same}
 use Rattle.fort_scan.specs.Places.{place_after, the_start, gap_kind}
 use Rattle.fort_scan.specs.Tokens.{Piece}
 use Rattle.fort_scan.specs.Faults.{IsList, IsFault, IsMany}
+use Rattle.fort_ops.specs.declared.op.Op.{Op}
+use Rattle.fort_ops.specs.declared.op.Op.TheVariants as an_op
+use Rattle.fort_token.specs.declared.token.Kind.{Kind}
+use Rattle.fort_token.specs.declared.token.Kind.TheVariants as kind
 use Rattle.fort_token.specs.declared.token.Token.{Token}
 use Rattle.fort_token.specs.declared.token.Tokens.{Tokens}
 use Rattle.fort_lex.specs.Meanings.{has_number, is_text_word, Means, said}
@@ -59,6 +63,24 @@ pub record StandsFor (pieces : List Piece) (ts : Tokens) : Type 0 where
   pub list : AreTokens (names_of pieces) the_start 0 pieces ts.list
   pub names : ts.names ≡ map encode_utf8_all (names_of pieces)
   pub texts : ts.texts ≡ texts_of pieces
+
+-- an operator word's number is below so many names
+abbrev pub IsOpWithin : ℕ → Op → Type 0
+IsOpWithin names (an_op.Word n) = n < names
+IsOpWithin names _ = Unit {0}
+
+-- the numbers in a kind are below so many names and so many texts
+abbrev pub IsKindWithin : ℕ → ℕ → Kind → Type 0
+IsKindWithin names texts (kind.Word r) = Unit {0}
+IsKindWithin names texts (kind.Name id) = id.0 < names
+IsKindWithin names texts (kind.Number n) = Unit {0}
+IsKindWithin names texts (kind.Text n) = n < texts
+IsKindWithin names texts (kind.Op op) = IsOpWithin names op
+IsKindWithin names texts (kind.Mark m) = Unit {0}
+
+-- Each token's numbers are those of names and texts that are there.
+abbrev pub HasItsNumbers : Tokens → Type 0
+HasItsNumbers ts = All (λ t. IsKindWithin (length ts.names) (length ts.texts) t.kind) ts.list
 
 -- The file has these tokens.
 pub record HasTokens (bytes : List ℕ) (ts : Tokens) : Type 0 where

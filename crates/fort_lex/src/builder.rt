@@ -80,10 +80,12 @@ impl<'a> Builder<'a> {
         requires some { 0 < length word.now }
         requires scalars { scalars word.now ≡ true }
         requires shape { shape ≡ shape_of word.now }
-        ensures held { OnOk result ((ps : Seq Piece) → Holds ps self.old → Holds (ps ++ record { gap = gap.now; word = word.now } ∷ []) self.new) }
+        ensures held { OnOk result ((ps : Seq Piece) → Holds ps self.old
+            → Holds (ps ++ record { gap = gap.now; word = word.now } ∷ []) self.new) }
         ensures one { OnOk result (length self.new.list ≡ length self.old.list + 1) }
         ensures begun { OnOk result (0 < self.new.place.column) }
-        ensures small { OnOk result (self.new.place.line + self.new.place.column ≤ self.old.place.line + self.old.place.column + length gap.now + length word.now) }
+        ensures small { OnOk result (self.new.place.line + self.new.place.column
+            ≤ self.old.place.line + self.old.place.column + length gap.now + length word.now) }
     {
         let kind = self.kind_of(alloc, word, shape)?;
         let place = place_after(self.place, gap);

@@ -17,5 +17,5 @@ pub use fort_scan::{
     TOO_MANY_TOKENS,
 };
 pub use fort_token::{Kind, Mark, Reserved, Token, Tokens};
-pub use law::one_answer;
+pub use law::{no_symbol_is_a_name, one_answer};
 pub use source::tokens;

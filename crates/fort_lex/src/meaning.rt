@@ -54,7 +54,8 @@ fn has_other(letter: char, word: &[char]) -> bool
     false
 }
 
-/// Whether a name has the form of an operator word: ASCII capitals with `_` only inside, two of them different.
+/// Whether a name has the form of an operator word: ASCII capitals with `_` only inside, two of
+/// them different.
 fn has_operator_form(word: &[char]) -> bool
     ensures { result ≡ has_operator_form word.now }
 {

@@ -40,8 +40,10 @@ impl<'a> Names<'a> {
     pub fn kind_of(&mut self, alloc: Global, word: &'a [char]) -> Result<Kind, Memory>
         requires room { length self.old.names < 2 ^ 31 }
         requires scalars { scalars word.now ≡ true }
-        ensures kind { IfOk result (λ k. (words : Seq (Seq ℕ)) → HoldsNames words self.old → KindFor (words_with words word.now) word.now (meaning_of word.now) k) }
-        ensures held { OnOk result ((words : Seq (Seq ℕ)) → HoldsNames words self.old → HoldsNames (words_with words word.now) self.new) }
+        ensures kind { IfOk result (λ k. (words : Seq (Seq ℕ)) → HoldsNames words self.old
+            → KindFor (words_with words word.now) word.now (meaning_of word.now) k) }
+        ensures held { OnOk result ((words : Seq (Seq ℕ)) → HoldsNames words self.old
+            → HoldsNames (words_with words word.now) self.new) }
     {
         if let Some(kind) = self.known.get(word) {
             return Ok(*kind);
@@ -56,7 +58,8 @@ impl<'a> Names<'a> {
     fn kind_for(&mut self, meaning: Meaning, text: String) -> Result<Kind, Memory>
         requires { length self.old.names < 2 ^ 31 }
         ensures kind { IfOk result (KindAt (length self.old.names) meaning) }
-        ensures names { OnOk result (self.new.names ≡ self.old.names ++ cond (is_numbered meaning) (string_bytes text ∷ []) []) }
+        ensures names { OnOk result (self.new.names
+            ≡ self.old.names ++ cond (is_numbered meaning) (string_bytes text ∷ []) []) }
         ensures known { self.new.known ≡ self.old.known }
     {
         let number = self.names.len() as u32;

@@ -3,7 +3,7 @@ ghost use Rattle.std.specs.Str.{chars};
 ghost use Rattle.std.proofs.Math.Utf8.{scalars};
 ghost use Rattle.fort_scan.specs.Places.{place_at, place_after, the_start};
 ghost use Rattle.fort_lex.specs.Building.{TextAnswers};
-ghost use Rattle.fort_lex.specs.Files.{Answers};
+ghost use Rattle.fort_lex.specs.Files.{Answers, HasItsNumbers};
 
 use crate::builder::Builder;
 use fort_base::{CheckFault, Memory, Place, Rule};
@@ -78,14 +78,16 @@ fn torn(alloc: Global, front: &str) -> Result<Place, AllocError>
     Ok(place_after(Place { line: 1, column: 1 }, &all))
 }
 
-/// The tokens of a source file of at most 1,048,576 bytes, each with the gap before it and its place, as the chapter
-/// "Tokens" has them.
+/// The tokens of a source file, each with the gap before it and its place.
 ///
-/// `Refused` has the rule of 101 to 107 that the file breaks and its place: 101 goes first, then 107, then the earliest of
-/// 102 to 106. `Memory` says that memory was wanting.
+/// `source` is the bytes of the file, at most 1,048,576 of them. `Ok` has the file's one list of
+/// tokens, with its names and texts. `Refused` has the rule of 101 to 107 that the file breaks and
+/// the rule's place: 101 goes first, then 107, then the one of 102 to 106 at the earliest place.
+/// `Memory` says that memory was wanting. The chapter is "Tokens".
 pub fn tokens(alloc: Global, source: &[u8]) -> Result<Tokens, CheckFault>
     requires { length source.now ≤ 1048576 }
-    ensures { Answers source.now result }
+    ensures answer { Answers source.now result }
+    ensures numbers { IfOk result HasItsNumbers }
 {
     match str::from_utf8(source) {
         Ok(text) => {

@@ -19,7 +19,8 @@ pub use word::{Shape, is_name_character};
 /// The file is not UTF-8.
 pub const NOT_UTF8: Rule = Rule(101);
 
-/// A character begins no token, or a name's character directly follows a number, or a control character stands in a text.
+/// A character begins no token, or a name's character directly follows a number, or a control
+/// character stands in a text.
 pub const BAD_CHARACTER: Rule = Rule(102);
 
 /// A comment is not closed.

@@ -58,7 +58,8 @@ pub fn digits_len(text: &[char]) -> usize
 /// The number that the digits write, if it isn't too large.
 pub fn number(digits: &[char]) -> Option<u64>
     requires { every is_ascii_digit digits.now ≡ true }
-    ensures { MatchOption result (MAX_NUMBER < decimal 0 digits.now) (λ n. (n ≡ decimal 0 digits.now) × (n ≤ MAX_NUMBER)) }
+    ensures { MatchOption result (MAX_NUMBER < decimal 0 digits.now)
+        (λ n. (n ≡ decimal 0 digits.now) × (n ≤ MAX_NUMBER)) }
 {
     let mut n = 0u64;
     for i in 0..digits.len() {
