@@ -6,10 +6,10 @@ use Rattle.fort_run.proofs.reply.judged.Goals as goal
 
 pub returns-in-Ok : goal.returns-in-Ok
 returns-in-Ok c =
-    IfOk-weaker c.greeted.result _ _ (λ a judges. judges c.args.file.now (rw c.as_slice.ensures at c.in-Ok.ensures)) c.greeted.ensures
+    IfOk-weaker c.greeted.result _ _ (λ a judges. judges c.args.file.now (rw c.as_slice.ensures at c.in-Ok.ensures.answer)) c.greeted.ensures
 
 pub returns-in-Err : goal.returns-in-Err
 returns-in-Err c =
     IfOk-weaker c.refused_by.result _ _
-    (λ a e. judged_refused c.args.name c.args.file.now c.in-Err.fault a (subst (λ x. Answers x (Err c.in-Err.fault)) c.as_slice.ensures c.in-Err.ensures) e)
+    (λ a e. judged_refused c.args.name c.args.file.now c.in-Err.fault a (subst (λ x. Answers x (Err c.in-Err.fault)) c.as_slice.ensures c.in-Err.ensures.answer) e)
     c.refused_by.ensures
