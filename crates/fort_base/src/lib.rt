@@ -1,12 +1,14 @@
-//! The words that every crate shares: lists and boxes that contracts see as what they hold, places, rules and numbers.
+//! The words that every crate shares: lists and boxes that contracts see as what they hold, places, rules, numbers and types.
 #![tactic(auto)]
 
 mod boxed;
 mod ids;
 mod list;
 mod refusal;
+mod ty;
 
 pub use boxed::Boxed;
 pub use ids::{BookId, DeclId, Loc, NameId, SetId, TaskId, TypeId};
 pub use list::{Bytes, List};
 pub use refusal::{CheckFault, Gap, Memory, Place, Rule};
+pub use ty::Ty;
