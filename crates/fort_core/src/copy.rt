@@ -3,7 +3,7 @@ ghost use Rattle.std.specs.Prelude.{◌≡◌, IfOk};
 ghost use Rattle.fort_core.specs.Rests.{before};
 
 use crate::copy_parts::{
-    copy_boxed, copy_clauses, copy_last, copy_marks, copy_parameters, copy_terms,
+    copy_boxed, copy_clauses, copy_finally, copy_marks, copy_parameters, copy_terms,
 };
 use crate::term::Term;
 use fort_base::{Boxed, List, Memory, Ty};
@@ -180,7 +180,7 @@ impl Term {
                 copy_boxed(alloc, body)?,
                 *variable,
                 copy_clauses(alloc, clauses)?,
-                copy_last(alloc, last)?,
+                copy_finally(alloc, last)?,
             )),
             Term::Atomic(mode, body) => Ok(Term::Atomic(*mode, copy_boxed(alloc, body)?)),
             Term::Asleep(marks, body) => Ok(Term::Asleep(

@@ -33,12 +33,12 @@ pub fn copy_boxed(alloc: Global, term: &Boxed<Term>) -> Result<Boxed<Term>, Memo
 }
 
 #[cycle(copy)]
-pub fn copy_last(alloc: Global, last: &Option<Boxed<Term>>) -> Result<Option<Boxed<Term>>, Memory>
+pub fn copy_finally(alloc: Global, last: &Option<Boxed<Term>>) -> Result<Option<Boxed<Term>>, Memory>
     ensures { IfOk result (λ copy. copy ≡ last.now) }
 {
     match last {
         None => Ok(None),
-        Some(term) => Ok(Some(copy_boxed(alloc, term)?)),
+        Some(term) => Ok(Some(Boxed::new(alloc, term.get().copy(alloc)?)?)),
     }
 }
 
