@@ -7,6 +7,7 @@ mod form;
 mod journal;
 mod path;
 mod pick;
+mod pick_copy;
 mod primitive;
 mod program;
 mod release;
