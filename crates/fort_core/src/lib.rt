@@ -5,6 +5,7 @@ mod copy;
 mod copy_parts;
 mod form;
 mod journal;
+mod node;
 mod path;
 mod pick;
 mod pick_copy;
@@ -16,6 +17,7 @@ mod value;
 
 pub use form::{Mode, Order, Slot, Span};
 pub use journal::{Ending, Journal};
+pub use node::{ClosureNode, Node, PickNode, ValueNode};
 pub use path::Path;
 pub use pick::Pick;
 pub use primitive::Primitive;

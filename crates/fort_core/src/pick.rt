@@ -1,7 +1,9 @@
 //! The picks of a run, which may nest as deep as the fuel allows.
 ghost use Rattle.std.specs.Prelude.{◌≡◌, ◌<◌, [], MatchOption};
 ghost use Rattle.fort_core.specs.Nodes.{work};
+ghost use Rattle.fort_core.specs.Opened.{opened_pick};
 
+use crate::node::PickNode;
 use crate::path::Path;
 use fort_base::{List, Loc};
 
@@ -35,6 +37,16 @@ fn drop_all(first: List<Pick>) {
 }
 
 impl Pick {
+    /// The pick's one level; it takes no memory.
+    pub fn open(self) -> PickNode
+        ensures { result ≡ opened_pick self }
+    {
+        match self {
+            Pick::Step(path, loc) => PickNode::Step(path, loc),
+            Pick::Attempt(path, inner) => PickNode::Attempt(path, inner),
+        }
+    }
+
     // Lets go of one pick, or puts the picks that wait in the place of the last one inside it, which goes first then.
     fn shed(self, left: List<Pick>) -> (Option<Pick>, List<Pick>)
         ensures { MatchOption result.0 (result.1 ≡ []) (λ next. work next result.1 < work self left) }

@@ -1,5 +1,9 @@
 //! Terms.
+ghost use Rattle.std.specs.Prelude.{◌≡◌};
+ghost use Rattle.fort_core.specs.Opened.{opened};
+
 use crate::form::{Mode, Order, Slot, Span};
+use crate::node::Node;
 use crate::release::{drop_boxed, drop_clauses, drop_marks, drop_terms};
 use crate::value::{Closure, Value};
 use fort_base::{Boxed, List, Loc, NameId, SetId, Ty};
@@ -194,5 +198,54 @@ impl Drop for Term {
                 }
             }
         }
+    }
+}
+
+impl Term {
+    /// The term's one level; it takes no memory.
+    pub fn open(self) -> Node
+        ensures { result ≡ opened self }
+    {
+        match self {
+            Term::Value(value) => Node::Value(value),
+            Term::Throw(thrown) => Node::Throw(thrown.into_inner()),
+            Term::Variable(variable) => Node::Variable(variable),
+            Term::Group(parts) => Node::Group(parts),
+            Term::Fn(closure) => Node::Fn(closure),
+            Term::Call(set, arguments) => Node::Call(set, arguments),
+            Term::Operator(set, operands) => Node::Operator(set, operands),
+            Term::Apply(function, argument) => Node::Apply(function.into_inner(), argument.into_inner()),
+            Term::Fill(ty, size, value) => Node::Fill(ty, size.into_inner(), value.into_inner()),
+            Term::Let(variables, first, rest) => Node::Let(variables, first.into_inner(), rest.into_inner()),
+            Term::Mutable(variable, ty, first, rest) => Node::Mutable(variable, ty, first.into_inner(), rest.into_inner()),
+            Term::Read(slot) => Node::Read(slot),
+            Term::Write(slot, value) => Node::Write(slot, value.into_inner()),
+            Term::ReadField(object, field) => Node::ReadField(object.into_inner(), field),
+            Term::WriteField(object, field, value) => Node::WriteField(object.into_inner(), field, value.into_inner()),
+            Term::ReadElement(array, index) => Node::ReadElement(array.into_inner(), index.into_inner()),
+            Term::WriteElement(array, index, value) => Node::WriteElement(array.into_inner(), index.into_inner(), value.into_inner()),
+            Term::Size(array) => Node::Size(array.into_inner()),
+            Term::Then(first, rest) => Node::Then(first.into_inner(), rest.into_inner()),
+            Term::If(test, yes, no) => Node::If(test.into_inner(), yes.into_inner(), no.into_inner()),
+            Term::While(test, body) => Node::While(test.into_inner(), body.into_inner()),
+            Term::Typecase(variable, subject, clauses, other) => Node::Typecase(variable, subject.into_inner(), clauses, other.into_inner()),
+            Term::For(order, span, variable, source, body) => Node::For(order, span, variable, source.into_inner(), body.into_inner()),
+            Term::ForHalves(first, second) => Node::ForHalves(first.into_inner(), second.into_inner()),
+            Term::Reduce(order, span, set, empty, variable, source, body) => Node::Reduce(order, span, set, empty.into_inner(), variable, source.into_inner(), body.into_inner()),
+            Term::ReduceHalves(set, first, second) => Node::ReduceHalves(set, first.into_inner(), second.into_inner()),
+            Term::Also(blocks) => Node::Also(blocks),
+            Term::Try(body, variable, clauses, last) => Node::Try(body.into_inner(), variable, clauses, unboxed(last)),
+            Term::Atomic(mode, body) => Node::Atomic(mode, body.into_inner()),
+            Term::Asleep(marks, body) => Node::Asleep(marks, body.into_inner()),
+        }
+    }
+}
+
+fn unboxed(last: Option<Boxed<Term>>) -> Option<Term>
+    ensures { result ≡ last }
+{
+    match last {
+        None => None,
+        Some(term) => Some(term.into_inner()),
     }
 }

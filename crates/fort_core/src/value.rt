@@ -1,4 +1,8 @@
 //! Values and closures.
+ghost use Rattle.std.specs.Prelude.{◌≡◌};
+ghost use Rattle.fort_core.specs.Opened.{opened_value};
+
+use crate::node::{ClosureNode, ValueNode};
 use crate::release::{drop_held, drop_values};
 use crate::term::Term;
 use fort_base::{Boxed, Bytes, List, Loc, Ty, TypeId};
@@ -71,5 +75,47 @@ impl Drop for Closure {
         } = self;
         let _body = body.into_inner();
         drop_held(held);
+    }
+}
+
+impl Value {
+    /// The value's one level; it takes no memory.
+    pub fn open(self) -> ValueNode
+        ensures { result ≡ opened_value self }
+    {
+        match self {
+            Value::Small(number) => ValueNode::Small(number),
+            Value::Large(number) => ValueNode::Large(number),
+            Value::Truth(truth) => ValueNode::Truth(truth),
+            Value::Text(text) => ValueNode::Text(text),
+            Value::Tuple(parts) => ValueNode::Tuple(parts),
+            Value::Range(first, count) => ValueNode::Range(first, count),
+            Value::Object(ty, base) => ValueNode::Object(ty, base),
+            Value::Array(element, base, size) => ValueNode::Array(element, base, size),
+            Value::Function(closure) => ValueNode::Function(closure),
+        }
+    }
+}
+
+impl Closure {
+    /// The closure's parts; it takes no memory.
+    pub fn open(self) -> ClosureNode
+        ensures parameters { result.parameters ≡ self.parameters }
+        ensures result { result.result ≡ self.result }
+        ensures body { result.body ≡ self.body }
+        ensures held { result.held ≡ self.held }
+    {
+        let Closure {
+            parameters,
+            result,
+            body,
+            held,
+        } = self;
+        ClosureNode {
+            parameters,
+            result,
+            body: body.into_inner(),
+            held,
+        }
     }
 }
