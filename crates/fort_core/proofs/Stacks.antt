@@ -66,7 +66,7 @@ module _ (s : Pick) (new : List Half) where
       let i = Holds_pop s new t.0 q (rw (← t.1) hold) in
       let longer : length h.made ≡ length t.0.made + 1 = ap length t.2.2 ∙ length-append t.0.made (q ∷ []) in
       let last : h.made ≡ take (length h.made) h.source.now =
-          t.2.2 ∙ ap (λ ys. ys ++ q ∷ []) i.1.0 ∙ take_next t.0.source.now (length t.0.made) q i.1.1 ∙ rw (t.2.1, longer) refl in
+      t.2.2 ∙ ap (λ ys. ys ++ q ∷ []) i.1.0 ∙ take_next t.0.source.now (length t.0.made) q i.1.1 ∙ rw (t.2.1, longer) refl in
       let sum : all_nodes (drop (length h.made) h.source.now) ≡ nodes n + after h = next_nodes h.source.now (length h.made) n e in
       let same : all_nodes (drop (length h.made) h.source.now) ≡ after t.0 = rw (t.2.1, longer) refl in
       (Holds_push s new h n (rw (t.2.0, t.2.1) i.0) (last, e), rw t.1 (omega (arith, left_of_last new h, left_of_last new t.0, length-append new (h ∷ []), length-append new (t.0 ∷ []))))

@@ -33,7 +33,10 @@ pub fn copy_boxed(alloc: Global, term: &Boxed<Term>) -> Result<Boxed<Term>, Memo
 }
 
 #[cycle(copy)]
-pub fn copy_finally(alloc: Global, last: &Option<Boxed<Term>>) -> Result<Option<Boxed<Term>>, Memory>
+pub fn copy_finally(
+    alloc: Global,
+    last: &Option<Boxed<Term>>,
+) -> Result<Option<Boxed<Term>>, Memory>
     ensures { IfOk result (λ copy. copy ≡ last.now) }
 {
     match last {

@@ -12,6 +12,8 @@ mod pick_copy;
 mod primitive;
 mod program;
 mod release;
+mod same;
+mod same_parts;
 mod term;
 mod value;
 
