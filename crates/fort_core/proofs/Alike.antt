@@ -21,9 +21,9 @@ pub write_fields : (self other a b c d : Term) (f g : NameId) → self ≡ Write
 write_fields self other a b c d f g k l p q = (
   λ r. cc,
   λ e.
-    let m : WriteField a f b ≡ WriteField c g d = sym k ∙ e ∙ l in
-    let n : Term-F.WriteField a f b ≡ Term-F.WriteField c g d = sym (outs-WriteField a f b) ∙ ap out-Term m ∙ outs-WriteField c g d in
-    cc,
+      let m : WriteField a f b ≡ WriteField c g d = sym k ∙ e ∙ l in
+      let n : Term-F.WriteField a f b ≡ Term-F.WriteField c g d = sym (outs-WriteField a f b) ∙ ap out-Term m ∙ outs-WriteField c g d in
+      cc,
 )
 
 pub reduces : (self other a b c d e f : Term) (o p : Order) (s t : Span) (j k : SetId) (x y : ℕ) → self ≡ Reduce o s j a x b c → other ≡ Reduce p t k d y e f
@@ -31,7 +31,7 @@ pub reduces : (self other a b c d e f : Term) (o p : Order) (s t : Span) (j k : 
 reduces self other a b c d e f o p s t j k x y l m q1 q2 q3 q4 q5 q6 = (
   λ r. cc,
   λ h.
-    let n : Reduce o s j a x b c ≡ Reduce p t k d y e f = sym l ∙ h ∙ m in
-    let z : Term-F.Reduce o s j a x b c ≡ Term-F.Reduce p t k d y e f = sym (outs-Reduce o s j a x b c) ∙ ap out-Term n ∙ outs-Reduce p t k d y e f in
-    cc,
+      let n : Reduce o s j a x b c ≡ Reduce p t k d y e f = sym l ∙ h ∙ m in
+      let z : Term-F.Reduce o s j a x b c ≡ Term-F.Reduce p t k d y e f = sym (outs-Reduce o s j a x b c) ∙ ap out-Term n ∙ outs-Reduce p t k d y e f in
+      cc,
 )

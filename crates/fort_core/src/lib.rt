@@ -26,3 +26,6 @@ pub use primitive::Primitive;
 pub use program::{CoreBody, CoreDecl, CoreField, CoreKind, CoreSet, CoreShape, Program};
 pub use term::Term;
 pub use value::{Closure, Value};
+
+#[cfg(test)]
+mod tests;
