@@ -7,8 +7,6 @@ use Rattle.fort_core.specs.declared.form.Span.{Span}
 use Rattle.fort_core.specs.declared.term.Term.{Term, WriteField, Reduce, out-Term}
 use Rattle.fort_core.specs.declared.term.Term.TheOpen.{Term-F}
 use Rattle.fort_core.specs.declared.term.Term.TheVariants.{outs-WriteField, outs-Reduce}
-use Rattle.fort_core.specs.declared.value.Value.{Value}
-use Rattle.fort_core.specs.declared.value.Closure.{Closure}
 
 pub field_named : (f g : NameId) → f.0 ≡ g.0 → f ≡ g
 field_named f g e = ap (λ (n : ℕ). let m : NameId = record { 0 = n } in m) e

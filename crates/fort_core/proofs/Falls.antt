@@ -1,5 +1,5 @@
 -- What falls as picks are let go.
-use Rattle.std.proofs.Common.{◌≡◌, ℕ, ◌+◌, ◌*◌, ◌<◌, ◌≤◌, List, [], ◌∷◌, ◌++◌, map, MatchOption, Option, Some, None, refl, arith, rules, sym, ap, ◌∙◌, subst}
+use Rattle.std.proofs.Common.{◌≡◌, ℕ, ◌+◌, ◌*◌, ◌<◌, List, [], ◌∷◌, ◌++◌, MatchOption, Option, Some, None, refl, arith, sym, ap, ◌∙◌}
 use Rattle.fort_core.specs.declared.pick.Pick.{Pick, Step, Attempt, fold-roll-Pick}
 use Rattle.fort_core.specs.declared.pick.Pick.TheOpen.{Pick-F}
 use Rattle.fort_core.specs.declared.pick.Pick.TheVariants.{rolls-Attempt, rolls-Step}

@@ -1,5 +1,5 @@
 -- What changes at the end of a stack.
-use Rattle.std.proofs.Common.{◌≡◌, ℕ, suc, ◌+◌, ◌<◌, ◌≤◌, zero, ◌*◌, List, [], ◌∷◌, ◌++◌, length, take, drop, Option, Some, None, slice_get, get_or, length-append, refl, arith, rules, sym, ap, ◌∙◌}
+use Rattle.std.proofs.Common.{◌≡◌, ℕ, ◌+◌, ◌<◌, ◌≤◌, ◌*◌, List, [], ◌∷◌, ◌++◌, length, take, drop, Some, slice_get, get_or, length-append, refl, arith, sym, ap, ◌∙◌}
 use Rattle.fort_core.specs.declared.pick.Pick.{Pick, Attempt}
 use Rattle.fort_core.specs.declared.pick_copy.Half.{Half}
 use Rattle.fort_core.specs.Nodes.{nodes, all_nodes}

@@ -1,4 +1,4 @@
 pub mod Opened
-pub mod Nodes
 pub mod Rests
+pub mod Nodes
 pub mod Stack

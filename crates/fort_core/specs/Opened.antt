@@ -1,6 +1,6 @@
 -- Chapter "Machine": one level of a term, of a value, of a pick. The definitions of the machine are by cases on it, and so is code that takes one apart by value.
 use Rattle.fort_core.specs.declared.term.Term.{Term, out-Term}
-use Rattle.fort_core.specs.declared.term.Term.TheOpen.{Term-F, Value-F, Closure-F}
+use Rattle.fort_core.specs.declared.term.Term.TheOpen.{Term-F, Value-F}
 use Rattle.fort_core.specs.declared.value.Value.{Value, out-Value}
 use Rattle.fort_core.specs.declared.value.Closure.{Closure}
 use Rattle.fort_core.specs.declared.pick.Pick.{Pick, out-Pick}

@@ -1,5 +1,5 @@
--- What a stack of half copied attempts says.
-use Rattle.std.specs.Prelude.{◌≡◌, ℕ, ◌+◌, ◌*◌, ◌<◌, ◌≤◌, List, [], ◌∷◌, ◌++◌, length, take, drop, Option, Some, slice_get}
+-- Chapter "Limits": attempts nest as deep as the fuel allows, so a pick is copied with a stack of attempts that are copied in part. A copy is an equal pick; only the code has a stack.
+use Rattle.std.specs.Prelude.{◌≡◌, ℕ, ◌+◌, ◌*◌, ◌<◌, ◌≤◌, List, [], ◌∷◌, ◌++◌, length, take, drop, Some, slice_get}
 use Rattle.fort_core.specs.declared.pick.Pick.{Pick, Attempt}
 use Rattle.fort_core.specs.declared.pick_copy.Half.{Half}
 use Rattle.fort_core.specs.declared.pick_copy.Made.{Made}
@@ -32,14 +32,17 @@ Holds whole (h ∷ hs) at = (whole ≡ Attempt h.path h.source.now) × ((inner :
 abbrev pub after : Half → ℕ
 after h = all_nodes (drop (length h.made + 1) h.source.now)
 
+-- how many come after it, in all attempts that are copied in part
 abbrev pub left_of : List Half → ℕ
 left_of [] = 0
 left_of (h ∷ hs) = after h + left_of hs
 
+-- the pick at which a turn stands
 abbrev pub at_turn : Turn → Pick
 at_turn (Down p) = p.now
 at_turn (Up p) = p
 
+-- how many turns are left at most: falls with each turn
 abbrev pub turns_left : Turn → List Half → ℕ
 turns_left (Down p) hs = 2 * (nodes p.now + left_of hs) + length hs
 turns_left (Up p) hs = 2 * left_of hs + length hs + 1

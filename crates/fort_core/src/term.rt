@@ -91,7 +91,7 @@ pub enum Term {
     /// `try a catch x T => b; .. finally c end`: a, the variable, the clauses in their order, c where it is
     /// written. Once a is a value or a throw, it steps to what is to come of it: the value, the first clause
     /// whose type the thrown value has with that value in the variable's place, or the throw. With a
-    /// `finally` it steps to c, then that.
+    /// `finally` it steps to c, then that. Without a clause the variable stands for nothing.
     Try(Boxed<Term>, u32, List<(Term, Ty)>, Option<Boxed<Term>>),
     /// `atomic e`, `tryatomic e`, before an attempt. One attempt takes it to the value or the throw with which
     /// its inner run ends. Aborted, `atomic` sleeps and `tryatomic` throws `TryAtomicFailure`.

@@ -1,11 +1,12 @@
 //! Values and closures.
-ghost use Rattle.std.specs.Prelude.{◌≡◌};
+ghost use Rattle.std.specs.Prelude.{◌≡◌, []};
 ghost use Rattle.fort_core.specs.Opened.{opened_value};
 
 use crate::node::{ClosureNode, ValueNode};
 use crate::release::{drop_held, drop_values};
 use crate::term::Term;
 use fort_base::{Boxed, Bytes, List, Loc, Ty, TypeId};
+use std::alloc::Global;
 
 /// What a variable, a field, an element or a finished term has.
 ///
@@ -79,6 +80,13 @@ impl Drop for Closure {
 }
 
 impl Value {
+    /// The value `()`; it takes no memory.
+    pub fn unit(alloc: Global) -> Value
+        ensures { result ≡ Value.Tuple [] }
+    {
+        Value::Tuple(List::new(alloc))
+    }
+
     /// The value's one level; it takes no memory.
     pub fn open(self) -> ValueNode
         ensures { result ≡ opened_value self }

@@ -1,4 +1,3 @@
-use Rattle.std.proofs.Common.{sym, ap, ◌∙◌}
 use Rattle.fort_core.proofs.Rests.{block_last, size-Then, size-Let, size-Mutable}
 use Rattle.fort_core.proofs.+copy.Goals as goal
 

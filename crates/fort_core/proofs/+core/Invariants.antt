@@ -1,4 +1,4 @@
-use Rattle.std.proofs.Common.{ℕ, ◌≤◌, length}
+use Rattle.std.proofs.Common.{◌≤◌, length}
 use Rattle.fort_core.specs.declared.term.Term.{size-Term}
 use Rattle.fort_core.proofs.+core.Given as goal
 

@@ -1,4 +1,4 @@
-use Rattle.std.proofs.Common.{◌≡◌, [], ◌∷◌, ◌++◌, refl, ap, ◌∙◌, sym}
+use Rattle.std.proofs.Common.{refl}
 use Rattle.fort_core.proofs.Stacks.{Stepped, whole, part}
 use Rattle.fort_core.proofs.pick.Pick.copy.Goals as goal
 use Rattle.fort_core.proofs.pick.Pick.copy.Goals.{in-Down+in_ok-made-in-Down, in-Up+in-Some+in_ok-made-in-Some}

@@ -1,4 +1,4 @@
-use Rattle.std.proofs.Common.{◌≡◌, ap, sym, ◌∙◌, true, ◌+◌}
+use Rattle.std.proofs.Common.{ap, ◌∙◌, ◌+◌}
 use Rattle.fort_core.specs.Nodes.{all_nodes}
 use Rattle.fort_core.proofs.Falls.{nodes-Step, nodes-Attempt, work-popped, work-swap, work-next}
 use Rattle.fort_core.proofs.pick.Pick.shed.Goals as goal
