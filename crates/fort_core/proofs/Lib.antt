@@ -1,0 +1,4 @@
+pub mod Alike
+pub mod Falls
+pub mod Rests
+pub mod Stacks

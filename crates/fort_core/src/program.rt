@@ -1,0 +1,83 @@
+//! An accepted component, as the machine runs it.
+use crate::primitive::Primitive;
+use crate::term::Term;
+use crate::value::Value;
+use fort_base::{Bytes, DeclId, List, Loc, NameId, Ty, TypeId};
+
+/// What makes values of a declared type.
+#[derive(Clone, Copy, Debug, PartialEq, Eq)]
+pub enum CoreKind {
+    /// A trait: only the objects below it do.
+    Trait,
+    /// A built-in leaf: values of their own kind do, as numbers and texts.
+    Leaf,
+    /// An object with a parameter list: its constructor does.
+    Object,
+    /// An object without one: there is one value, whose locations begin here in the opening store.
+    Single(Loc),
+}
+
+/// A field of a declared type.
+#[derive(Drop)]
+pub struct CoreField {
+    pub name: NameId,
+    pub ty: Ty,
+    pub mutable: bool,
+    /// The constant of a field that stands in the body of an object; parameters and fields of traits have none.
+    pub initial: Option<Value>,
+}
+
+/// A declared type.
+#[derive(Drop)]
+pub struct CoreShape {
+    pub kind: CoreKind,
+    /// All its fields, inherited ones of a trait included. An object has one location for each, in this
+    /// order: its parameters, then the fields of its body.
+    pub fields: List<CoreField>,
+}
+
+/// An overload set, by its declarations.
+#[derive(Drop)]
+pub struct CoreSet {
+    pub decls: List<DeclId>,
+}
+
+/// What a call of a declaration does.
+#[derive(Drop)]
+pub enum CoreBody {
+    /// Goes on as this term, in which the i-th parameter, counted from 0, is the variable i.
+    Plain(Term),
+    /// Gives the answer of a built-in declaration.
+    Primitive(Primitive),
+    /// Nothing: an abstract method.
+    Abstract,
+    /// Makes an object of this type, whose parameters are the arguments.
+    New(TypeId),
+}
+
+/// A declaration that can be called; the receiver or `self` is one of the parameters.
+#[derive(Drop)]
+pub struct CoreDecl {
+    pub parameters: List<Ty>,
+    pub result: Ty,
+    pub body: CoreBody,
+}
+
+/// A program: its types, overload sets and declarations by number, its first term and its opening store.
+#[derive(Drop)]
+pub struct Program {
+    /// The names of the declared types, by number.
+    pub type_names: List<Bytes>,
+    /// What each declared type is made of, by number.
+    pub shapes: List<CoreShape>,
+    /// The overload sets, by number.
+    pub sets: List<CoreSet>,
+    /// The declarations, by number.
+    pub decls: List<CoreDecl>,
+    /// The call of `run`.
+    pub first: Term,
+    /// The top-level variables and the locations of the single objects, with their opening values.
+    pub opening: List<(Loc, Value)>,
+    /// The type of each of these locations, in the same order.
+    pub opening_types: List<(Loc, Ty)>,
+}

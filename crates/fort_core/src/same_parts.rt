@@ -1,0 +1,155 @@
+//! Whether the parts of two terms or values are the same.
+ghost use Rattle.std.specs.Prelude.{◌≡◌, ◌↔◌, IsTrue};
+
+use crate::term::Term;
+use crate::value::{Closure, Value};
+use fort_base::{Boxed, List, Loc, Ty};
+
+pub fn same_parameters(left: &List<(u32, Ty)>, right: &List<(u32, Ty)>) -> bool
+    ensures { IsTrue result ↔ (left.now ≡ right.now) }
+{
+    let a = left.as_slice();
+    let b = right.as_slice();
+    if a.len() != b.len() {
+        return false;
+    }
+    for i in 0..a.len() {
+        if !(a[i].0 == b[i].0 && a[i].1.same(&b[i].1)) {
+            return false;
+        }
+    }
+    true
+}
+
+#[cycle(same)]
+pub fn same_finally(left: &Option<Boxed<Term>>, right: &Option<Boxed<Term>>) -> bool
+    ensures { IsTrue result ↔ (left.now ≡ right.now) }
+{
+    match (left, right) {
+        (None, None) => true,
+        (Some(a), Some(b)) => a.get().same(b.get()),
+        _ => false,
+    }
+}
+
+#[cycle(same)]
+pub fn same_terms(left: &List<Term>, right: &List<Term>) -> bool
+    ensures { IsTrue result ↔ (left.now ≡ right.now) }
+{
+    let a = left.as_slice();
+    let b = right.as_slice();
+    if a.len() != b.len() {
+        return false;
+    }
+    for i in 0..a.len() {
+        if !(a[i].same(&b[i])) {
+            return false;
+        }
+    }
+    true
+}
+
+#[cycle(same)]
+pub fn same_clauses(left: &List<(Term, Ty)>, right: &List<(Term, Ty)>) -> bool
+    ensures { IsTrue result ↔ (left.now ≡ right.now) }
+{
+    let a = left.as_slice();
+    let b = right.as_slice();
+    if a.len() != b.len() {
+        return false;
+    }
+    for i in 0..a.len() {
+        if !(a[i].0.same(&b[i].0) && a[i].1.same(&b[i].1)) {
+            return false;
+        }
+    }
+    true
+}
+
+#[cycle(same)]
+pub fn same_marks(left: &List<(Loc, Value)>, right: &List<(Loc, Value)>) -> bool
+    ensures { IsTrue result ↔ (left.now ≡ right.now) }
+{
+    let a = left.as_slice();
+    let b = right.as_slice();
+    if a.len() != b.len() {
+        return false;
+    }
+    for i in 0..a.len() {
+        if !(a[i].0 == b[i].0 && a[i].1.same(&b[i].1)) {
+            return false;
+        }
+    }
+    true
+}
+
+impl Value {
+    /// Whether two values are the same data, functions too; it takes no memory.
+    ///
+    /// This is how reads and marks are compared. The operator that the language has for it says of two
+    /// functions that they never are the same.
+    #[cycle(same)]
+    pub fn same(&self, other: &Value) -> bool
+        ensures { IsTrue result ↔ (self.now ≡ other.now) }
+    {
+        match (self, other) {
+            (Value::Small(a), Value::Small(b)) => *a == *b,
+            (Value::Large(a), Value::Large(b)) => *a == *b,
+            (Value::Truth(a), Value::Truth(b)) => *a == *b,
+            (Value::Text(a), Value::Text(b)) => a.as_slice() == b.as_slice(),
+            (Value::Tuple(a), Value::Tuple(b)) => same_values(a, b),
+            (Value::Range(a, m), Value::Range(b, n)) => *a == *b && *m == *n,
+            (Value::Object(s, a), Value::Object(t, b)) => *s == *t && *a == *b,
+            (Value::Array(s, a, m), Value::Array(t, b, n)) => s.same(t) && *a == *b && *m == *n,
+            (Value::Function(a), Value::Function(b)) => a.same(b),
+            _ => false,
+        }
+    }
+}
+
+#[cycle(same)]
+fn same_values(left: &List<Value>, right: &List<Value>) -> bool
+    ensures { IsTrue result ↔ (left.now ≡ right.now) }
+{
+    let a = left.as_slice();
+    let b = right.as_slice();
+    if a.len() != b.len() {
+        return false;
+    }
+    for i in 0..a.len() {
+        if !(a[i].same(&b[i])) {
+            return false;
+        }
+    }
+    true
+}
+
+impl Closure {
+    /// Whether two closures are alike in every part; it takes no memory.
+    #[cycle(same)]
+    pub fn same(&self, other: &Closure) -> bool
+        ensures { IsTrue result ↔ (self.now ≡ other.now) }
+    {
+        same_parameters(&self.parameters, &other.parameters)
+            && self.result.same(&other.result)
+            && self.body.get().same(other.body.get())
+            && same_held(&self.held, &other.held)
+    }
+}
+
+#[cycle(same)]
+fn same_held(left: &List<(u32, Value)>, right: &List<(u32, Value)>) -> bool
+    ensures { IsTrue result ↔ (left.now ≡ right.now) }
+{
+    let a = left.as_slice();
+    let b = right.as_slice();
+    if a.len() != b.len() {
+        return false;
+    }
+    for i in 0..a.len() {
+        if !(a[i].0 == b[i].0 && a[i].1.same(&b[i].1)) {
+            return false;
+        }
+    }
+    true
+}
