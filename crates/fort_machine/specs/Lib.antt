@@ -1,2 +1,11 @@
 pub mod Types
 pub mod Texts
+pub mod Numbers
+pub mod Primitives
+pub mod Cells
+pub mod Deeds
+pub mod Ends
+pub mod Frames
+pub mod Scopes
+pub mod Substitution
+pub mod Acts

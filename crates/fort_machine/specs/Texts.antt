@@ -23,7 +23,7 @@ text_at p (Value-F.Small n) = signed_decimal n
 text_at p (Value-F.Large n) = signed_decimal n
 text_at p (Value-F.Truth b) = if b then codes "true" else codes "false"
 text_at p (Value-F.Text s) = s
-text_at p (Value-F.Value::Tuple ss) = codes "(" ++ (with_commas ss ++ codes ")")
+text_at p (Value-F.Tuple ss) = codes "(" ++ (with_commas ss ++ codes ")")
 text_at p (Value-F.Range first count) = signed_decimal first ++ (codes "#" ++ decimal count)
 text_at p (Value-F.Object id base) = unwrap_or (slice_get p.type_names id.0) []
 text_at p (Value-F.Array element base size) = codes "array of " ++ decimal size
@@ -37,8 +37,8 @@ text p = fold-Value (Unit {0}) (List ℕ) (Unit {0}) (λ t. tt) (text_at p) (λ 
 abbrev pub each_same : {A B : Type 0} → (A → B → Bool) → List A → List B → Bool
 each_same f [] [] = true
 each_same f [] (b ∷ bs) = false
-each_same f (a ∷ as) [] = false
-each_same f (a ∷ as) (b ∷ bs) = f a b && each_same f as bs
+each_same f (a ∷ more) [] = false
+each_same f (a ∷ more) (b ∷ bs) = f a b && each_same f more bs
 
 -- Two types are written alike.
 abbrev pub same_type_at : Ty-F (Ty → Bool) → Ty-F Ty → Bool
@@ -61,7 +61,7 @@ same_at (Value-F.Large n) (Value-F.Large m) = int_eq n m
 same_at (Value-F.Truth true) (Value-F.Truth b) = b
 same_at (Value-F.Truth false) (Value-F.Truth b) = not b
 same_at (Value-F.Text s) (Value-F.Text r) = bytes_eq s r
-same_at (Value-F.Value::Tuple fs) (Value-F.Value::Tuple vs) = each_same (λ (f : Value → Bool) v. f v) fs vs
+same_at (Value-F.Tuple fs) (Value-F.Tuple vs) = each_same (λ (f : Value → Bool) v. f v) fs vs
 same_at (Value-F.Range n i) (Value-F.Range m j) = int_eq n m && i == j
 same_at (Value-F.Object i l) (Value-F.Object j k) = i.0 == j.0 && l.0 == k.0
 same_at (Value-F.Array s l i) (Value-F.Array t k j) = same_type s t && (l.0 == k.0 && i == j)
@@ -78,7 +78,7 @@ greatest (n ∷ ns) = max n (greatest ns)
 
 -- A tuple is 1 deeper than its deepest part, a function than the deepest value that it holds; other values have depth 0.
 abbrev pub depth_at : Value-F (Unit {0}) ℕ ℕ → ℕ
-depth_at (Value-F.Value::Tuple ns) = 1 + greatest ns
+depth_at (Value-F.Tuple ns) = 1 + greatest ns
 depth_at (Value-F.Function n) = n
 depth_at _ = 0
 

@@ -64,7 +64,7 @@ below p a b = relation p.types.below a true b
 
 -- Whether each type of a list is below the one in its place of another list.
 abbrev pub all_below : Program → List Ty → List Ty → Bool
-all_below p as bs = each_below (map (relation p.types.below) as) true bs
+all_below p ts us = each_below (map (relation p.types.below) ts) true us
 
 -- What a function takes: its one parameter's type, else the tuple of its parameters' types.
 abbrev pub domain_of : List (ℕ × Ty) → Ty
@@ -77,7 +77,7 @@ type_at b (Value-F.Small n) = Named b.small
 type_at b (Value-F.Large n) = Named b.large
 type_at b (Value-F.Truth t) = Named b.truth
 type_at b (Value-F.Text s) = Named b.text
-type_at b (Value-F.Value::Tuple ts) = Tuple ts
+type_at b (Value-F.Tuple ts) = Tuple ts
 type_at b (Value-F.Range first count) = Named b.range
 type_at b (Value-F.Object id base) = Named id
 type_at b (Value-F.Array element base size) = Array element
