@@ -9,3 +9,8 @@ pub mod Frames
 pub mod Scopes
 pub mod Substitution
 pub mod Acts
+pub mod Generators
+pub mod Forms
+pub mod Calls
+pub mod Marked
+pub mod Steps
