@@ -1,5 +1,5 @@
 -- Chapter "Store and effects": the store, and what a stretch of a run does in all. The code has a map, and the four lists of a stretch.
-use Rattle.std.specs.Prelude.{◌≡◌, ℕ, ◌+◌, ◌==◌, if◌then◌else◌, List, [], ◌∷◌, ◌++◌, Option, Some, None}
+use Rattle.std.specs.Prelude.{ℕ, ◌+◌, ◌==◌, if◌then◌else◌, List, [], ◌∷◌, ◌++◌, Option, Some, None}
 use Rattle.fort_core.specs.declared.value.Value.{Value}
 use Rattle.fort_machine.specs.Cells.{Cell, untouched, found, made, joined, Fits, left_at, Meets, given_back, taken_away}
 

@@ -1,5 +1,5 @@
 -- Chapter "Steps and costs": the table of steps, a row for each form. The code has a function for each row.
-use Rattle.std.specs.Prelude.{ℕ, ◌+◌, ◌==◌, nat_lt, nat_le, Bool, true, false, if◌then◌else◌, List, [], ◌∷◌, ◌++◌, replicate, slice_get, Option, Some, None, option_map, option_and_then, ℤ, pos, negsuc}
+use Rattle.std.specs.Prelude.{ℕ, ◌+◌, ◌==◌, nat_lt, nat_le, true, false, if◌then◌else◌, List, [], ◌∷◌, ◌++◌, replicate, slice_get, Option, Some, None, option_map, option_and_then, pos, negsuc}
 use Rattle.fort_base.specs.declared.ids.NameId.{NameId}
 use Rattle.fort_base.specs.declared.ty.Ty.{Ty}
 use Rattle.fort_core.specs.declared.form.Slot.{Slot}
@@ -11,14 +11,14 @@ use Rattle.fort_core.specs.declared.term.Term.{Term, Then, If, While, out-Term}
 use Rattle.fort_core.specs.declared.term.Term as term
 use Rattle.fort_core.specs.declared.term.Term.TheOpen.{Term-F, Value-F}
 use Rattle.fort_core.specs.declared.value.Closure.{Closure}
-use Rattle.fort_core.specs.declared.value.Value.{Value, Small, Tuple, Array, Function, out-Value}
+use Rattle.fort_core.specs.declared.value.Value.{Value, Small, Tuple, Array, out-Value}
 use Rattle.fort_machine.specs.Types.{has_type}
 use Rattle.fort_machine.specs.Texts.{depth, closure_depth, deepest}
 use Rattle.fort_machine.specs.Primitives.{Kind}
 use Rattle.fort_machine.specs.Ends.{Standing, at_value, at_throw, open_yet, standing, throw_of}
 use Rattle.fort_machine.specs.Scopes.{holds_all}
 use Rattle.fort_machine.specs.Substitution.{substituted, substituted_all, located, bound_to}
-use Rattle.fort_machine.specs.Acts.{Act, stuck, turns, enters, asks, sets, makes, calls, becomes, unit, throwing, after, after_all, once_all}
+use Rattle.fort_machine.specs.Acts.{Act, stuck, enters, asks, sets, makes, calls, becomes, unit, throwing, after, after_all, once_all}
 use Rattle.fort_machine.specs.Generators.{generating, reducing}
 
 -- An object or an array without fields or elements has one location, that holds `()`.

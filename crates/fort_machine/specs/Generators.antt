@@ -1,5 +1,5 @@
 -- Chapter "Steps and costs": generators and reductions, and how they are divided. The code keeps what is left of a generator as two numbers, as the terms here do.
-use Rattle.std.specs.Prelude.{ℕ, zero, suc, ◌+◌, ◌/◌, List, [], ◌∷◌, Option, Some, None, ℤ, pos, ◌+ℤ◌}
+use Rattle.std.specs.Prelude.{ℕ, zero, suc, ◌+◌, ◌/◌, [], ◌∷◌, ℤ, pos, ◌+ℤ◌}
 use Rattle.fort_base.specs.declared.ids.SetId.{SetId}
 use Rattle.fort_core.specs.declared.form.Order.{Order}
 use Rattle.fort_core.specs.declared.form.Order.TheVariants as order

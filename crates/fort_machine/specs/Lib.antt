@@ -12,5 +12,9 @@ pub mod Acts
 pub mod Generators
 pub mod Forms
 pub mod Calls
-pub mod Marked
+pub mod OneDefinition
 pub mod Steps
+pub mod Marked
+pub mod Attempts
+pub mod Runs
+pub mod Journals

@@ -1,11 +1,10 @@
 -- Chapter "Atomic": which forms of a term sleep, and which locations they watch. The code has it from the marks of its tasks.
-use Rattle.std.specs.Prelude.{◌≡◌, ℕ, ◌==◌, Bool, true, false, ◌||◌, IsTrue, List, [], ◌∷◌, Option, Some, None}
+use Rattle.std.specs.Prelude.{◌≡◌, ℕ, ◌==◌, Bool, true, false, ◌||◌, IsTrue, List, Option, Some, None}
 use Rattle.std.specs.List.{list_any}
 use Rattle.fort_base.specs.declared.ids.Loc.{Loc}
 use Rattle.fort_base.specs.declared.ty.Ty.{Ty}
 use Rattle.fort_core.specs.declared.term.Term.{Term, fold-Term}
 use Rattle.fort_core.specs.declared.term.Term.TheOpen.{Term-F}
-use Rattle.fort_core.specs.declared.value.Value.{Value}
 use Rattle.fort_machine.specs.Deeds.{Store}
 
 abbrev pub any_clause : List (Bool × Ty) → Bool

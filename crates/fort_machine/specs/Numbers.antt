@@ -1,6 +1,6 @@
 -- Chapter "Built-in declarations": what the operators on numbers give, before it is asked whether that fits their type. The code asks as it computes.
-use Rattle.std.specs.Prelude.{ℕ, zero, suc, ◌+◌, ◌-◌, ◌*◌, ◌/◌, ◌%◌, ◌^◌, ◌==◌, nat_lt, Bool, true, false, ◌&&◌, ◌||◌, if◌then◌else◌, ℤ, pos, negsuc, ◌+ℤ◌, ◌-ℤ◌, ◌*ℤ◌, neg_ℤ, unsigned_abs, int_lt, int_le, int_div, int_rem}
-use Rattle.std.specs.Int.{Width, w32, w64, int_min, int_max, int_pow, int_shr, int_bit_and, int_bit_or, int_bit_xor}
+use Rattle.std.specs.Prelude.{ℕ, zero, suc, ◌-◌, ◌*◌, ◌/◌, ◌%◌, ◌^◌, ◌==◌, nat_lt, Bool, false, ◌&&◌, ◌||◌, if◌then◌else◌, ℤ, pos, negsuc, ◌+ℤ◌, ◌-ℤ◌, ◌*ℤ◌, unsigned_abs, int_lt, int_div, int_rem}
+use Rattle.std.specs.Int.{Width, w64, int_pow, int_shr}
 use Rattle.std.specs.Ordering.{int_eq}
 
 -- A number of bits that a ZZ32 or a ZZ64 has.

@@ -1,6 +1,6 @@
 -- Chapter "Built-in declarations": the answer of each. The code computes on machine numbers; here numbers are numbers, and what passes a type's range is found by its range.
-use Rattle.std.specs.Prelude.{ℕ, ◌+◌, Bool, true, false, not, ◌&&◌, ◌||◌, if◌then◌else◌, List, [], ◌∷◌, ◌++◌, map, length, chars, bytes_eq, ℤ, pos, neg_ℤ, ◌+ℤ◌, ◌-ℤ◌, ◌*ℤ◌, unsigned_abs, int_lt, int_le}
-use Rattle.std.specs.Int.{Width, w32, w64, int_min, int_max, int_bit_and, int_bit_or, int_bit_xor}
+use Rattle.std.specs.Prelude.{ℕ, Bool, true, false, not, ◌&&◌, ◌||◌, if◌then◌else◌, List, [], ◌∷◌, ◌++◌, map, length, chars, bytes_eq, ℤ, pos, neg_ℤ, ◌+ℤ◌, ◌-ℤ◌, ◌*ℤ◌, unsigned_abs, int_lt, int_le}
+use Rattle.std.specs.Int.{w32, w64, int_min, int_max, int_bit_and, int_bit_or, int_bit_xor}
 use Rattle.std.specs.Ordering.{int_eq}
 use Rattle.fort_base.specs.declared.ids.TypeId.{TypeId}
 use Rattle.fort_core.specs.declared.primitive.Primitive.{Primitive}
@@ -9,8 +9,8 @@ use Rattle.fort_core.specs.declared.program.Program.{Program}
 use Rattle.fort_core.specs.declared.term.Term.{Term}
 use Rattle.fort_core.specs.declared.term.Term.TheOpen.{Value-F}
 use Rattle.fort_core.specs.declared.value.Closure.{Closure}
-use Rattle.fort_core.specs.declared.value.Value.{Value, Small, Large, Truth, Text, Tuple, Range, out-Value}
-use Rattle.fort_machine.specs.Numbers.{Figure, number, too_large, by_zero, below_zero, within, is_within, is_negative, quotient, remainder, modulus, greatest_divisor, least_multiple, shifted_left, shifted_right, power, last_of}
+use Rattle.fort_core.specs.declared.value.Value.{Value, Small, Large, Truth, Range, out-Value}
+use Rattle.fort_machine.specs.Numbers.{Figure, number, too_large, by_zero, below_zero, within, is_within, quotient, remainder, modulus, greatest_divisor, least_multiple, shifted_left, shifted_right, power, last_of}
 use Rattle.fort_machine.specs.Texts.{text, same}
 
 -- What a built-in declaration answers: a value, a text that it makes, a throw of a built-in exception, a text that it prints, the end of its machine, or nothing where the values aren't of its types.

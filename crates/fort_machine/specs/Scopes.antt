@@ -1,5 +1,5 @@
 -- Chapter "Substitution": which variables a term has, and a function, which is a value once it holds them. The code knows it from the place where the function was written.
-use Rattle.std.specs.Prelude.{ℕ, ◌==◌, nat_le, Bool, true, false, ◌&&◌, ◌||◌, if◌then◌else◌, List, [], ◌∷◌, ◌++◌, map, Option, Some, None}
+use Rattle.std.specs.Prelude.{ℕ, ◌==◌, nat_le, Bool, true, ◌&&◌, if◌then◌else◌, List, [], ◌∷◌, ◌++◌, map, Option, Some, None}
 use Rattle.std.specs.List.{list_all, list_any}
 use Rattle.fort_base.specs.declared.ty.Ty.{Ty}
 use Rattle.fort_core.specs.declared.form.Slot.{Slot}
@@ -7,7 +7,7 @@ use Rattle.fort_core.specs.declared.form.Slot.TheVariants as slot
 use Rattle.fort_core.specs.declared.term.Term.{Term, Fn, fold-Term}
 use Rattle.fort_core.specs.declared.term.Term as term
 use Rattle.fort_core.specs.declared.term.Term.TheOpen.{Term-F, Closure-F}
-use Rattle.fort_core.specs.declared.value.Value.{Value, Function}
+use Rattle.fort_core.specs.declared.value.Value.{Function}
 use Rattle.fort_core.specs.declared.value.Closure.{Closure, fold-Closure}
 use Rattle.fort_machine.specs.Texts.{closure_depth, deepest}
 

@@ -1,10 +1,9 @@
 -- Chapter "Values": which type is below which, and the type of a value. The definition of `below` goes down the first type and asks which way round; the code goes down both types together.
-use Rattle.std.specs.Prelude.{ℕ, Bool, true, false, not, ◌&&◌, List, [], ◌∷◌, map, slice_get, Option, unwrap_or, option_and_then}
-use Rattle.fort_base.specs.declared.ids.TypeId.{TypeId}
+use Rattle.std.specs.Prelude.{ℕ, Bool, true, false, not, ◌&&◌, List, [], ◌∷◌, map, slice_get, unwrap_or, option_and_then}
 use Rattle.fort_base.specs.declared.ty.Ty.{Ty, Tuple, Arrow, Array, out-Ty, fold-Ty}
 use Rattle.fort_base.specs.declared.ty.Ty.TheVariants.{Named}
 use Rattle.fort_base.specs.declared.ty.Ty.TheOpen.{Ty-F}
-use Rattle.fort_core.specs.declared.term.Term.TheOpen.{Value-F, Closure-F}
+use Rattle.fort_core.specs.declared.term.Term.TheOpen.{Value-F}
 use Rattle.fort_core.specs.declared.value.Value.{Value, fold-Value}
 use Rattle.fort_core.specs.declared.program.BuiltIn.{BuiltIn}
 use Rattle.fort_core.specs.declared.program.Program.{Program}
