@@ -18,3 +18,4 @@ pub mod Marked
 pub mod Attempts
 pub mod Runs
 pub mod Journals
+pub mod Threads

@@ -3,7 +3,7 @@ use Rattle.std.specs.Prelude.{ℕ, zero, suc, ◌-◌, ◌*◌, ◌/◌, ◌%◌
 use Rattle.std.specs.Int.{Width, w64, int_pow, int_shr}
 use Rattle.std.specs.Ordering.{int_eq}
 
--- A number of bits that a ZZ32 or a ZZ64 has.
+-- How many bits a ZZ32 or a ZZ64 has.
 abbrev pub bits_of : Width → ℕ
 bits_of w64 = 64
 bits_of _ = 32
@@ -39,9 +39,13 @@ quotient a b = if is_zero b then by_zero else number (int_div a b)
 abbrev pub remainder : ℤ → ℤ → Figure
 remainder a b = if is_zero b then by_zero else number (int_rem a b)
 
+-- Whether two numbers, neither of them 0, are on one side of 0.
+abbrev pub same_sign : ℤ → ℤ → Bool
+same_sign a b = if is_negative a then is_negative b else int_lt (pos 0) b
+
 -- A remainder brought to the sign of the divisor, where it isn't 0.
 abbrev pub to_sign_of : ℤ → ℤ → ℤ
-to_sign_of b r = if is_zero r || (is_negative r && is_negative b || int_lt (pos 0) r && int_lt (pos 0) b) then r else r +ℤ b
+to_sign_of b r = if is_zero r || same_sign r b then r else r +ℤ b
 
 -- `a MOD b`: the remainder that is 0 or has the divisor's sign.
 abbrev pub modulus : ℤ → ℤ → Figure
@@ -95,6 +99,6 @@ abbrev pub power : ℤ → ℤ → Figure
 power a (pos n) = number (int_pow a n)
 power a (negsuc n) = below_zero
 
--- The number that 0 less n more than a comes to: the last of n numbers from a.
+-- The last of n numbers from a on.
 abbrev pub last_of : ℤ → ℕ → ℤ
 last_of a n = (a +ℤ pos n) -ℤ pos 1
