@@ -11,7 +11,7 @@ use Rattle.fort_core.specs.declared.term.Term.{Term}
 use Rattle.fort_core.specs.declared.value.Value.{Value, Object, Tuple}
 use Rattle.fort_machine.specs.Ends.{Standing, at_value, at_throw, open_yet, standing, throw_of}
 
--- What a form does: nothing; it goes on as a term, with a text that it prints, at a cost; as a body that it runs, at the cost of 1; it reads a location, and goes on by what stands there, at the cost of 1; it writes to one, at the cost of 1; it makes locations with these values, and goes on by the first, at a cost; it calls a set; or it ends its machine.
+-- What a form does: nothing; it goes on as a term, with a text that it prints, at a cost; as a body that it runs, at the cost of 1; it reads a location, and goes on by what stands there, at the cost of 1; it writes to one, at the cost of 1; it makes locations with these values, or one with `()` where there are none, and goes on by the first, at a cost; it calls a set; or it ends its machine.
 pub data Act : Type 0 where
   stuck : Act
   turns : (next : Term) (output : List ℕ) (cost : ℕ) → Act

@@ -20,7 +20,6 @@ use Rattle.fort_machine.specs.Primitives.{Answer, gives, makes_text, throws, pri
 use Rattle.fort_machine.specs.Substitution.{substituted_all}
 use Rattle.fort_machine.specs.Acts.{Act, stuck, turns, enters, makes, becomes, unit, throwing}
 use Rattle.fort_machine.specs.Acts as acts
-use Rattle.fort_machine.specs.Forms.{or_unit}
 
 -- A declaration of a set is applicable to types where it has as many parameters and each type is below its parameter.
 pub record IsApplicable (p : Program) (set : SetId) (types : List Ty) (d : DeclId) (decl : CoreDecl) : Type 0 where
@@ -64,7 +63,7 @@ constants s = filter_map (λ (f : CoreField). f.initial) s.fields
 
 -- A new object has a location for each field: the parameters, then the fields of its body.
 abbrev pub constructing : TypeId → List Value → Option CoreShape → Act
-constructing id vs (Some s) = makes (or_unit (vs ++ constants s)) (λ l. term.Value (Object id (record { 0 = l }))) 1
+constructing id vs (Some s) = makes (vs ++ constants s) (λ l. term.Value (Object id (record { 0 = l }))) 1
 constructing id vs None = stuck
 
 -- What a declaration does that values are passed to.

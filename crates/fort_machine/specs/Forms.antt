@@ -21,11 +21,6 @@ use Rattle.fort_machine.specs.Substitution.{substituted, substituted_all, locate
 use Rattle.fort_machine.specs.Acts.{Act, stuck, enters, asks, sets, makes, calls, becomes, unit, throwing, after, after_all, once_all}
 use Rattle.fort_machine.specs.Generators.{generating, reducing}
 
--- An object or an array without fields or elements has one location, that holds `()`.
-abbrev pub or_unit : List Value → List Value
-or_unit [] = unit ∷ []
-or_unit (v ∷ vs) = v ∷ vs
-
 -- A function's body is run with its parameters and what it holds in their places.
 abbrev pub entering : Closure → Option (List (ℕ × Value)) → Act
 entering c (Some hs) = enters c.body (substituted_all (hs ++ c.held) c.body)
@@ -42,7 +37,7 @@ applying _ = stuck
 
 -- A new array of n elements costs 1 + n; below 0 it is `NegativeSize`.
 abbrev pub filling : Program → Ty → Value → Kind → Act
-filling p ty v (Value-F.Small (pos n)) = makes (or_unit (replicate n v)) (λ l. term.Value (Array ty (record { 0 = l }) n)) (1 + n)
+filling p ty v (Value-F.Small (pos n)) = makes (replicate n v) (λ l. term.Value (Array ty (record { 0 = l }) n)) (1 + n)
 filling p ty v (Value-F.Small (negsuc n)) = throwing p p.built_in.negative_size
 filling p ty v _ = stuck
 

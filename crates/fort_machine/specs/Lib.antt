@@ -19,3 +19,5 @@ pub mod Attempts
 pub mod Runs
 pub mod Journals
 pub mod Threads
+pub mod EffectLaws
+pub mod RunLaws
