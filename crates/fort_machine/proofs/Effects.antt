@@ -37,7 +37,7 @@ made_in_row l (v ∷ vs) k w e = go (l == k) refl e (made_in_row (l + 1) vs k w)
     go true q e ih = let h : l ≡ k = search (rules, q) in (omega arith, omega arith)
     go false q e ih = let i = ih e in let a : l + 1 ≤ k = i.0 in let b : k < (l + 1) + length vs = i.1 in (omega arith, omega arith)
 
-here : (l k : ℕ) → l ≡ l + k → (l == l + k) ≡ true
+pub here : (l k : ℕ) → l ≡ l + k → (l == l + k) ≡ true
 here l k e = search (rules, e)
 
 not_here : (l k : ℕ) → l < k → (l == k) ≡ false

@@ -7,3 +7,4 @@ pub mod Ready
 pub mod Single
 pub mod Effects
 pub mod Picks
+pub mod Plain

@@ -21,3 +21,4 @@ pub mod Journals
 pub mod Threads
 pub mod EffectLaws
 pub mod RunLaws
+pub mod Plain
