@@ -15,7 +15,8 @@ use Rattle.fort_machine.specs.Frames.{Frame, in_group, in_call, in_function, in_
 use Rattle.fort_machine.specs.Acts.{Act, stuck, calls, ends as ends_machine, by_standing, after, after_all, Together, at_values, leftmost, some_open, with_first, standing_together, by_together, once_all}
 use Rattle.fort_machine.specs.Forms.{act_at, act, trying}
 use Rattle.fort_machine.specs.Steps.{Acts, by_itself, by_call, Does, Local, steps}
-use Rattle.fort_machine.specs.Attempts.{Marks, Ready, Form, fresh, slept}
+use Rattle.fort_machine.specs.Attempts.{Ready, Form, fresh, slept}
+use Rattle.fort_machine.specs.Marked.{Marks}
 use Rattle.fort_machine.proofs.Standing.{standing-Value, decide, not_finished}
 use Rattle.fort_machine.proofs.Places.{on_layer, out_on}
 

@@ -23,7 +23,8 @@ use Rattle.fort_machine.specs.Acts.{Act, stuck, turns, enters, asks, sets, makes
 use Rattle.fort_machine.specs.Forms.{act}
 use Rattle.fort_machine.specs.Calls.{Dispatches, by_body}
 use Rattle.fort_machine.specs.Steps.{Acts, by_itself, by_call, Does, Local, steps, or_unit}
-use Rattle.fort_machine.specs.Attempts.{Marks, In, AreRead, AllAbove, Rising, Form, fresh, slept, Ended, goes, aborts, Closes, completed, failed, gave_up, fell_asleep}
+use Rattle.fort_machine.specs.Attempts.{AreRead, AllAbove, Rising, Form, fresh, slept, Ended, goes, aborts, Closes, completed, failed, gave_up, fell_asleep}
+use Rattle.fort_machine.specs.Marked.{Marks, In}
 use Rattle.fort_machine.specs.Runs.{Runs, none, step, stop, attempt, path_to, location}
 use Rattle.fort_machine.specs.RunLaws.{OneStep, OneMarks, OneRun}
 use Rattle.fort_machine.proofs.Standing.{standing-throw, value_not_throw}

@@ -12,15 +12,7 @@ use Rattle.fort_machine.specs.Deeds.{Store, Deed, completing, failing, aborting}
 use Rattle.fort_machine.specs.Ends.{Finished, throw_of}
 use Rattle.fort_machine.specs.Frames.{Frame, on, plug, road}
 use Rattle.fort_machine.specs.Acts.{single}
-
--- Locations with values, as a sleeping form keeps them.
-abbrev pub Marks : Type 0
-Marks = List (Loc × Value)
-
--- A location with a value is among marks.
-abbrev pub In : ℕ → Value → Marks → Type 0
-In l v [] = ⊥
-In l v (m ∷ ms) = (l ≡ m.0.0) × (v ≡ m.1) ⊎ In l v ms
+use Rattle.fort_machine.specs.Marked.{Marks, In}
 
 -- An atomic form, before an attempt or asleep after one.
 pub data Form (a : Term) (m : Mode) (body : Term) : Type 0 where

@@ -6,6 +6,7 @@ pub mod Cells
 pub mod Deeds
 pub mod Ends
 pub mod Frames
+pub mod Parts
 pub mod Scopes
 pub mod Substitution
 pub mod Acts
@@ -13,12 +14,12 @@ pub mod Generators
 pub mod Forms
 pub mod Calls
 pub mod OneDefinition
-pub mod Steps
 pub mod Marked
+pub mod Steps
 pub mod Attempts
 pub mod Runs
-pub mod Journals
 pub mod Threads
+pub mod Journals
 pub mod EffectLaws
 pub mod RunLaws
 pub mod Plain

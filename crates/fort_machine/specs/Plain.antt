@@ -12,7 +12,8 @@ use Rattle.fort_machine.specs.Ends.{throw_of}
 use Rattle.fort_machine.specs.Frames.{Frame, plug, road}
 use Rattle.fort_machine.specs.Acts.{ends, single}
 use Rattle.fort_machine.specs.Steps.{Acts, Local}
-use Rattle.fort_machine.specs.Attempts.{Marks, Form, Ended, goes, aborts}
+use Rattle.fort_machine.specs.Attempts.{Form, Ended, goes, aborts}
+use Rattle.fort_machine.specs.Marked.{Marks}
 use Rattle.fort_machine.specs.Runs.{Runs, path_to, location}
 
 -- A store with a value at one location.

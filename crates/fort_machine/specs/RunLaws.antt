@@ -6,9 +6,9 @@ use Rattle.fort_core.specs.declared.program.Program.{Program}
 use Rattle.fort_core.specs.declared.term.Term.{Term}
 use Rattle.fort_machine.specs.Deeds.{Store, Deed, idle, both, FitsAll, afterwards}
 use Rattle.fort_machine.specs.Frames.{Frame, plug, road}
-use Rattle.fort_machine.specs.Marked.{Bare, Alike}
+use Rattle.fort_machine.specs.Marked.{Marks, Bare, Alike}
 use Rattle.fort_machine.specs.Steps.{Local}
-use Rattle.fort_machine.specs.Attempts.{Marks, AreRead, Rising, Ready, Form, MayTry, Ended, goes, aborts, Closes}
+use Rattle.fort_machine.specs.Attempts.{AreRead, Rising, Ready, Form, MayTry, Ended, goes, aborts, Closes}
 use Rattle.fort_machine.specs.Runs.{Runs, path_to}
 use Rattle.fort_machine.specs.Threads.{under, ended_in}
 

@@ -1,18 +1,17 @@
 -- Chapter "Substitution": a value, or a location, in place of a variable. The code keeps the values of variables beside the term; here they stand in it.
-use Rattle.std.specs.Prelude.{ℕ, ◌==◌, nat_lt, Bool, false, ◌||◌, if◌then◌else◌, List, [], ◌∷◌, map, Option, Some, None, option_map}
+use Rattle.std.specs.Prelude.{ℕ, ◌==◌, nat_lt, Bool, if◌then◌else◌, List, [], ◌∷◌, map, Option, Some, None, option_map}
 use Rattle.std.specs.List.{list_any}
-use Rattle.fort_base.specs.declared.ids.Loc.{Loc}
 use Rattle.fort_base.specs.declared.ty.Ty.{Ty}
 use Rattle.fort_core.specs.declared.form.Slot.{Slot}
 use Rattle.fort_core.specs.declared.form.Slot.TheVariants as slot
-use Rattle.fort_core.specs.declared.term.Term.{Term, Throw, Fn, Call, Operator, Apply, Fill, Let, Mutable, Write, ReadField, WriteField, ReadElement, WriteElement, Size, Then, If, While, Typecase, For, ForHalves, Reduce, ReduceHalves, Also, Try, Atomic, Asleep, fold-Term, para-Term}
+use Rattle.fort_core.specs.declared.term.Term.{Term, Write, roll-Term, map-Term, fold-Term, para-Term}
 use Rattle.fort_core.specs.declared.term.Term as term
 use Rattle.fort_core.specs.declared.term.Term.TheVariants.{Variable, Read}
-use Rattle.fort_core.specs.declared.term.Term.TheOpen.{Term-F, Closure-F}
+use Rattle.fort_core.specs.declared.term.Term.TheOpen.{Term-F, Value-F, Closure-F}
 use Rattle.fort_core.specs.declared.value.Value.{Value, out-Value}
 use Rattle.fort_core.specs.declared.value.Closure.{Closure}
-use Rattle.fort_core.specs.declared.term.Term.TheOpen.{Value-F}
 use Rattle.fort_machine.specs.Ends.{group}
+use Rattle.fort_machine.specs.Parts.{parts_of}
 use Rattle.fort_machine.specs.Scopes.{function}
 
 -- A part as it was, and as it is after the substitution.
@@ -22,74 +21,16 @@ Changed = Term × Term
 abbrev pub now : Changed → Term
 now t = t.1
 
-abbrev pub clauses_now : List (Changed × Ty) → List (Term × Ty)
-clauses_now cs = map (λ (c : Changed × Ty). (now c.0, c.1)) cs
-
--- A form with its parts as they are after the substitution; a tuple whose parts are values now is a value.
+-- The same form with its parts as they are after the substitution; a tuple whose parts are values now is a value.
 abbrev pub remade : {A B : Type 0} → Term-F Changed (Value × A) (Closure × B) → Term
-remade (Term-F.Value v) = term.Value v.0
-remade (Term-F.Throw a) = Throw (now a)
-remade (Term-F.Variable x) = Variable x
 remade (Term-F.Group parts) = group (map now parts)
-remade (Term-F.Fn c) = Fn c.0
-remade (Term-F.Call set arguments) = Call set (map now arguments)
-remade (Term-F.Operator set operands) = Operator set (map now operands)
-remade (Term-F.Apply f a) = Apply (now f) (now a)
-remade (Term-F.Fill ty n v) = Fill ty (now n) (now v)
-remade (Term-F.Let xs a b) = Let xs (now a) (now b)
-remade (Term-F.Mutable x ty a b) = Mutable x ty (now a) (now b)
-remade (Term-F.Read x) = Read x
-remade (Term-F.Write x a) = Write x (now a)
-remade (Term-F.ReadField o f) = ReadField (now o) f
-remade (Term-F.WriteField o f a) = WriteField (now o) f (now a)
-remade (Term-F.ReadElement a i) = ReadElement (now a) (now i)
-remade (Term-F.WriteElement a i b) = WriteElement (now a) (now i) (now b)
-remade (Term-F.Size a) = Size (now a)
-remade (Term-F.Then a b) = Then (now a) (now b)
-remade (Term-F.If c a b) = If (now c) (now a) (now b)
-remade (Term-F.While c b) = While (now c) (now b)
-remade (Term-F.Typecase x a cs b) = Typecase x (now a) (clauses_now cs) (now b)
-remade (Term-F.For order span x a b) = For order span x (now a) (now b)
-remade (Term-F.ForHalves a b) = ForHalves (now a) (now b)
-remade (Term-F.Reduce order span set empty x a b) = Reduce order span set (now empty) x (now a) (now b)
-remade (Term-F.ReduceHalves set a b) = ReduceHalves set (now a) (now b)
-remade (Term-F.Also blocks) = Also (map now blocks)
-remade (Term-F.Try a x cs last) = Try (now a) x (clauses_now cs) (option_map now last)
-remade (Term-F.Atomic mode a) = Atomic mode (now a)
-remade (Term-F.Asleep marks a) = Asleep (map (λ (m : Loc × (Value × _)). (m.0, m.1.0)) marks) (now a)
+remade {A = A} {B = B} form = roll-Term (map-Term Changed (Value × A) (Closure × B) Term Value Closure now (λ v. v.0) (λ c. c.0) form)
 
--- Whether an immutable variable stands in a part of a form, bodies of functions included; values are closed.
+-- An immutable variable stands in a form, or in what stands in it, bodies of functions included; values are closed.
 abbrev pub occurs_at : ℕ → Term-F Bool (Unit {0}) Bool → Bool
 occurs_at x (Term-F.Variable y) = x == y
-occurs_at x (Term-F.Throw a) = a
-occurs_at x (Term-F.Group parts) = list_any (λ b. b) parts
 occurs_at x (Term-F.Fn c) = c
-occurs_at x (Term-F.Call set arguments) = list_any (λ b. b) arguments
-occurs_at x (Term-F.Operator set operands) = list_any (λ b. b) operands
-occurs_at x (Term-F.Apply f a) = f || a
-occurs_at x (Term-F.Fill ty n v) = n || v
-occurs_at x (Term-F.Let ys a b) = a || b
-occurs_at x (Term-F.Mutable y ty a b) = a || b
-occurs_at x (Term-F.Write y a) = a
-occurs_at x (Term-F.ReadField o f) = o
-occurs_at x (Term-F.WriteField o f a) = o || a
-occurs_at x (Term-F.ReadElement a i) = a || i
-occurs_at x (Term-F.WriteElement a i b) = a || (i || b)
-occurs_at x (Term-F.Size a) = a
-occurs_at x (Term-F.Then a b) = a || b
-occurs_at x (Term-F.If c a b) = c || (a || b)
-occurs_at x (Term-F.While c b) = c || b
-occurs_at x (Term-F.Typecase y a cs b) = a || (list_any (λ (c : Bool × Ty). c.0) cs || b)
-occurs_at x (Term-F.For order span y a b) = a || b
-occurs_at x (Term-F.ForHalves a b) = a || b
-occurs_at x (Term-F.Reduce order span set empty y a b) = empty || (a || b)
-occurs_at x (Term-F.ReduceHalves set a b) = a || b
-occurs_at x (Term-F.Also blocks) = list_any (λ b. b) blocks
-occurs_at x (Term-F.Try a y cs None) = a || list_any (λ (c : Bool × Ty). c.0) cs
-occurs_at x (Term-F.Try a y cs (Some last)) = a || (list_any (λ (c : Bool × Ty). c.0) cs || last)
-occurs_at x (Term-F.Atomic mode a) = a
-occurs_at x (Term-F.Asleep marks a) = a
-occurs_at x _ = false
+occurs_at x form = list_any (λ b. b) (parts_of form)
 
 -- Whether an immutable variable stands in a term.
 abbrev pub occurs : ℕ → Term → Bool
