@@ -5,10 +5,12 @@ mod boxed;
 mod ids;
 mod list;
 mod refusal;
+mod table;
 mod ty;
 
 pub use boxed::Boxed;
 pub use ids::{BookId, DeclId, Loc, NameId, SetId, TaskId, TypeId};
 pub use list::{Bytes, List};
 pub use refusal::{CheckFault, Gap, Memory, Place, Rule};
+pub use table::TypeTable;
 pub use ty::Ty;

@@ -23,7 +23,7 @@ pub use node::{ClosureNode, Node, PickNode, ValueNode};
 pub use path::Path;
 pub use pick::Pick;
 pub use primitive::Primitive;
-pub use program::{CoreBody, CoreDecl, CoreField, CoreKind, CoreSet, CoreShape, Program};
+pub use program::{BuiltIn, CoreBody, CoreDecl, CoreField, CoreKind, CoreSet, CoreShape, Program};
 pub use term::Term;
 pub use value::{Closure, Value};
 

@@ -2,7 +2,7 @@
 use crate::primitive::Primitive;
 use crate::term::Term;
 use crate::value::Value;
-use fort_base::{Bytes, DeclId, List, Loc, NameId, Ty, TypeId};
+use fort_base::{Bytes, DeclId, List, Loc, NameId, Ty, TypeId, TypeTable};
 
 /// What makes values of a declared type.
 #[derive(Clone, Copy, Debug, PartialEq, Eq)]
@@ -63,9 +63,44 @@ pub struct CoreDecl {
     pub body: CoreBody,
 }
 
+/// The numbers of the built-in types that values and steps name.
+#[derive(Clone, Copy, Debug, PartialEq, Eq)]
+pub struct BuiltIn {
+    /// `ZZ32`
+    pub small: TypeId,
+    /// `ZZ64`
+    pub large: TypeId,
+    /// `String`
+    pub text: TypeId,
+    /// `Boolean`
+    pub truth: TypeId,
+    /// `Range`
+    pub range: TypeId,
+    /// `IntegerOverflow`
+    pub integer_overflow: TypeId,
+    /// `DivisionByZero`
+    pub division_by_zero: TypeId,
+    /// `NegativeExponent`
+    pub negative_exponent: TypeId,
+    /// `IndexOutOfRange`
+    pub index_out_of_range: TypeId,
+    /// `NegativeSize`
+    pub negative_size: TypeId,
+    /// `DepthExceeded`
+    pub depth_exceeded: TypeId,
+    /// `TryAtomicFailure`
+    pub try_atomic_failure: TypeId,
+    /// `AbortOutside`
+    pub abort_outside: TypeId,
+}
+
 /// A program: its types, overload sets and declarations by number, its first term and its opening store.
 #[derive(Drop)]
 pub struct Program {
+    /// Which declared types are below each other, and which are apart.
+    pub types: TypeTable,
+    /// The built-in types, by name.
+    pub built_in: BuiltIn,
     /// The names of the declared types, by number.
     pub type_names: List<Bytes>,
     /// What each declared type is made of, by number.

@@ -1,0 +1,10 @@
+pub mod Cells
+pub mod Deeds
+pub mod Runs
+pub mod Standing
+pub mod Places
+pub mod Ready
+pub mod Single
+pub mod Effects
+pub mod Picks
+pub mod Plain

@@ -1,0 +1,56 @@
+-- Chapter "Terms and threads": how a term stands, and a tuple, which is a value once its parts are. The code keeps an environment and frames in place of terms.
+use Rattle.std.specs.Prelude.{◌≡◌, nat_le, if◌then◌else◌, List, [], ◌∷◌, Option, Some, None, option_map, option_and_then}
+use Rattle.fort_core.specs.declared.term.Term.{Term, Throw, Group, out-Term}
+use Rattle.fort_core.specs.declared.term.Term as term
+use Rattle.fort_core.specs.declared.term.Term.TheOpen.{Term-F}
+use Rattle.fort_core.specs.declared.value.Value.{Value, Tuple}
+use Rattle.fort_core.specs.declared.value.Closure.{Closure}
+use Rattle.fort_machine.specs.Texts.{depth, deepest}
+
+-- How a term stands: at a value, at a throw of a value, or open, with steps to take.
+pub data Standing : Type 0 where
+  at_value : (value : Value) → Standing
+  at_throw : (thrown : Value) → Standing
+  open_yet : Standing
+
+-- A throw is at a throw once what it throws is a value.
+abbrev pub of_thrown : Term-F Term Value Closure → Standing
+of_thrown (Term-F.Value v) = at_throw v
+of_thrown _ = open_yet
+
+abbrev pub standing_at : Term-F Term Value Closure → Standing
+standing_at (Term-F.Value v) = at_value v
+standing_at (Term-F.Throw t) = of_thrown (out-Term t)
+standing_at _ = open_yet
+
+-- How a term stands.
+abbrev pub standing : Term → Standing
+standing t = standing_at (out-Term t)
+
+-- The term that is a throw of a value.
+abbrev pub throw_of : Value → Term
+throw_of v = Throw (term.Value v)
+
+-- A term is finished where it is a value or a throw of a value.
+pub data Finished (t : Term) : Type 0 where
+  value : (v : Value) → t ≡ term.Value v → Finished t
+  throw : (v : Value) → t ≡ throw_of v → Finished t
+
+abbrev pub value_at : Standing → Option Value
+value_at (at_value v) = Some v
+value_at _ = None
+
+-- The values of terms that all are values.
+abbrev pub values_of : List Term → Option (List Value)
+values_of [] = Some []
+values_of (t ∷ ts) = option_and_then (λ v. option_map (λ vs. v ∷ vs) (values_of ts)) (value_at (standing t))
+
+-- A tuple that isn't too deep is a value.
+abbrev pub tuple_of : List Term → Option (List Value) → Term
+tuple_of ts (Some vs) = if nat_le (depth (Tuple vs)) deepest then term.Value (Tuple vs) else Group ts
+tuple_of ts None = Group ts
+
+-- The term `(a, b)`: the tuple itself where all parts are values and it isn't too deep.
+abbrev pub group : List Term → Term
+group ts = tuple_of ts (values_of ts)
+

@@ -1,0 +1,86 @@
+-- Chapter "Runs": what holds of runs.
+use Rattle.std.specs.Prelude.{◌≡◌, ℕ, ◌+◌, Bool, true, false, List, [], ◌∷◌, ◌++◌, map}
+use Rattle.fort_core.specs.declared.form.Mode.{Mode}
+use Rattle.fort_core.specs.declared.pick.Pick.{Pick, Attempt}
+use Rattle.fort_core.specs.declared.program.Program.{Program}
+use Rattle.fort_core.specs.declared.term.Term.{Term}
+use Rattle.fort_machine.specs.Deeds.{Store, Deed, idle, both, FitsAll, afterwards}
+use Rattle.fort_machine.specs.Frames.{Frame, plug, road}
+use Rattle.fort_machine.specs.Marked.{Marks, Bare, Alike}
+use Rattle.fort_machine.specs.Steps.{Local}
+use Rattle.fort_machine.specs.Attempts.{AreRead, Rising, Ready, Form, MayTry, Ended, goes, aborts, Closes}
+use Rattle.fort_machine.specs.Runs.{Runs, path_to}
+use Rattle.fort_machine.specs.Threads.{under, ended_in}
+
+-- A thread's path determines what stands there.
+abbrev pub OnePlace : Type 0
+OnePlace = (fs gs : List Frame) (a b : Term) → plug fs a ≡ plug gs b → road fs ≡ road gs → Ready a → Ready b → (fs ≡ gs) × (a ≡ b)
+
+-- A form has one step.
+abbrev pub OneStep : Type 0
+OneStep = (p : Program) (inner : Bool) (loc : ℕ) (s : Store) (a b b' : Term) (d d' : Deed)
+    → Local p inner loc a b d → Local p inner loc a b' d' → FitsAll d s → FitsAll d' s → (b ≡ b') × (d ≡ d')
+
+-- What an attempt read determines its marks, since they stand in order.
+abbrev pub OneMarks : Type 0
+OneMarks = (marks others : Marks) (d : Deed) → AreRead marks d → Rising marks → AreRead others d → Rising others → marks ≡ others
+
+-- A run is determined by its picks.
+abbrev pub OneRun : Type 0
+OneRun = (p : Program) (inner strict : Bool) (s : Store) (picks : List Pick) (t : Term) (r r' : Ended) (d d' : Deed)
+    → Runs p inner strict s picks t r d → Runs p inner strict s picks t r' d' → (r ≡ r') × (d ≡ d')
+
+-- A run depends only on what it read, on the older locations that it wrote being there, on those that it made being absent, and, where the rule on sleeping forms is kept, on what the sleepers of its first term watch.
+abbrev pub Framed : Type 0
+Framed = (p : Program) (inner strict : Bool) (s s' : Store) (picks : List Pick) (t : Term) (r : Ended) (d : Deed)
+    → Runs p inner strict s picks t r d → (strict ≡ true → Alike s s' t) → FitsAll d s' → Runs p inner strict s' picks t r d
+
+-- A run suits the store that it runs on.
+abbrev pub RunsFit : Type 0
+RunsFit = (p : Program) (inner strict : Bool) (s : Store) (picks : List Pick) (t : Term) (r : Ended) (d : Deed) → Runs p inner strict s picks t r d → FitsAll d s
+
+-- A part's run is one of the whole term, the part's path before each of its picks.
+abbrev pub Lifts : Type 0
+Lifts = (p : Program) (inner : Bool) (fs : List Frame) (s : Store) (picks : List Pick) (t : Term) (r : Ended) (d : Deed)
+    → Runs p inner false s picks t r d → Runs p inner false s (map (under (road fs)) picks) (plug fs t) (ended_in fs r) d
+
+-- One run after another is a run.
+abbrev pub RunsJoin : Type 0
+RunsJoin = (p : Program) (inner strict : Bool) (s : Store) (picks more : List Pick) (t u : Term) (r : Ended) (d e : Deed)
+    → Runs p inner strict s picks t (goes u) d → Runs p inner strict (afterwards d s) more u r e → Runs p inner strict s (picks ++ more) t r (both d e)
+
+-- The inner picks of an attempt are one pick outside.
+abbrev pub AttemptIsOnePick : Type 0
+AttemptIsOnePick = (p : Program) (inner strict : Bool) (m : Mode) (fs : List Frame) (s : Store) (within : List Pick) (a b body : Term) (r : Ended) (d e : Deed)
+    → Form a m body → Bare body → MayTry strict s (plug fs a) fs a → Runs p true true s within body r d → Closes p m body r d b e
+    → Runs p inner strict s (Attempt (path_to fs) within ∷ []) (plug fs a) (goes (plug fs b)) e
+
+-- A run, pick by pick: what each of them did.
+pub data PickByPick (p : Program) (inner strict : Bool) : (s : Store) (picks : List Pick) (t : Term) (r : Ended) (deeds : List Deed) → Type 0 where
+  no_more : {s : Store} {picks : List Pick} {t : Term} {r : Ended} {deeds : List Deed}
+      → picks ≡ [] → r ≡ goes t → deeds ≡ [] → PickByPick p inner strict s picks t r deeds
+  next : {s : Store} {picks rest : List Pick} {t u : Term} {r : Ended} {deeds others : List Deed} (pick : Pick) (d : Deed)
+      → picks ≡ pick ∷ rest → Runs p inner strict s (pick ∷ []) t (goes u) d → PickByPick p inner strict (afterwards d s) rest u r others
+      → deeds ≡ d ∷ others → PickByPick p inner strict s picks t r deeds
+  stopped : {s : Store} {picks : List Pick} {t : Term} {r : Ended} {deeds : List Deed} (pick : Pick) (d : Deed)
+      → picks ≡ pick ∷ [] → Runs p inner strict s (pick ∷ []) t aborts d → r ≡ aborts → deeds ≡ d ∷ [] → PickByPick p inner strict s picks t r deeds
+
+-- What stretches do, one after the other.
+abbrev pub all_of : List Deed → Deed
+all_of [] = idle
+all_of (d ∷ ds) = both d (all_of ds)
+
+-- Texts, one after the other.
+abbrev pub outputs : List Deed → List ℕ
+outputs [] = []
+outputs (d ∷ ds) = d.output ++ outputs ds
+
+-- The sum of costs.
+abbrev pub costs : List Deed → ℕ
+costs [] = 0
+costs (d ∷ ds) = d.cost + costs ds
+
+-- A run is its picks one after the other: its output is theirs in a row, and only grows; its cost is the sum of theirs.
+abbrev pub PicksAddUp : Type 0
+PicksAddUp = (p : Program) (inner strict : Bool) (s : Store) (picks : List Pick) (t : Term) (r : Ended) (d : Deed) → Runs p inner strict s picks t r d
+    → (deeds : List Deed) × PickByPick p inner strict s picks t r deeds × (d ≡ all_of deeds) × (d.output ≡ outputs deeds) × (d.cost ≡ costs deeds)
