@@ -206,7 +206,7 @@ atom_step (Atom-F.Parens left contents right) = record {
   obeys = λ names allowed. maybe_obeys names in_brackets contents;
 }
 atom_step (Atom-F.Delimited form) = form
-atom_step (Atom-F.Array array left element right size_left size size_right dot fill value_left value value_right) = record {
+atom_step (Atom-F.ArrayFill array left element right size_left size size_right dot fill value_left value value_right) = record {
   first = word reserved.Array array;
   more = marked mark.OpenStatic left ∷ (tokens_of (said_type element) ++ marked mark.CloseStatic right ∷ marked mark.OpenParen size_left
     ∷ (tokens_of size ++ marked mark.CloseParen size_right ∷ marked mark.Dot dot ∷ named fill ∷ marked mark.OpenParen value_left

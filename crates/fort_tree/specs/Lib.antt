@@ -5,3 +5,11 @@ pub mod Levels
 pub mod Flats
 pub mod Blocks
 pub mod Yield
+pub mod Declarations
+pub mod Component
+pub mod SaysTypes
+pub mod SaysFlats
+pub mod SaysBlocks
+pub mod CasesTypes
+pub mod CasesFlats
+pub mod CasesBlocks

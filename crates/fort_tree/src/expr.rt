@@ -208,7 +208,7 @@ pub enum Atom {
     /// `Delim`
     Delimited(Boxed<Delimited>),
     /// `"array" "[\" Type "\]" "(" Expr ")" "." "fill" "(" Expr ")"`; the name must be `fill`.
-    Array {
+    ArrayFill {
         array: Spot,
         left: Spot,
         element: Boxed<TypeTree>,
