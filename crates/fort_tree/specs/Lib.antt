@@ -7,9 +7,7 @@ pub mod Blocks
 pub mod Yield
 pub mod Declarations
 pub mod Component
-pub mod SaysTypes
-pub mod SaysFlats
-pub mod SaysBlocks
-pub mod CasesTypes
-pub mod CasesFlats
-pub mod CasesBlocks
+pub mod Openers
+pub mod Measured
+pub mod Measures
+pub mod Measuring
