@@ -1,5 +1,5 @@
 -- The chapter "Grammar": a fact of each form of a type is a fact of every type.
-use Rattle.std.specs.Prelude.{◌≡◌, List, Option}
+use Rattle.std.specs.Prelude.{List, Option}
 use Rattle.std.proofs.Common.{subst, sym}
 use Rattle.fort_tree.specs.declared.spot.Spot.{Spot}
 use Rattle.fort_tree.specs.declared.spot.Name.{Name}

@@ -4,3 +4,6 @@ pub mod SaysBlocks
 pub mod CasesTypes
 pub mod CasesFlats
 pub mod CasesBlocks
+pub mod MeasuresTypes
+pub mod MeasuresFlats
+pub mod MeasuresBlocks

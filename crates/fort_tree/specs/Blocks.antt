@@ -1,17 +1,16 @@
 -- The chapter "Grammar", blocks and the forms that end with `end`: what one level of each says.
-use Rattle.std.specs.Prelude.{ℕ, Bool, true, false, ◌&&◌, ◌||◌, not, List, [], ◌∷◌, ◌++◌, Option, Some, None, map}
+use Rattle.std.specs.Prelude.{Bool, true, false, ◌&&◌, ◌||◌, not, List, [], ◌∷◌, ◌++◌, Option, Some, None}
 use Rattle.fort_token.specs.declared.token.Token.{Token}
 use Rattle.fort_token.specs.declared.marks.Mark.TheVariants as mark
 use Rattle.fort_token.specs.declared.reserved.Reserved.{Reserved}
 use Rattle.fort_token.specs.declared.reserved.Reserved.TheVariants as reserved
 use Rattle.fort_tree.specs.declared.spot.Spot.{Spot}
-use Rattle.fort_tree.specs.declared.spot.Name.{Name}
 use Rattle.fort_tree.specs.declared.spot.NextName.{NextName}
 use Rattle.fort_tree.specs.declared.declarations.InitialSign.{InitialSign}
 use Rattle.fort_tree.specs.declared.declarations.InitialSign.TheVariants as initial_sign
 use Rattle.fort_tree.specs.declared.delimited.Delimited.TheOpen.{Delimited-F, Item-F}
 use Rattle.fort_tree.specs.Tokens.{word, marked, named, colon, equals, begins_declaration}
-use Rattle.fort_tree.specs.Said.{Said, SaidEntry, SaidElse, Allowed, elsewhere, before_do, tokens_of, all_tokens, all_obey, maybe_tokens, maybe_obeys, is_there, entries_tokens, entries_obey, has_entry, else_tokens, else_obeys}
+use Rattle.fort_tree.specs.Said.{Said, SaidEntry, SaidElse, elsewhere, before_do, tokens_of, all_tokens, all_obey, maybe_tokens, maybe_obeys, is_there, entries_tokens, entries_obey, has_entry, else_tokens, else_obeys}
 use Rattle.fort_tree.specs.Types.{said_type}
 use Rattle.fort_tree.specs.Levels.{OfDelimited, OfItem, OfVariable, OfAlso, OfBlockItem, OfCaseClause, OfCatch, OfElif, OfElseBlock, OfElseClause, OfFinally, OfNextGenerator, OfTypeClause}
 

@@ -1,6 +1,6 @@
 -- The chapter "Grammar", components: their tokens, the rules that they obey, and which token list has which tree. A token
 -- list has a tree where the tree yields it and obeys the rules; the code reads the list from left to right.
-use Rattle.std.specs.Prelude.{ℕ, ◌<◌, ◌≡◌, Bool, true, false, ◌&&◌, IsTrue, List, [], ◌∷◌, ◌++◌, Option, Some, None, map, length, nat_lt}
+use Rattle.std.specs.Prelude.{ℕ, ◌≡◌, Bool, true, ◌&&◌, IsTrue, List, [], ◌∷◌, ◌++◌, Option, Some, None, map, length, nat_lt}
 use Rattle.std.specs.List.{AllPass}
 use Rattle.fort_ops.specs.declared.op.Op.TheVariants as op
 use Rattle.fort_token.specs.declared.token.Kind.{Kind}

@@ -1,6 +1,5 @@
 -- The chapter "Grammar", expressions: what one level of each says. The code reads a flat expression unit by unit.
-use Rattle.std.specs.Prelude.{ℕ, Bool, true, false, ◌&&◌, ◌||◌, not, List, [], ◌∷◌, ◌++◌, Option, Some, None, option_map}
-use Rattle.fort_base.specs.declared.ids.NameId.{NameId}
+use Rattle.std.specs.Prelude.{Bool, true, false, ◌&&◌, ◌||◌, not, List, [], ◌∷◌, ◌++◌, Option, Some, None, option_map}
 use Rattle.fort_ops.specs.declared.op.Op.TheVariants as op
 use Rattle.fort_token.specs.declared.token.Token.{Token}
 use Rattle.fort_token.specs.declared.token.Kind.TheVariants as kind
@@ -15,7 +14,7 @@ use Rattle.fort_tree.specs.declared.expr.Prefix.{Prefix}
 use Rattle.fort_tree.specs.declared.expr.Prefix.TheVariants as a_prefix
 use Rattle.fort_tree.specs.declared.delimited.Delimited.TheOpen.{Atom-F, Expr-F, FlatPart-F, Generator-F, Head-F, Postfix-F, RunPart-F}
 use Rattle.fort_tree.specs.Tokens.{token, word, marked, operator, named, signed, is_empty, is_line, is_dot, is_open_paren, is_infix, is_spelled}
-use Rattle.fort_tree.specs.Said.{Said, Allowed, in_brackets, elsewhere, tokens_of, gap_of, all_tokens, all_obey, maybe_tokens, maybe_obeys}
+use Rattle.fort_tree.specs.Said.{Said, in_brackets, elsewhere, tokens_of, gap_of, all_tokens, all_obey, maybe_tokens, maybe_obeys}
 use Rattle.fort_tree.specs.Types.{said_type, said_parameters}
 use Rattle.fort_tree.specs.Levels.{OfAtom, OfExpr, OfFlatPart, OfGenerator, OfHead, OfPostfix, OfRunPart, OfExprList, OfFlat, OfNextExpr, OfOperand, OfRun}
 

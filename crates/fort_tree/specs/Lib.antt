@@ -11,3 +11,4 @@ pub mod Openers
 pub mod Measured
 pub mod Measures
 pub mod Measuring
+pub mod Limits

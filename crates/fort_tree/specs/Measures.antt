@@ -1,11 +1,9 @@
 -- The chapters "Grammar" and "Limits": what one level of each tree measures. The code counts while it walks a tree.
-use Rattle.std.specs.Prelude.{ℕ, ◌+◌, List, [], ◌∷◌, ◌++◌, Option, Some, None, length, map}
+use Rattle.std.specs.Prelude.{◌+◌, List, [], ◌∷◌, ◌++◌, Option, Some, None, length, map}
 use Rattle.fort_base.specs.declared.refusal.Place.{Place}
 use Rattle.fort_tree.specs.declared.spot.Spot.{Spot}
-use Rattle.fort_tree.specs.declared.declarations.NextParameter.{NextParameter}
-use Rattle.fort_tree.specs.declared.declarations.Parameter.{Parameter}
 use Rattle.fort_tree.specs.declared.declarations.Parameters.{Parameters}
-use Rattle.fort_tree.specs.declared.delimited.Delimited.TheOpen.{Delimited-F, Item-F, Atom-F, Expr-F, FlatPart-F, Generator-F, Head-F, Postfix-F, RunPart-F, ExprList-F}
+use Rattle.fort_tree.specs.declared.delimited.Delimited.TheOpen.{Delimited-F, Item-F, Atom-F, Expr-F, FlatPart-F, Generator-F, Head-F, Postfix-F, RunPart-F}
 use Rattle.fort_tree.specs.declared.expr.Prefix.{Prefix}
 use Rattle.fort_tree.specs.declared.expr.Prefix.TheVariants as a_prefix
 use Rattle.fort_tree.specs.declared.types.NextType.{NextType}

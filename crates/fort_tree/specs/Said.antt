@@ -1,6 +1,6 @@
 -- The chapter "Grammar": what a tree says, its tokens and whether the rules on gaps and names hold in it. The code that
 -- prints appends tokens; the code that reads asks each rule at the token where it can fail first.
-use Rattle.std.specs.Prelude.{Bool, true, false, ◌&&◌, ◌||◌, not, List, [], ◌∷◌, ◌++◌, Option, Some, None}
+use Rattle.std.specs.Prelude.{Bool, true, false, ◌&&◌, List, [], ◌∷◌, ◌++◌, Option, Some, None}
 use Rattle.fort_base.specs.declared.refusal.Gap.{Gap}
 use Rattle.fort_token.specs.declared.token.Token.{Token}
 use Rattle.fort_token.specs.declared.marks.Mark.TheVariants as mark

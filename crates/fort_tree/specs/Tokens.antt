@@ -1,5 +1,5 @@
 -- The chapter "Grammar": the tokens that trees are made of, and the tests on them. The code compares kinds of tokens.
-use Rattle.std.specs.Prelude.{ℕ, ◌==◌, Bool, true, false, cond, ◌&&◌, ◌||◌, List, [], ◌∷◌, codes, nat_eq, get_or, length, nat_lt}
+use Rattle.std.specs.Prelude.{ℕ, ◌==◌, Bool, true, false, ◌&&◌, ◌||◌, List, [], ◌∷◌, codes, nat_eq, get_or}
 use Rattle.std.specs.Cmp.Lexicographic.{pointwise}
 use Prim.Native.String.{String}
 use Rattle.fort_base.specs.declared.refusal.Gap.{Gap}
