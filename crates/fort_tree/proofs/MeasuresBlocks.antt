@@ -1,4 +1,4 @@
--- The chapters "Grammar" and "Limits": what each form that ends with `end`, and each part of one, measures.
+-- The chapter "Grammar", limits: what each form that ends with `end`, and each part of one, measures.
 use Rattle.std.proofs.Common.{◌≡◌, List, Option, rules}
 use Rattle.std.specs.Prelude.{map, option_map}
 use Rattle.fort_tree.specs.declared.spot.Spot.{Spot}

@@ -1,4 +1,4 @@
--- The chapters "Grammar" and "Limits": what each expression measures, as one level of it.
+-- The chapter "Grammar", limits: what each expression measures, as one level of it.
 use Rattle.std.proofs.Common.{◌≡◌, ℕ, List, Option, rules}
 use Rattle.std.specs.Prelude.{map, option_map}
 use Rattle.fort_tree.specs.declared.spot.Spot.{Spot}

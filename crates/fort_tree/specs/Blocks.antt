@@ -16,6 +16,7 @@ use Rattle.fort_tree.specs.Levels.{OfDelimited, OfItem, OfVariable, OfAlso, OfBl
 
 -- ---- Var, Item
 
+-- the sign before an initial
 abbrev pub initial_token : InitialSign → Token
 initial_token (initial_sign.Equals s) = equals s
 initial_token (initial_sign.Becomes s) = marked mark.Becomes s
@@ -25,6 +26,7 @@ abbrev pub after_var : Option Spot → Said → Said
 after_var None part = part
 after_var (Some s) part = record { first = word reserved.Var s; more = tokens_of part; obeys = part.obeys }
 
+-- what a declaration of a variable says
 abbrev pub variable_step : OfVariable → Said
 variable_step v = after_var v.var (record {
   first = named v.name;
@@ -32,10 +34,12 @@ variable_step v = after_var v.var (record {
   obeys = λ names allowed. (said_type v.ty).obeys names elsewhere && v.value.obeys names elsewhere;
 })
 
+-- the tokens of further names of a list
 abbrev pub next_names_tokens : List NextName → List Token
 next_names_tokens [] = []
 next_names_tokens (n ∷ ns) = marked mark.Comma n.comma ∷ named n.name ∷ next_names_tokens ns
 
+-- whether a further name stands there
 abbrev pub has_next_name : List NextName → Bool
 has_next_name [] = false
 has_next_name (n ∷ ns) = true
@@ -54,6 +58,7 @@ item_step (Item-F.Expr expr) = record {
   obeys = λ names allowed. not (begins_declaration (tokens_of expr)) && expr.obeys names elsewhere;
 }
 
+-- what an item of a block says, and its `;`
 abbrev pub block_item_step : OfBlockItem → SaidEntry
 block_item_step entry = record { item = entry.item; semicolon = entry.semicolon }
 
@@ -63,6 +68,7 @@ block_item_step entry = record { item = entry.item; semicolon = entry.semicolon 
 abbrev pub block_after : Reserved → Spot → List SaidEntry → Said
 block_after w s block = record { first = word w s; more = entries_tokens block; obeys = λ names allowed. entries_obey names block }
 
+-- what a further block of a `do` says
 abbrev pub also_step : OfAlso → Said
 also_step a = record {
   first = word reserved.Also a.also;
@@ -70,6 +76,7 @@ also_step a = record {
   obeys = λ names allowed. entries_obey names a.block;
 }
 
+-- what an `elif` says
 abbrev pub elif_step : OfElif → Said
 elif_step e = record {
   first = word reserved.Elif e.elif;
@@ -77,12 +84,15 @@ elif_step e = record {
   obeys = λ names allowed. e.condition.obeys names elsewhere && entries_obey names e.block;
 }
 
+-- what the `else` of an `if` says
 abbrev pub else_block_step : OfElseBlock → Said
 else_block_step e = block_after reserved.Else e.else_ e.block
 
+-- what a `finally` says
 abbrev pub finally_step : OfFinally → Said
 finally_step f = block_after reserved.Finally f.finally f.block
 
+-- what a further generator of a `for` says: a comma, and it
 abbrev pub next_generator_step : OfNextGenerator → Said
 next_generator_step next = record {
   first = marked mark.Comma next.comma;
@@ -98,12 +108,15 @@ clause subject arrow value = record {
   obeys = λ names allowed. subject.obeys names elsewhere && value.obeys names elsewhere;
 }
 
+-- what a clause of a `case` says, and its `;`
 abbrev pub case_clause_step : OfCaseClause → SaidEntry
 case_clause_step c = record { item = clause c.subject c.arrow c.value; semicolon = c.semicolon }
 
+-- what a clause of a `typecase` or `catch` says, and its `;`
 abbrev pub type_clause_step : OfTypeClause → SaidEntry
 type_clause_step c = record { item = clause (said_type c.ty) c.arrow c.value; semicolon = c.semicolon }
 
+-- what the `else` of a `case` or `typecase` says, and the second `;` before it
 abbrev pub else_clause_step : OfElseClause → SaidElse
 else_clause_step e = record {
   semicolon = e.semicolon;

@@ -18,6 +18,7 @@ use Rattle.fort_tree.specs.Types.{said_type}
 use Rattle.fort_tree.specs.Yield.{said_expr}
 use Rattle.fort_tree.specs.Declarations.{said_declared}
 
+-- the tokens of an `export`
 abbrev pub export_tokens : Option Export → List Token
 export_tokens None = []
 export_tokens (Some e) = word reserved.Export e.export ∷ named e.name ∷ []
@@ -69,3 +70,7 @@ number_is_in names texts _ = true
 -- Each number of a name or text among these tokens is in the tables.
 abbrev pub NumbersAreIn : Spellings → List (List ℕ) → List Token → Type 0
 NumbersAreIn names texts ts = AllPass (λ t. number_is_in (length names) (length texts) t.kind) ts
+
+-- What the calls on tokens ask of them: each number of a name or text is in their tables.
+abbrev pub IsNumbered : Tokens → Type 0
+IsNumbered tokens = NumbersAreIn tokens.names tokens.texts tokens.list

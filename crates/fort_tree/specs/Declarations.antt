@@ -40,11 +40,13 @@ use Rattle.fort_tree.specs.Yield.{said_variable, said_expr}
 
 -- ---- names of functions and methods
 
+-- the first token of a declaration's name
 abbrev pub name_first : FunctionName → Token
 name_first (function_name.Name name) = named name
 name_first (function_name.Operator opr sign) = word reserved.Opr opr
 name_first (function_name.Juxtaposition opr name) = word reserved.Opr opr
 
+-- what follows `opr`
 abbrev pub name_more : FunctionName → List Token
 name_more (function_name.Name name) = []
 name_more (function_name.Operator opr sign) = signed sign ∷ []
@@ -56,6 +58,7 @@ name_fits names (function_name.Name name) count = true
 name_fits names (function_name.Operator opr sign) count = may_declare sign.op count
 name_fits names (function_name.Juxtaposition opr name) count = is_spelled "juxtaposition" names name && (count == 2)
 
+-- whether a name is declared by `opr`
 abbrev pub is_opr : FunctionName → Bool
 is_opr (function_name.Name name) = false
 is_opr (function_name.Operator opr sign) = true
@@ -63,21 +66,24 @@ is_opr (function_name.Juxtaposition opr name) = true
 
 -- ---- Fn
 
+-- what a function says
 abbrev pub said_function : Function → Said
 said_function f = record {
   first = name_first f.name;
   more = name_more f.name ++ marked mark.OpenParen f.left ∷ (maybe_tokens (option_map said_parameters f.parameters) ++ marked mark.CloseParen f.right ∷ colon f.colon
-    ∷ (tokens_of (said_type f.result) ++ equals f.equals ∷ tokens_of (said_expr f.body)));
+      ∷ (tokens_of (said_type f.result) ++ equals f.equals ∷ tokens_of (said_expr f.body)));
   obeys = λ names allowed. name_fits names f.name (parameter_count f.parameters)
-    && (maybe_obeys names elsewhere (option_map said_parameters f.parameters) && ((said_type f.result).obeys names elsewhere && (said_expr f.body).obeys names elsewhere));
+      && (maybe_obeys names elsewhere (option_map said_parameters f.parameters) && ((said_type f.result).obeys names elsewhere && (said_expr f.body).obeys names elsewhere));
 }
 
 -- ---- Method, MParam
 
+-- what a parameter of a method says: a parameter, or `self`
 abbrev pub said_method_parameter : MethodParameter → Said
 said_method_parameter (method_parameter.Parameter parameter) = said_parameter parameter
 said_method_parameter (method_parameter.Self_ s) = record { first = word reserved.Self_ s; more = []; obeys = λ names allowed. true }
 
+-- what a further parameter of a method says: a comma, and it
 abbrev pub said_next_method_parameter : NextMethodParameter → Said
 said_next_method_parameter next = record {
   first = marked mark.Comma next.comma;
@@ -85,6 +91,7 @@ said_next_method_parameter next = record {
   obeys = (said_method_parameter next.parameter).obeys;
 }
 
+-- what a list of parameters of a method says
 abbrev pub said_method_parameters : MethodParameters → Said
 said_method_parameters list = record {
   first = (said_method_parameter list.first).first;
@@ -92,10 +99,12 @@ said_method_parameters list = record {
   obeys = λ names allowed. (said_method_parameter list.first).obeys names allowed && all_obey names allowed (map said_next_method_parameter list.others);
 }
 
+-- 1 where a parameter is `self`
 abbrev pub self_count : MethodParameter → ℕ
 self_count (method_parameter.Parameter parameter) = 0
 self_count (method_parameter.Self_ s) = 1
 
+-- how many of further parameters are `self`
 abbrev pub next_self_count : List NextMethodParameter → ℕ
 next_self_count [] = 0
 next_self_count (n ∷ ns) = self_count n.parameter + next_self_count ns
@@ -105,14 +114,17 @@ abbrev pub selves : Option MethodParameters → ℕ
 selves None = 0
 selves (Some list) = self_count list.first + next_self_count list.others
 
+-- the number of a method's parameters, `self` included
 abbrev pub method_parameter_count : Option MethodParameters → ℕ
 method_parameter_count None = 0
 method_parameter_count (Some list) = 1 + length list.others
 
+-- the tokens of a method's body with its `=`
 abbrev pub body_tokens : Option MethodBody → List Token
 body_tokens None = []
 body_tokens (Some b) = equals b.equals ∷ tokens_of (said_expr b.body)
 
+-- whether the rules hold in a method's body
 abbrev pub body_obeys : Spellings → Option MethodBody → Bool
 body_obeys names None = true
 body_obeys names (Some b) = (said_expr b.body).obeys names elsewhere
@@ -121,35 +133,41 @@ body_obeys names (Some b) = (said_expr b.body).obeys names elsewhere
 abbrev pub selves_fit : FunctionName → ℕ → Bool
 selves_fit name count = (count == 1) || ((count == 0) && not (is_opr name))
 
+-- what a method says
 abbrev pub said_method : Method → Said
 said_method m = record {
   first = name_first m.name;
   more = name_more m.name ++ marked mark.OpenParen m.left ∷ (maybe_tokens (option_map said_method_parameters m.parameters) ++ marked mark.CloseParen m.right ∷ colon m.colon
-    ∷ (tokens_of (said_type m.result) ++ body_tokens m.body));
+      ∷ (tokens_of (said_type m.result) ++ body_tokens m.body));
   obeys = λ names allowed. name_fits names m.name (method_parameter_count m.parameters) && (selves_fit m.name (selves m.parameters)
-    && (maybe_obeys names elsewhere (option_map said_method_parameters m.parameters) && ((said_type m.result).obeys names elsewhere && body_obeys names m.body)));
+      && (maybe_obeys names elsewhere (option_map said_method_parameters m.parameters) && ((said_type m.result).obeys names elsewhere && body_obeys names m.body)));
 }
 
 -- ---- Names, Ext, Exc, Com
 
+-- the tokens of one name, or of names in braces
 abbrev pub names_tokens : Names → List Token
 names_tokens (names_of.One name) = named name ∷ []
 names_tokens (names_of.Braces left first others right) = marked mark.OpenBrace left ∷ named first ∷ (next_names_tokens others ++ marked mark.CloseBrace right ∷ [])
 
+-- the tokens of an `extends`
 abbrev pub extends_tokens : Option Extends → List Token
 extends_tokens None = []
 extends_tokens (Some e) = word reserved.Extends e.extends ∷ names_tokens e.names
 
+-- the tokens of an `excludes`
 abbrev pub excludes_tokens : Option Excludes → List Token
 excludes_tokens None = []
 excludes_tokens (Some e) = word reserved.Excludes e.excludes ∷ names_tokens e.names
 
+-- the tokens of a `comprises`
 abbrev pub comprises_tokens : Option Comprises → List Token
 comprises_tokens None = []
 comprises_tokens (Some c) = word reserved.Comprises c.comprises ∷ names_tokens c.names
 
 -- ---- Trait, TMember
 
+-- what a member of a trait says
 abbrev pub said_trait_member : TraitMember → Said
 said_trait_member (trait_member.Field name at_colon ty) = record {
   first = named name;
@@ -158,19 +176,22 @@ said_trait_member (trait_member.Field name at_colon ty) = record {
 }
 said_trait_member (trait_member.Method method) = said_method method
 
+-- what a member of a trait says, and its `;`
 abbrev pub said_trait_entry : TraitEntry → SaidEntry
 said_trait_entry e = record { item = said_trait_member e.member; semicolon = e.semicolon }
 
+-- what a trait says
 abbrev pub said_trait : Trait → Said
 said_trait t = record {
   first = word reserved.Trait t.trait_;
   more = named t.name ∷ (extends_tokens t.extends ++ (excludes_tokens t.excludes ++ (comprises_tokens t.comprises
-    ++ (entries_tokens (map said_trait_entry t.members) ++ word reserved.End t.end ∷ []))));
+      ++ (entries_tokens (map said_trait_entry t.members) ++ word reserved.End t.end ∷ []))));
   obeys = λ names allowed. entries_obey names (map said_trait_entry t.members);
 }
 
 -- ---- Object, OParam, OMember
 
+-- what a parameter of an object says
 abbrev pub said_object_parameter : ObjectParameter → Said
 said_object_parameter p = after_var p.var (record {
   first = named p.name;
@@ -178,6 +199,7 @@ said_object_parameter p = after_var p.var (record {
   obeys = λ names allowed. (said_type p.ty).obeys names elsewhere;
 })
 
+-- what a further parameter of an object says: a comma, and it
 abbrev pub said_next_object_parameter : NextObjectParameter → Said
 said_next_object_parameter next = record {
   first = marked mark.Comma next.comma;
@@ -185,6 +207,7 @@ said_next_object_parameter next = record {
   obeys = (said_object_parameter next.parameter).obeys;
 }
 
+-- what a list of parameters of an object says
 abbrev pub said_object_parameter_list : ObjectParameterList → Said
 said_object_parameter_list list = record {
   first = (said_object_parameter list.first).first;
@@ -192,6 +215,7 @@ said_object_parameter_list list = record {
   obeys = λ names allowed. (said_object_parameter list.first).obeys names allowed && all_obey names allowed (map said_next_object_parameter list.others);
 }
 
+-- what an object's parameters and their parentheses say
 abbrev pub said_object_parameters : ObjectParameters → Said
 said_object_parameters p = record {
   first = marked mark.OpenParen p.left;
@@ -208,24 +232,28 @@ said_object_member (object_member.Method method) = record {
   obeys = λ names allowed. is_there method.body && (said_method method).obeys names allowed;
 }
 
+-- what a member of an object says, and its `;`
 abbrev pub said_object_entry : ObjectEntry → SaidEntry
 said_object_entry e = record { item = said_object_member e.member; semicolon = e.semicolon }
 
+-- what an object says
 abbrev pub said_object : Object → Said
 said_object o = record {
   first = word reserved.Object o.object;
   more = named o.name ∷ (maybe_tokens (option_map said_object_parameters o.parameters) ++ (extends_tokens o.extends
-    ++ (entries_tokens (map said_object_entry o.members) ++ word reserved.End o.end ∷ [])));
+      ++ (entries_tokens (map said_object_entry o.members) ++ word reserved.End o.end ∷ [])));
   obeys = λ names allowed. maybe_obeys names elsewhere (option_map said_object_parameters o.parameters) && entries_obey names (map said_object_entry o.members);
 }
 
 -- ---- Decl
 
+-- what a declaration says
 abbrev pub said_declaration : Declaration → Said
 said_declaration (declaration.Variable variable) = said_variable variable
 said_declaration (declaration.Function function) = said_function function
 said_declaration (declaration.Trait tr) = said_trait tr
 said_declaration (declaration.Object object) = said_object object
 
+-- what a declaration says, and its `;`
 abbrev pub said_declared : Declared → SaidEntry
 said_declared d = record { item = said_declaration d.declaration; semicolon = d.semicolon }

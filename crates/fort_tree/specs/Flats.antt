@@ -20,6 +20,7 @@ use Rattle.fort_tree.specs.Levels.{OfAtom, OfExpr, OfFlatPart, OfGenerator, OfHe
 
 -- ---- Expr
 
+-- the sign of an assignment
 abbrev pub assign_token : AssignSign → Token
 assign_token (assign_sign.Becomes s) = marked mark.Becomes s
 assign_token (assign_sign.AddBecomes s) = marked mark.AddBecomes s
@@ -46,9 +47,11 @@ expr_step (Expr-F.OpenAssign head target sign value) = record {
 
 -- ---- Head, Big, Gen
 
+-- what the parameters say, where there are some
 abbrev pub maybe_parameters : Option Parameters → Option Said
 maybe_parameters list = option_map said_parameters list
 
+-- the first word of a reduction
 abbrev pub big_first : Big → Token
 big_first (big_word.Sum s) = word reserved.Sum s
 big_first (big_word.Prod s) = word reserved.Prod s
@@ -57,6 +60,7 @@ big_first (big_word.Min s t) = word reserved.Big s
 big_first (big_word.And s t) = word reserved.Big s
 big_first (big_word.Or s t) = word reserved.Big s
 
+-- the operator behind `BIG`
 abbrev pub big_more : Big → List Token
 big_more (big_word.Sum s) = []
 big_more (big_word.Prod s) = []
@@ -65,6 +69,7 @@ big_more (big_word.Min s t) = operator op.Min t ∷ []
 big_more (big_word.And s t) = operator op.And t ∷ []
 big_more (big_word.Or s t) = operator op.Or t ∷ []
 
+-- what a head says
 abbrev pub head_step : OfHead → Said
 head_step (Head-F.Atomic s) = record { first = word reserved.Atomic s; more = []; obeys = λ names allowed. true }
 head_step (Head-F.Tryatomic s) = record { first = word reserved.Tryatomic s; more = []; obeys = λ names allowed. true }
@@ -95,6 +100,7 @@ generator_step (Generator-F.Sequential name arrow seq left source right) = recor
 
 -- ---- Flat, Unit
 
+-- what a flat expression says: its units in their order, with the operators between them
 abbrev pub flat_step : OfFlat → Said
 flat_step flat = record {
   first = flat.first.first;
@@ -115,11 +121,13 @@ flat_part_step (FlatPart-F.Infix sign operand) = record {
   obeys = λ names allowed. is_infix sign.op && ((allowed.lines || not (is_line sign.spot.gap)) && operand.obeys names allowed);
 }
 
+-- a run behind its prefix operator, where it has one
 abbrev pub prefixed : Option Prefix → Said → Said
 prefixed None run = run
 prefixed (Some (a_prefix.Minus s)) run = record { first = operator op.Minus s; more = tokens_of run; obeys = run.obeys }
 prefixed (Some (a_prefix.Not s)) run = record { first = operator op.Not s; more = tokens_of run; obeys = run.obeys }
 
+-- what a unit says
 abbrev pub operand_step : OfOperand → Said
 operand_step operand = prefixed operand.prefix operand.run
 
@@ -135,6 +143,7 @@ is_one (t ∷ u ∷ ts) = false
 abbrev pub is_field : Said → Bool
 is_field x = is_dot x.first.kind && is_one x.more
 
+-- whether the first of several trees begins with `(`
 abbrev pub begins_with_paren : List Said → Bool
 begins_with_paren [] = false
 begins_with_paren (x ∷ xs) = is_open_paren x.first.kind
@@ -144,6 +153,7 @@ abbrev pub calls_are_whole : List Said → Bool
 calls_are_whole [] = true
 calls_are_whole (x ∷ xs) = not (is_field x && begins_with_paren xs) && calls_are_whole xs
 
+-- what a run says: its atoms and postfixes in their order
 abbrev pub run_step : OfRun → Said
 run_step run = record {
   first = run.first.first;
@@ -189,9 +199,11 @@ postfix_step (Postfix-F.Call dot name left arguments right) = record {
 
 -- ---- Atom
 
+-- a tree of one token
 abbrev pub alone : Token → Said
 alone t = record { first = t; more = []; obeys = λ names allowed. true }
 
+-- what an atom says
 abbrev pub atom_step : OfAtom → Said
 atom_step (Atom-F.Name name) = alone (named name)
 atom_step (Atom-F.Number value s) = alone (token (kind.Number value) s)
@@ -208,12 +220,13 @@ atom_step (Atom-F.Delimited form) = form
 atom_step (Atom-F.ArrayFill array left element right size_left size size_right dot fill value_left value value_right) = record {
   first = word reserved.Array array;
   more = marked mark.OpenStatic left ∷ (tokens_of (said_type element) ++ marked mark.CloseStatic right ∷ marked mark.OpenParen size_left
-    ∷ (tokens_of size ++ marked mark.CloseParen size_right ∷ marked mark.Dot dot ∷ named fill ∷ marked mark.OpenParen value_left
-    ∷ (tokens_of value ++ marked mark.CloseParen value_right ∷ [])));
+      ∷ (tokens_of size ++ marked mark.CloseParen size_right ∷ marked mark.Dot dot ∷ named fill ∷ marked mark.OpenParen value_left
+      ∷ (tokens_of value ++ marked mark.CloseParen value_right ∷ [])));
   obeys = λ names allowed. (is_empty left.gap && (is_empty size_left.gap && (is_empty dot.gap && (is_empty fill.spot.gap && is_empty value_left.gap))))
-    && (is_spelled "fill" names fill && ((said_type element).obeys names elsewhere && (size.obeys names in_brackets && value.obeys names in_brackets)));
+      && (is_spelled "fill" names fill && ((said_type element).obeys names elsewhere && (size.obeys names in_brackets && value.obeys names in_brackets)));
 }
 
+-- what a list of expressions says
 abbrev pub expr_list_step : OfExprList → Said
 expr_list_step list = record {
   first = list.first.first;
@@ -221,6 +234,7 @@ expr_list_step list = record {
   obeys = λ names allowed. list.first.obeys names allowed && all_obey names allowed list.others;
 }
 
+-- what a further expression of a list says: a comma, and it
 abbrev pub next_expr_step : OfNextExpr → Said
 next_expr_step next = record {
   first = marked mark.Comma next.comma;

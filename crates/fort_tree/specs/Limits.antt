@@ -1,4 +1,4 @@
--- The chapter "Limits": which components pass a limit and where, and which components the other crates take. The code
+-- The chapter "Grammar", limits: which components pass a limit and where, and which components the other crates take. The code
 -- counts while it walks a component.
 use Rattle.std.specs.Prelude.{ℕ, ◌+◌, ◌<◌, ◌^◌, ◌≡◌, ◌≢◌, ◌⊎◌, List, [], ◌∷◌, ◌++◌, Option, Some, None, length, map, drop, take}
 use Rattle.std.specs.List.{AllPairs, Contains, flat_map}
@@ -35,74 +35,91 @@ use Rattle.fort_tree.specs.Measuring.{measured_expr, measured_variable}
 
 -- ---- declarations
 
+-- what a function measures; its parameters are counted
 abbrev pub measured_function : Function → Measured
 measured_function f = let at = (name_first f.name).place in
-  made_of at (over most_parameters (parameter_count f.parameters) at) (measured_parameters f.parameters ++ measured_type f.result ∷ measured_expr f.body ∷ [])
+    made_of at (over most_parameters (parameter_count f.parameters) at) (measured_parameters f.parameters ++ measured_type f.result ∷ measured_expr f.body ∷ [])
 
+-- what a parameter of a method measures
 abbrev pub measured_method_parameter : MethodParameter → List Measured
 measured_method_parameter (method_parameter.Parameter p) = measured_type p.ty ∷ []
 measured_method_parameter (method_parameter.Self_ s) = []
 
+-- what the parameters of a method measure
 abbrev pub measured_method_parameters : Option MethodParameters → List Measured
 measured_method_parameters None = []
 measured_method_parameters (Some list) = measured_method_parameter list.first ++ flat_map (λ next. measured_method_parameter next.parameter) list.others
 
+-- what a method's body measures
 abbrev pub measured_body : Option MethodBody → List Measured
 measured_body None = []
 measured_body (Some b) = measured_expr b.body ∷ []
 
+-- what a method measures; its parameters are counted
 abbrev pub measured_method : Method → Measured
 measured_method m = let at = (name_first m.name).place in
-  made_of at (over most_parameters (method_parameter_count m.parameters) at) (measured_method_parameters m.parameters ++ measured_type m.result ∷ measured_body m.body)
+    made_of at (over most_parameters (method_parameter_count m.parameters) at) (measured_method_parameters m.parameters ++ measured_type m.result ∷ measured_body m.body)
 
 -- how many names a list has
 abbrev pub name_count : Names → ℕ
 name_count (names_of.One name) = 1
 name_count (names_of.Braces left first others right) = 1 + length others
 
+-- how many names an `extends` has
 abbrev pub extends_count : Option Extends → ℕ
 extends_count None = 0
 extends_count (Some e) = name_count e.names
 
+-- how many names an `excludes` has
 abbrev pub excludes_count : Option Excludes → ℕ
 excludes_count None = 0
 excludes_count (Some e) = name_count e.names
 
+-- how many names a `comprises` has
 abbrev pub comprises_count : Option Comprises → ℕ
 comprises_count None = 0
 comprises_count (Some c) = name_count c.names
 
+-- what a member of a trait measures
 abbrev pub measured_trait_member : TraitMember → Measured
 measured_trait_member (trait_member.Field name colon ty) = made_of name.spot.place [] (measured_type ty ∷ [])
 measured_trait_member (trait_member.Method method) = measured_method method
 
+-- the members of a trait
 abbrev pub trait_members : Trait → List Measured
 trait_members t = map (λ e. measured_trait_member e.member) t.members
 
+-- what a trait measures; the names in its lists are counted
 abbrev pub measured_trait : Trait → Measured
 measured_trait t = let at = t.trait_.place in
-  made_of at (over most_names (extends_count t.extends) at ++ (over most_names (excludes_count t.excludes) at ++ over most_names (comprises_count t.comprises) at)) (trait_members t)
+    made_of at (over most_names (extends_count t.extends) at ++ (over most_names (excludes_count t.excludes) at ++ over most_names (comprises_count t.comprises) at)) (trait_members t)
 
+-- what a member of an object measures
 abbrev pub measured_object_member : ObjectMember → Measured
 measured_object_member (object_member.Variable variable) = measured_variable variable
 measured_object_member (object_member.Method method) = measured_method method
 
+-- the members of an object
 abbrev pub object_members : Object → List Measured
 object_members o = map (λ e. measured_object_member e.member) o.members
 
+-- what a list of parameters of an object measures
 abbrev pub measured_object_parameter_list : Option ObjectParameterList → List Measured
 measured_object_parameter_list None = []
 measured_object_parameter_list (Some list) = measured_type list.first.ty ∷ map (λ next. measured_type next.parameter.ty) list.others
 
+-- what the parameters of an object measure
 abbrev pub measured_object_parameters : Option ObjectParameters → List Measured
 measured_object_parameters None = []
 measured_object_parameters (Some p) = measured_object_parameter_list p.parameters
 
+-- what an object measures; its parameters, and the names in its list, are counted
 abbrev pub measured_object : Object → Measured
 measured_object o = let at = o.object.place in
-  made_of at (over most_parameters (length (measured_object_parameters o.parameters)) at ++ over most_names (extends_count o.extends) at)
+    made_of at (over most_parameters (length (measured_object_parameters o.parameters)) at ++ over most_names (extends_count o.extends) at)
     (measured_object_parameters o.parameters ++ object_members o)
 
+-- what a declaration measures
 abbrev pub measured_declaration : Declaration → Measured
 measured_declaration (declaration.Variable variable) = measured_variable variable
 measured_declaration (declaration.Function function) = measured_function function
@@ -111,6 +128,7 @@ measured_declaration (declaration.Object object) = measured_object object
 
 -- ---- the number of declarations
 
+-- the members of a declaration
 abbrev pub members_of : Declaration → List Measured
 members_of (declaration.Variable variable) = []
 members_of (declaration.Function function) = []
@@ -134,6 +152,7 @@ first_behind most places = take 1 (drop most places)
 
 -- ---- components
 
+-- the declarations of a component
 abbrev pub measured_declarations : Component → List Measured
 measured_declarations c = map (λ d. measured_declaration d.declaration) c.declarations
 

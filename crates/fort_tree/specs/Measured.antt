@@ -1,4 +1,4 @@
--- The chapters "Grammar" and "Limits": what a tree measures, the places of its flat expressions and of its crowded forms.
+-- The chapter "Grammar", limits: what a tree measures, the places of its flat expressions and of its crowded forms.
 use Rattle.std.specs.Prelude.{ℕ, cond, nat_lt, List, [], ◌∷◌, ◌++◌, Option, Some, None, length}
 use Rattle.fort_base.specs.declared.refusal.Place.{Place}
 use Rattle.fort_tree.specs.declared.delimited.Delimited.TheOpen.{Delimited-F, Item-F, Atom-F, Expr-F, FlatPart-F, Generator-F, Head-F, Postfix-F, RunPart-F, Variable-F, Also-F, BlockItem-F, CaseClause-F, Catch-F, Elif-F, ElseBlock-F, ElseClause-F, Finally-F, NextGenerator-F, TypeClause-F, ExprList-F, Flat-F, NextExpr-F, Operand-F, Run-F}
@@ -51,6 +51,7 @@ most_names = 32
 
 -- ---- what a tree measures
 
+-- What a tree measures.
 pub record Measured : Type 0 where
   -- the place of its first token
   pub place : Place
@@ -59,10 +60,12 @@ pub record Measured : Type 0 where
   -- the places of the forms in it that have too many parts
   pub crowded : List Place
 
+-- the flat expressions of several trees
 abbrev pub all_flats : List Measured → List Place
 all_flats [] = []
 all_flats (m ∷ ms) = m.flats ++ all_flats ms
 
+-- the crowded forms of several trees
 abbrev pub all_crowded : List Measured → List Place
 all_crowded [] = []
 all_crowded (m ∷ ms) = m.crowded ++ all_crowded ms
@@ -75,6 +78,7 @@ over most count place = cond (nat_lt most count) (place ∷ []) []
 abbrev pub made_of : Place → List Place → List Measured → Measured
 made_of place own parts = record { place = place; flats = all_flats parts; crowded = own ++ all_crowded parts }
 
+-- what may be left out, as a list
 abbrev pub maybe_measured : Option Measured → List Measured
 maybe_measured None = []
 maybe_measured (Some m) = m ∷ []
@@ -88,83 +92,109 @@ block_measured (m ∷ ms) = made_of m.place (over most_items (length (m ∷ ms))
 pub record Listed : Type 0 where
   pub parts : List Measured
 
+-- the parts of a list that may be left out
 abbrev pub listed_parts : Option Listed → List Measured
 listed_parts None = []
 listed_parts (Some l) = l.parts
 
 -- ---- one level of each tree that a block may stand in, with what its parts measure in their places
 
+-- one level of a form that ends with `end`, with what its parts measure in their places
 abbrev pub MeasuredDelimited : Type 0
 MeasuredDelimited = Delimited-F Measured Measured Measured Measured Measured Measured Measured Measured Measured Measured Measured Measured Measured Listed Measured Measured Measured Measured Measured Measured Listed Measured Measured Measured Measured
 
+-- one level of an item of a block, with what its parts measure in their places
 abbrev pub MeasuredItem : Type 0
 MeasuredItem = Item-F Measured Measured Measured Measured Measured Measured Measured Measured Measured Measured Measured Measured Measured Listed Measured Measured Measured Measured Measured Measured Listed Measured Measured Measured Measured
 
+-- one level of an atom, with what its parts measure in their places
 abbrev pub MeasuredAtom : Type 0
 MeasuredAtom = Atom-F Measured Measured Measured Measured Measured Measured Measured Measured Measured Measured Measured Measured Measured Listed Measured Measured Measured Measured Measured Measured Listed Measured Measured Measured Measured
 
+-- one level of an expression, with what its parts measure in their places
 abbrev pub MeasuredExpr : Type 0
 MeasuredExpr = Expr-F Measured Measured Measured Measured Measured Measured Measured Measured Measured Measured Measured Measured Measured Listed Measured Measured Measured Measured Measured Measured Listed Measured Measured Measured Measured
 
+-- one level of a further part of a flat expression, with what its parts measure in their places
 abbrev pub MeasuredFlatPart : Type 0
 MeasuredFlatPart = FlatPart-F Measured Measured Measured Measured Measured Measured Measured Measured Measured Measured Measured Measured Measured Listed Measured Measured Measured Measured Measured Measured Listed Measured Measured Measured Measured
 
+-- one level of a generator, with what its parts measure in their places
 abbrev pub MeasuredGenerator : Type 0
 MeasuredGenerator = Generator-F Measured Measured Measured Measured Measured Measured Measured Measured Measured Measured Measured Measured Measured Listed Measured Measured Measured Measured Measured Measured Listed Measured Measured Measured Measured
 
+-- one level of a head, with what its parts measure in their places
 abbrev pub MeasuredHead : Type 0
 MeasuredHead = Head-F Measured Measured Measured Measured Measured Measured Measured Measured Measured Measured Measured Measured Measured Listed Measured Measured Measured Measured Measured Measured Listed Measured Measured Measured Measured
 
+-- one level of a postfix, with what its parts measure in their places
 abbrev pub MeasuredPostfix : Type 0
 MeasuredPostfix = Postfix-F Measured Measured Measured Measured Measured Measured Measured Measured Measured Measured Measured Measured Measured Listed Measured Measured Measured Measured Measured Measured Listed Measured Measured Measured Measured
 
+-- one level of a further part of a run, with what its parts measure in their places
 abbrev pub MeasuredRunPart : Type 0
 MeasuredRunPart = RunPart-F Measured Measured Measured Measured Measured Measured Measured Measured Measured Measured Measured Measured Measured Listed Measured Measured Measured Measured Measured Measured Listed Measured Measured Measured Measured
 
+-- one level of a declaration of a variable, with what its parts measure in their places
 abbrev pub MeasuredVariable : Type 0
 MeasuredVariable = Variable-F Measured Measured Measured Measured Measured Measured Measured Measured Measured Measured Measured Measured Measured Listed Measured Measured Measured Measured Measured Measured Listed Measured Measured Measured Measured
 
+-- one level of an `also` with its block, with what its parts measure in their places
 abbrev pub MeasuredAlso : Type 0
 MeasuredAlso = Also-F Measured Measured Measured Measured Measured Measured Measured Measured Measured Measured Measured Measured Measured Listed Measured Measured Measured Measured Measured Measured Listed Measured Measured Measured Measured
 
+-- one level of an item of a block with its `;`, with what its parts measure in their places
 abbrev pub MeasuredBlockItem : Type 0
 MeasuredBlockItem = BlockItem-F Measured Measured Measured Measured Measured Measured Measured Measured Measured Measured Measured Measured Measured Listed Measured Measured Measured Measured Measured Measured Listed Measured Measured Measured Measured
 
+-- one level of a clause of a `case`, with what its parts measure in their places
 abbrev pub MeasuredCaseClause : Type 0
 MeasuredCaseClause = CaseClause-F Measured Measured Measured Measured Measured Measured Measured Measured Measured Measured Measured Measured Measured Listed Measured Measured Measured Measured Measured Measured Listed Measured Measured Measured Measured
 
+-- one level of a `catch`, with what its parts measure in their places
 abbrev pub MeasuredCatch : Type 0
 MeasuredCatch = Catch-F Measured Measured Measured Measured Measured Measured Measured Measured Measured Measured Measured Measured Measured Listed Measured Measured Measured Measured Measured Measured Listed Measured Measured Measured Measured
 
+-- one level of an `elif`, with what its parts measure in their places
 abbrev pub MeasuredElif : Type 0
 MeasuredElif = Elif-F Measured Measured Measured Measured Measured Measured Measured Measured Measured Measured Measured Measured Measured Listed Measured Measured Measured Measured Measured Measured Listed Measured Measured Measured Measured
 
+-- one level of the `else` of an `if`, with what its parts measure in their places
 abbrev pub MeasuredElseBlock : Type 0
 MeasuredElseBlock = ElseBlock-F Measured Measured Measured Measured Measured Measured Measured Measured Measured Measured Measured Measured Measured Listed Measured Measured Measured Measured Measured Measured Listed Measured Measured Measured Measured
 
+-- one level of the `else` of a `case` or `typecase`, with what its parts measure in their places
 abbrev pub MeasuredElseClause : Type 0
 MeasuredElseClause = ElseClause-F Measured Measured Measured Measured Measured Measured Measured Measured Measured Measured Measured Measured Measured Listed Measured Measured Measured Measured Measured Measured Listed Measured Measured Measured Measured
 
+-- one level of a `finally`, with what its parts measure in their places
 abbrev pub MeasuredFinally : Type 0
 MeasuredFinally = Finally-F Measured Measured Measured Measured Measured Measured Measured Measured Measured Measured Measured Measured Measured Listed Measured Measured Measured Measured Measured Measured Listed Measured Measured Measured Measured
 
+-- one level of a further generator of a `for`, with what its parts measure in their places
 abbrev pub MeasuredNextGenerator : Type 0
 MeasuredNextGenerator = NextGenerator-F Measured Measured Measured Measured Measured Measured Measured Measured Measured Measured Measured Measured Measured Listed Measured Measured Measured Measured Measured Measured Listed Measured Measured Measured Measured
 
+-- one level of a clause of a `typecase` or `catch`, with what its parts measure in their places
 abbrev pub MeasuredTypeClause : Type 0
 MeasuredTypeClause = TypeClause-F Measured Measured Measured Measured Measured Measured Measured Measured Measured Measured Measured Measured Measured Listed Measured Measured Measured Measured Measured Measured Listed Measured Measured Measured Measured
 
+-- one level of a list of expressions, with what its parts measure in their places
 abbrev pub MeasuredExprList : Type 0
 MeasuredExprList = ExprList-F Measured Measured Measured Measured Measured Measured Measured Measured Measured Measured Measured Measured Measured Listed Measured Measured Measured Measured Measured Measured Listed Measured Measured Measured Measured
 
+-- one level of a flat expression, with what its parts measure in their places
 abbrev pub MeasuredFlat : Type 0
 MeasuredFlat = Flat-F Measured Measured Measured Measured Measured Measured Measured Measured Measured Measured Measured Measured Measured Listed Measured Measured Measured Measured Measured Measured Listed Measured Measured Measured Measured
 
+-- one level of a further expression of a list, with what its parts measure in their places
 abbrev pub MeasuredNextExpr : Type 0
 MeasuredNextExpr = NextExpr-F Measured Measured Measured Measured Measured Measured Measured Measured Measured Measured Measured Measured Measured Listed Measured Measured Measured Measured Measured Measured Listed Measured Measured Measured Measured
 
+-- one level of a unit, with what its parts measure in their places
 abbrev pub MeasuredOperand : Type 0
 MeasuredOperand = Operand-F Measured Measured Measured Measured Measured Measured Measured Measured Measured Measured Measured Measured Measured Listed Measured Measured Measured Measured Measured Measured Listed Measured Measured Measured Measured
 
+-- one level of a run, with what its parts measure in their places
 abbrev pub MeasuredRun : Type 0
 MeasuredRun = Run-F Measured Measured Measured Measured Measured Measured Measured Measured Measured Measured Measured Measured Measured Listed Measured Measured Measured Measured Measured Measured Listed Measured Measured Measured Measured

@@ -15,6 +15,7 @@ pub data Turn : Type 0 where
   Closes : Turn
   Stays : Turn
 
+-- An opening bracket opens, and a closing one closes.
 abbrev pub mark_turn : Mark → Turn
 mark_turn mark.OpenParen = Opens
 mark_turn mark.OpenBracket = Opens
@@ -46,10 +47,12 @@ turn behind_also (kind.Word w) = word_turn behind_also w
 turn behind_also (kind.Mark m) = mark_turn m
 turn behind_also _ = Stays
 
+-- whether a token is `also`
 abbrev pub is_also : Kind → Bool
 is_also (kind.Word reserved.Also) = true
 is_also _ = false
 
+-- how many openers are open behind a token
 abbrev pub turned : Turn → ℕ → ℕ
 turned Opens depth = depth + 1
 turned Closes depth = depth - 1

@@ -22,63 +22,78 @@ Spellings = List (List ℕ)
 
 -- ---- tokens by their kinds
 
+-- a token of a kind, where it stands
 abbrev pub token : Kind → Spot → Token
 token k s = record { kind = k; gap = s.gap; place = s.place }
 
+-- a reserved word
 abbrev pub word : Reserved → Spot → Token
 word w s = token (kind.Word w) s
 
+-- a symbol
 abbrev pub marked : Mark → Spot → Token
 marked m s = token (kind.Mark m) s
 
+-- an operator
 abbrev pub operator : Op → Spot → Token
 operator o s = token (kind.Op o) s
 
+-- a name
 abbrev pub named : Name → Token
 named n = token (kind.Name n.id) n.spot
 
+-- an operator that a tree holds
 abbrev pub signed : Sign → Token
 signed s = operator s.op s.spot
 
--- the `:` and the `=` of declarations, which are operators elsewhere
+-- the `:` of declarations, which is an operator elsewhere
 abbrev pub colon : Spot → Token
 colon s = operator op.Range s
 
+-- the `=` of declarations, which is an operator elsewhere
 abbrev pub equals : Spot → Token
 equals s = operator op.Eq s
 
 -- ---- tests
 
+-- whether a gap is empty
 abbrev pub is_empty : Gap → Bool
 is_empty gap.Empty = true
 is_empty gap.Space = false
 is_empty gap.Line = false
 
+-- whether a gap has a line feed
 abbrev pub is_line : Gap → Bool
 is_line gap.Empty = false
 is_line gap.Space = false
 is_line gap.Line = true
 
+-- whether a token is a name
 abbrev pub is_name : Kind → Bool
 is_name (kind.Name n) = true
 is_name _ = false
 
+-- whether a token is `:`
 abbrev pub is_colon : Kind → Bool
 is_colon (kind.Op op.Range) = true
 is_colon _ = false
 
+-- whether a token is `,`
 abbrev pub is_comma : Kind → Bool
 is_comma (kind.Mark mark.Comma) = true
 is_comma _ = false
 
+-- whether a token is `.`
 abbrev pub is_dot : Kind → Bool
 is_dot (kind.Mark mark.Dot) = true
 is_dot _ = false
 
+-- whether a token is `(`
 abbrev pub is_open_paren : Kind → Bool
 is_open_paren (kind.Mark mark.OpenParen) = true
 is_open_paren _ = false
 
+-- whether a token is `)`
 abbrev pub is_close_paren : Kind → Bool
 is_close_paren (kind.Mark mark.CloseParen) = true
 is_close_paren _ = false

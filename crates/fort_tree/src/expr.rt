@@ -1,6 +1,6 @@
 //! The trees of expressions.
-use crate::delimited::Delimited;
 use crate::declarations::Parameters;
+use crate::delimited::Delimited;
 use crate::spot::{Name, Sign, Spot};
 use crate::types::TypeTree;
 use fort_base::{Boxed, List};
@@ -19,7 +19,10 @@ pub enum Expr {
         value: Boxed<Flat>,
     },
     /// `Open = Head Flat`
-    Open { head: Boxed<Head>, body: Boxed<Flat> },
+    Open {
+        head: Boxed<Head>,
+        body: Boxed<Flat>,
+    },
     /// `Open = Head Flat (":=" | "+=" | "-=") Flat`
     OpenAssign {
         head: Boxed<Head>,
@@ -169,9 +172,15 @@ pub enum Postfix {
         right: Spot,
     },
     /// `"^" Atom`
-    Power { power: Spot, exponent: Atom },
+    Power {
+        power: Spot,
+        exponent: Atom,
+    },
     /// `"." Name`
-    Field { dot: Spot, name: Name },
+    Field {
+        dot: Spot,
+        name: Name,
+    },
     /// `"." Name "(" [Expr ("," Expr)*] ")"`
     Call {
         dot: Spot,
