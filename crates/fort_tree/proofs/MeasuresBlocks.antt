@@ -6,7 +6,7 @@ use Rattle.fort_tree.specs.declared.spot.Name.{Name}
 use Rattle.fort_tree.specs.declared.spot.NextName.{NextName}
 use Rattle.fort_tree.specs.declared.declarations.InitialSign.{InitialSign}
 use Rattle.fort_tree.specs.declared.types.TypeTree.{TypeTree}
-use Rattle.fort_tree.specs.declared.delimited.Delimited.{Delimited, the_lemmas}
+use Rattle.fort_tree.specs.declared.delimited.Delimited.{the_lemmas}
 use Rattle.fort_tree.specs.declared.delimited.Delimited.TheVariants as a_delimited
 use Rattle.fort_tree.specs.declared.delimited.Item.{Item}
 use Rattle.fort_tree.specs.declared.delimited.Item.TheVariants as an_item
