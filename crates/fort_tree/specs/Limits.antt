@@ -29,16 +29,16 @@ use Rattle.fort_tree.specs.declared.declarations.TraitMember.TheVariants as trai
 use Rattle.fort_tree.specs.Types.{parameter_count}
 use Rattle.fort_tree.specs.Declarations.{name_first, method_parameter_count}
 use Rattle.fort_tree.specs.Component.{yield, Obeys, NumbersAreIn}
-use Rattle.fort_tree.specs.Measured.{Measured, made_of, over, all_flats, all_crowded, most_parameters, most_names, most_declarations, most_types}
-use Rattle.fort_tree.specs.Measures.{measured_type, measured_parameters}
+use Rattle.fort_tree.specs.Measured.{Measured, Row, made_of, over, all_flats, all_crowded, most_parameters, most_names, most_declarations, most_types}
+use Rattle.fort_tree.specs.Measures.{spot_of, measured_type, measured_parameters}
 use Rattle.fort_tree.specs.Measuring.{measured_expr, measured_variable}
 
 -- ---- declarations
 
 -- what a function measures; its parameters are counted
 abbrev pub measured_function : Function → Measured
-measured_function f = let at = (name_first f.name).place in
-    made_of at (over most_parameters (parameter_count f.parameters) at) (measured_parameters f.parameters ++ measured_type f.result ∷ measured_expr f.body ∷ [])
+measured_function f = let at = spot_of (name_first f.name) in
+    made_of at (over most_parameters (parameter_count f.parameters) at.place) (measured_parameters f.parameters ++ measured_type f.result ∷ measured_expr f.body ∷ [])
 
 -- what a parameter of a method measures
 abbrev pub measured_method_parameter : MethodParameter → List Measured
@@ -57,8 +57,8 @@ measured_body (Some b) = measured_expr b.body ∷ []
 
 -- what a method measures; its parameters are counted
 abbrev pub measured_method : Method → Measured
-measured_method m = let at = (name_first m.name).place in
-    made_of at (over most_parameters (method_parameter_count m.parameters) at) (measured_method_parameters m.parameters ++ measured_type m.result ∷ measured_body m.body)
+measured_method m = let at = spot_of (name_first m.name) in
+    made_of at (over most_parameters (method_parameter_count m.parameters) at.place) (measured_method_parameters m.parameters ++ measured_type m.result ∷ measured_body m.body)
 
 -- how many names a list has
 abbrev pub name_count : Names → ℕ
@@ -82,7 +82,7 @@ comprises_count (Some c) = name_count c.names
 
 -- what a member of a trait measures
 abbrev pub measured_trait_member : TraitMember → Measured
-measured_trait_member (trait_member.Field name colon ty) = made_of name.spot.place [] (measured_type ty ∷ [])
+measured_trait_member (trait_member.Field name colon ty) = made_of name.spot [] (measured_type ty ∷ [])
 measured_trait_member (trait_member.Method method) = measured_method method
 
 -- the members of a trait
@@ -91,8 +91,8 @@ trait_members t = map (λ e. measured_trait_member e.member) t.members
 
 -- what a trait measures; the names in its lists are counted
 abbrev pub measured_trait : Trait → Measured
-measured_trait t = let at = t.trait_.place in
-    made_of at (over most_names (extends_count t.extends) at ++ (over most_names (excludes_count t.excludes) at ++ over most_names (comprises_count t.comprises) at)) (trait_members t)
+measured_trait t = let at = t.trait_ in
+    made_of at (over most_names (extends_count t.extends) at.place ++ (over most_names (excludes_count t.excludes) at.place ++ over most_names (comprises_count t.comprises) at.place)) (trait_members t)
 
 -- what a member of an object measures
 abbrev pub measured_object_member : ObjectMember → Measured
@@ -115,8 +115,8 @@ measured_object_parameters (Some p) = measured_object_parameter_list p.parameter
 
 -- what an object measures; its parameters, and the names in its list, are counted
 abbrev pub measured_object : Object → Measured
-measured_object o = let at = o.object.place in
-    made_of at (over most_parameters (length (measured_object_parameters o.parameters)) at ++ over most_names (extends_count o.extends) at)
+measured_object o = let at = o.object in
+    made_of at (over most_parameters (length (measured_object_parameters o.parameters)) at.place ++ over most_names (extends_count o.extends) at.place)
     (measured_object_parameters o.parameters ++ object_members o)
 
 -- what a declaration measures
@@ -137,7 +137,7 @@ members_of (declaration.Object object) = object_members object
 
 -- the places of a declaration and, behind it, of its members
 abbrev pub declaration_places : Declared → List Place
-declaration_places d = (measured_declaration d.declaration).place ∷ map (λ m. m.place) (members_of d.declaration)
+declaration_places d = (measured_declaration d.declaration).spot.place ∷ map (λ m. m.spot.place) (members_of d.declaration)
 
 -- the place of a declaration of a type
 abbrev pub type_places : Declaration → List Place
@@ -161,9 +161,13 @@ abbrev pub crowded : Component → List Place
 crowded c = first_behind most_declarations (flat_map declaration_places c.declarations)
     ++ (first_behind most_types (flat_map (λ d. type_places d.declaration) c.declarations) ++ all_crowded (measured_declarations c))
 
+-- a component's flat expressions, in the order of their first tokens
+abbrev pub flats : Component → List Row
+flats c = all_flats (measured_declarations c)
+
 -- the places of a component's flat expressions
 abbrev pub flat_places : Component → List Place
-flat_places c = all_flats (measured_declarations c)
+flat_places c = map (λ r. r.place) (flats c)
 
 -- One place stands before another in a file.
 abbrev pub IsBefore : Place → Place → Type 0
