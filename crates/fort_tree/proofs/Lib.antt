@@ -1,0 +1,9 @@
+pub mod SaysTypes
+pub mod SaysFlats
+pub mod SaysBlocks
+pub mod CasesTypes
+pub mod CasesFlats
+pub mod CasesBlocks
+pub mod MeasuresTypes
+pub mod MeasuresFlats
+pub mod MeasuresBlocks

@@ -1,0 +1,14 @@
+pub mod Tokens
+pub mod Said
+pub mod Types
+pub mod Levels
+pub mod Flats
+pub mod Blocks
+pub mod Yield
+pub mod Declarations
+pub mod Component
+pub mod Openers
+pub mod Measured
+pub mod Measures
+pub mod Measuring
+pub mod Limits
