@@ -1,4 +1,4 @@
--- What the builder of a token list holds on the way; no public clause cites it.
+-- The chapter "Tokens", no definition of it: what the builder of a token list holds on the way. No public clause cites it.
 use Rattle.std.specs.Prelude.{◌≡◌, ◌⊎◌, ℕ, Bool, false, cond, List, [], ◌∷◌, ◌++◌, map, length, Option, None, Some, Result, Ok, Err, encode_utf8_all}
 use Rattle.fort_base.specs.declared.refusal.CheckFault.{CheckFault}
 use Rattle.fort_base.specs.declared.refusal.CheckFault.TheVariants as a_fault

@@ -1,4 +1,5 @@
--- What the scanning functions find, as functions of the text; proofs/ says what these mean.
+-- The chapter "Tokens", no definition of it: what the scanning functions find, as functions of the text. The laws in proofs/ say
+-- what these mean in the words of the other files, and no public clause cites them.
 use Rattle.std.specs.Prelude.{ℕ, suc, ◌+◌, ◌<◌, ◌≤◌, ◌-◌, Bool, true, false, cond, ◌&&◌, ◌==◌, List, [], ◌∷◌, Option, None, Some, drop, get_or}
 use Rattle.std.specs.Option.{option_map, option_map_or}
 use Rattle.std.specs.List.{prefix_len}

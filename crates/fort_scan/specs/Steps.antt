@@ -1,4 +1,4 @@
--- What stands next in a text: the contract of the scan's one step.
+-- The chapter "Tokens", one step of the scan: what stands next in a text. The code reads a gap and then a word.
 use Rattle.std.specs.Prelude.{◌≡◌, ℕ, ◌≤◌, ◌<◌, ◌+◌, List, [], length, take, drop}
 use Rattle.fort_base.specs.declared.refusal.Rule.{Rule}
 use Rattle.fort_scan.specs.declared.TheConstants.{BAD_CHARACTER}

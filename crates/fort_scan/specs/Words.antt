@@ -1,4 +1,5 @@
--- The word at the front of a text, as a function of the text; proofs/WordLaws.antt says what it means.
+-- The chapter "Tokens", the shape of a spelling; and the word that the scan finds, as a function of the text, whose meaning
+-- proofs/WordLaws.antt proves.
 use Rattle.std.specs.Prelude.{ℕ, ◌+◌, max, Bool, true, false, cond, not, ◌&&◌, ◌==◌, List, [], ◌∷◌, length, take, drop, get_or, Option, None, Some, nat_lt}
 use Rattle.std.specs.Option.{option_map_or}
 use Rattle.std.specs.List.{prefix_len}
