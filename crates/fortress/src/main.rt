@@ -15,10 +15,10 @@ fn main(rt: HostRuntime) -> ExitCode {
         Ok(words) => words.skip(1).collect(rt.alloc()),
         // A word that isn't UTF-8 is part of no command, and so are no words.
         Err(error) if error.kind() == io::ErrorKind::InvalidData => Ok(Vec::new(rt.alloc())),
-        Err(_) => return ExitCode::from(WANTS_MEMORY),
+        Err(_) => return want_of_memory(&rt),
     };
     let Ok(words) = words else {
-        return ExitCode::from(WANTS_MEMORY);
+        return want_of_memory(&rt);
     };
     let mut out = StreamSink::new(rt.stdout());
     let mut shelf = FileShelf::new(&rt);
@@ -32,4 +32,10 @@ fn main(rt: HostRuntime) -> ExitCode {
         &IdleGate,
     );
     ExitCode::from(finish.status)
+}
+
+/// The end of a call that found too little memory for its words.
+fn want_of_memory(rt: &impl Eprint) -> ExitCode {
+    let _ = rt.eprintln("want of memory");
+    ExitCode::from(WANTS_MEMORY)
 }
