@@ -63,7 +63,8 @@ no_row loc d n e = record {
   in_a_row = λ l w h. absurd (n l w h);
   all_made = λ n v h. absurd cc;
   none_there = λ s f n v h. absurd cc;
-  zero_for_none = λ q. e }
+  zero_for_none = λ q. e;
+}
 
 only_not_made : (l : ℕ) (c : Cell) → ((w : Option Value) → c ≡ made w → ⊥) → (k : ℕ) (w : Option Value) → only_at l c k ≡ made w → ⊥
 only_not_made l c n k w e = go (l == k) e
@@ -87,7 +88,8 @@ row_of p inner loc (makes values next cost) b d k = record {
   in_a_row = λ l w h. made_in_row loc (or_unit values) l w (sym (ap (λ (y : Deed). y.cells l) k.1) ∙ h);
   all_made = λ n v h. ap (λ (y : Deed). y.cells (loc + n)) k.1 ∙ row_made loc (or_unit values) n v h;
   none_there = λ s f n v h. made_none (d.cells (loc + n)) v (s (loc + n)) (ap (λ (y : Deed). y.cells (loc + n)) k.1 ∙ row_made loc (or_unit values) n v h) (f (loc + n));
-  zero_for_none = λ q. absurd (unit_first values q) }
+  zero_for_none = λ q. absurd (unit_first values q);
+}
 row_of p inner loc (calls set values) b d k = absurd k
 row_of p inner loc ends b d k = no_row loc d (λ l w h. let z : untouched ≡ made w = sym (ap (λ (y : Deed). y.cells l) k.5) ∙ h in cc) k.2
 

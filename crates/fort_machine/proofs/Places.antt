@@ -246,7 +246,7 @@ compare_kinds f g x y (beside n bef beh) lone a b q = absurd cc
 compare_kinds f g x y (beside n bef beh) (beside n2 bef2 beh2) a b q =
     let w : n ≡ n2 = cc in
     parts bef beh bef2 beh2 (number_kind f ∙ ap number_of a) (number_kind g ∙ ap number_of b) (cc)
-      (λ s r. frame_back f n bef beh a ∙ (λ i. back_of (beside (w i) (s i) (r i))) ∙ sym (frame_back g n2 bef2 beh2 b))
+    (λ s r. frame_back f n bef beh a ∙ (λ i. back_of (beside (w i) (s i) (r i))) ∙ sym (frame_back g n2 bef2 beh2 b))
 
 compare : (f g : Frame) (x y : Term) → standing x ≡ open_yet → standing y ≡ open_yet → on f x ≡ on g y → Compared f g x y
 compare f g x y ox oy e =

@@ -14,89 +14,74 @@ pub fn unread(_program: &Program, _journal: &Journal) {}
 /// A thread's path determines what stands there.
 pub fn one_place()
     ensures { OnePlace }
-{
-}
+{}
 
 /// A form has one step.
 pub fn one_step()
     ensures { OneStep }
-{
-}
+{}
 
 /// What an attempt read determines its marks.
 pub fn one_marks()
     ensures { OneMarks }
-{
-}
+{}
 
 /// A run is determined by its picks.
 pub fn one_run()
     ensures { OneRun }
-{
-}
+{}
 
 /// A part's run is one of the whole term, the part's path before each of its picks.
 pub fn lifts()
     ensures { Lifts }
-{
-}
+{}
 
 /// Effects join in any grouping, and what does nothing adds nothing.
 pub fn effects_join()
     ensures { EffectsJoin }
-{
-}
+{}
 
 /// Two effects, one after the other, suit a store and leave what the second leaves.
 pub fn effects_follow()
     ensures { EffectsFollow }
-{
-}
+{}
 
 /// Two effects that meet may be taken apart again.
 pub fn effects_part()
     ensures { EffectsPart }
-{
-}
+{}
 
 /// One run after another is a run.
 pub fn runs_join()
     ensures { RunsJoin }
-{
-}
+{}
 
 /// A run suits the store that it runs on.
 pub fn all_fit()
     ensures { RunsFit }
-{
-}
+{}
 
 /// A step that makes locations makes consecutive ones, none of them in the store.
 pub fn steps_make_in_a_row()
     ensures { StepsMakeInARow }
-{
-}
+{}
 
 /// An attempt that doesn't complete leaves every older location as it was.
 pub fn gives_back()
     ensures { GivesBack }
-{
-}
+{}
 
 /// An aborted attempt leaves the store as it was, and prints nothing.
 pub fn abort_undoes()
     ensures { AbortUndoes }
-{
-}
+{}
 
 /// The inner picks of an attempt are one pick outside.
 pub fn attempt_is_one_pick()
     ensures { AttemptIsOnePick }
-{
-}
+{}
 
 /// A run's output is that of its picks in a row, and its cost the sum of theirs.
 pub fn picks_add_up()
     ensures { PicksAddUp }
-{
-}
+{}
