@@ -108,7 +108,7 @@ no_frame_atomic : (m : Mode) (body : Term) (f : Frame) (b : Term) → Term-F.Ato
 no_frame_atomic m body in_throw b e = cc
 no_frame_atomic m body _ b e = cc
 
-no_frame_asleep : (marks : Marks) (body : Term) (f : Frame) (b : Term) → Term-F.Asleep marks body ≡ on_layer f b → ⊥
+pub no_frame_asleep : (marks : Marks) (body : Term) (f : Frame) (b : Term) → Term-F.Asleep marks body ≡ on_layer f b → ⊥
 no_frame_asleep marks body in_throw b e = cc
 no_frame_asleep marks body _ b e = cc
 
