@@ -99,7 +99,7 @@ closes_marks p m body b ended d1 d2 s s' bare (fell_asleep others x y z u e o) f
         let same : s l ≡ s' l = read_value w c.0 (s l) (subst (λ x. Fits x (s l)) c.1 (f l)) ∙ sym (read_value w c.0 (s' l) (subst (λ x. Fits x (s' l)) c.1 (g l))) in
         ap (left_at (d2.cells l)) same
 
-bare_alike : (s s' : Store) (t : Term) → Bare t → Alike s s' t
+pub bare_alike : (s s' : Store) (t : Term) → Bare t → Alike s s' t
 bare_alike s s' t bare marks body i l v m = absurd (bare_none marks t bare (body, i))
 
 pub framed : Framed

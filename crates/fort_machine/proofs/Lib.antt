@@ -12,3 +12,5 @@ pub mod Inside
 pub mod Substituted
 pub mod Less
 pub mod Frame
+pub mod Legs
+pub mod WorkedRuns

@@ -32,6 +32,7 @@ pub record MakesInARow (loc : ℕ) (d : Deed) : Type 0 where
   pub none_there : (s : Store) → FitsAll d s → (n : ℕ) (v : Value) → slice_get values n ≡ Some v → s (loc + n) ≡ None
   pub zero_for_none : values ≡ [] → loc ≡ 0
 
+-- A step that makes locations makes consecutive ones from its pick's on, that the store lacked.
 abbrev pub StepsMakeInARow : Type 0
 StepsMakeInARow = (p : Program) (inner : Bool) (loc : ℕ) (a b : Term) (d : Deed) → Local p inner loc a b d → MakesInARow loc d
 
