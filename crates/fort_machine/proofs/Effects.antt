@@ -2,17 +2,14 @@
 use Rattle.std.proofs.Common.{◌≡◌, ℕ, zero, suc, ◌+◌, ◌<◌, ◌≤◌, ◌==◌, Bool, true, false, List, [], ◌∷◌, length, Option, Some, None, refl, ap, sym, ◌∙◌, subst, arith, rules, if◌then◌else◌}
 use Rattle.std.specs.Prelude.{slice_get}
 use Rattle.std.proofs.Math.Path.{fun_ext}
-use Rattle.fort_core.specs.declared.form.Mode.{Mode}
 use Rattle.fort_core.specs.declared.program.Program.{Program}
-use Rattle.fort_core.specs.declared.pick.Pick.{Pick}
 use Rattle.fort_core.specs.declared.term.Term.{Term}
 use Rattle.fort_core.specs.declared.value.Value.{Value}
 use Rattle.fort_machine.specs.Cells.{Cell, untouched, found, made, Fits, left_at}
-use Rattle.fort_machine.specs.Deeds.{Store, Deed, idle, paid, printed, only_at, reading, writing, made_from, making, both, FitsAll, afterwards, failing, aborting}
+use Rattle.fort_machine.specs.Deeds.{Deed, only_at, made_from, afterwards, failing}
 use Rattle.fort_machine.specs.Acts.{Act, stuck, turns, enters, asks, sets, makes, calls, ends}
-use Rattle.fort_machine.specs.Steps.{Does, Local, steps, or_unit}
-use Rattle.fort_machine.specs.Attempts.{Ended, goes, aborts, Closes, completed, failed, gave_up, fell_asleep}
-use Rattle.fort_machine.specs.Runs.{Runs}
+use Rattle.fort_machine.specs.Steps.{Does, steps, or_unit}
+use Rattle.fort_machine.specs.Attempts.{aborts, completed, failed, gave_up, fell_asleep}
 use Rattle.fort_machine.specs.EffectLaws.{EffectsJoin, EffectsFollow, EffectsPart, MakesInARow, StepsMakeInARow, GivesBack, AbortUndoes}
 use Rattle.fort_machine.proofs.Cells.{older_back, all_back}
 use Rattle.fort_machine.proofs.Deeds.{both_assoc, idle_both, both_idle, afterwards_both, both_fits, fits_first, fits_then}
@@ -63,7 +60,8 @@ no_row loc d n e = record {
   in_a_row = λ l w h. absurd (n l w h);
   all_made = λ n v h. absurd cc;
   none_there = λ s f n v h. absurd cc;
-  zero_for_none = λ q. e }
+  zero_for_none = λ q. e;
+}
 
 only_not_made : (l : ℕ) (c : Cell) → ((w : Option Value) → c ≡ made w → ⊥) → (k : ℕ) (w : Option Value) → only_at l c k ≡ made w → ⊥
 only_not_made l c n k w e = go (l == k) e
@@ -87,7 +85,8 @@ row_of p inner loc (makes values next cost) b d k = record {
   in_a_row = λ l w h. made_in_row loc (or_unit values) l w (sym (ap (λ (y : Deed). y.cells l) k.1) ∙ h);
   all_made = λ n v h. ap (λ (y : Deed). y.cells (loc + n)) k.1 ∙ row_made loc (or_unit values) n v h;
   none_there = λ s f n v h. made_none (d.cells (loc + n)) v (s (loc + n)) (ap (λ (y : Deed). y.cells (loc + n)) k.1 ∙ row_made loc (or_unit values) n v h) (f (loc + n));
-  zero_for_none = λ q. absurd (unit_first values q) }
+  zero_for_none = λ q. absurd (unit_first values q);
+}
 row_of p inner loc (calls set values) b d k = absurd k
 row_of p inner loc ends b d k = no_row loc d (λ l w h. let z : untouched ≡ made w = sym (ap (λ (y : Deed). y.cells l) k.5) ∙ h in cc) k.2
 

@@ -1,7 +1,6 @@
 -- The frame law.
-use Rattle.std.proofs.Common.{◌≡◌, ℕ, Bool, true, false, List, [], ◌∷◌, Option, Some, None, refl, ap, sym, ◌∙◌, subst, ◌⊎◌, inl, inr}
+use Rattle.std.proofs.Common.{◌≡◌, ℕ, Bool, true, false, List, Option, Some, None, refl, ap, sym, ◌∙◌, subst, ◌⊎◌, inl, inr}
 use Rattle.fort_core.specs.declared.form.Mode.{Mode}
-use Rattle.fort_core.specs.declared.pick.Pick.{Pick}
 use Rattle.fort_core.specs.declared.program.Program.{Program}
 use Rattle.fort_core.specs.declared.term.Term.{Term, Asleep, out-Term}
 use Rattle.fort_core.specs.declared.term.Term as term
@@ -14,8 +13,8 @@ use Rattle.fort_machine.specs.Ends.{open_yet, standing, throw_of}
 use Rattle.fort_machine.specs.Frames.{Frame, plug}
 use Rattle.fort_machine.specs.Parts.{IsOneOf, terms_in, Inside, itself, in_part}
 use Rattle.fort_machine.specs.Marked.{Marks, In, Bare, Alike}
-use Rattle.fort_machine.specs.Attempts.{Sleeps, Ready, Awake, MayTry, Ended, Closes, completed, failed, gave_up, fell_asleep}
-use Rattle.fort_machine.specs.Runs.{Runs, none, step, stop, attempt}
+use Rattle.fort_machine.specs.Attempts.{Sleeps, Awake, MayTry, Ended, Closes, completed, failed, gave_up, fell_asleep}
+use Rattle.fort_machine.specs.Runs.{none, step, stop, attempt}
 use Rattle.fort_machine.specs.RunLaws.{Framed}
 use Rattle.fort_machine.proofs.Deeds.{both_meet, fits_first, fits_then}
 use Rattle.fort_machine.proofs.Inside.{Sleeper, inside_plug, split_plug}
@@ -27,16 +26,24 @@ use Rattle.fort_machine.proofs.Runs.{runs_fit, closes_fit, fits_closed}
 -- stores that are alike where a term's sleepers watch let the same forms sleep
 sleeps_alike : (s s' : Store) (fs : List Frame) (a : Term) → standing a ≡ open_yet → Alike s s' (plug fs a) → Sleeps s' a → Sleeps s a
 sleeps_alike s s' fs a o h k = record {
-  marks = k.marks; body = k.body; is_asleep = k.is_asleep;
-  unchanged = λ l v i. h k.marks k.body (inside_plug (Asleep k.marks k.body) fs a o (itself (sym k.is_asleep))) l v i ∙ k.unchanged l v i }
+  marks = k.marks;
+  body = k.body;
+  is_asleep = k.is_asleep;
+  unchanged = λ l v i. h k.marks k.body (inside_plug (Asleep k.marks k.body) fs a o (itself (sym k.is_asleep))) l v i ∙ k.unchanged l v i;
+}
 
 alike_back : (s s' : Store) (t : Term) → Alike s s' t → Alike s' s t
 alike_back s s' t h = λ marks body i l v m. sym (h marks body i l v m)
 
 awake_alike : (s s' : Store) (t : Term) (path : List ℕ) → Alike s s' t → Awake s' t path → Awake s t path
 awake_alike s s' t path h w = record {
-  frames = w.frames; part = w.part; is_term = w.is_term; is_path = w.is_path; ready = w.ready;
-  sleepless = λ k. w.sleepless (sleeps_alike s' s w.frames w.part (ready_open w.part w.ready) (subst (Alike s' s) w.is_term (alike_back s s' t h)) k) }
+  frames = w.frames;
+  part = w.part;
+  is_term = w.is_term;
+  is_path = w.is_path;
+  ready = w.ready;
+  sleepless = λ k. w.sleepless (sleeps_alike s' s w.frames w.part (ready_open w.part w.ready) (subst (Alike s' s) w.is_term (alike_back s s' t h)) k);
+}
 
 pub may_alike : (strict : Bool) (s s' : Store) (t : Term) (fs : List Frame) (a : Term) → standing a ≡ open_yet → t ≡ plug fs a → (strict ≡ true → Alike s s' t) → MayTry strict s t fs a → MayTry strict s' t fs a
 may_alike false s s' t fs a o e h m = tt
@@ -51,9 +58,11 @@ alike_step s s' d fs a b o k h marks body i l v m = go (split_plug marks body fs
   where
     old : (c : Term) → Inside (Asleep marks c) (plug fs a) → afterwards d s l ≡ afterwards d s' l
     old c j = ap (left_at (d.cells l)) (h marks c j l v m)
+
     new : Sleeper marks a ⊎ ((l : ℕ) (v : Value) → In l v marks → afterwards d s l ≡ afterwards d s' l) → afterwards d s l ≡ afterwards d s' l
     new (inl w) = old w.0 (inside_plug (Asleep marks w.0) fs a o w.1)
     new (inr w) = w l v m
+
     go : Inside (Asleep marks body) b ⊎ ((c : Term) → standing c ≡ open_yet → Inside (Asleep marks body) (plug fs c)) → afterwards d s l ≡ afterwards d s' l
     go (inl j) = new (k marks (body, j))
     go (inr j) = old body (j a o)
@@ -108,9 +117,9 @@ framed p inner strict s s' ps t r d (step {rest = rest} {a = a} {b = b} {d1 = d1
     let g : FitsAll (both d1 d2) s' = subst (λ x. FitsAll x s') w f in
     let m = both_meet d1 d2 s f1 (runs_fit (afterwards d1 s) rest (plug fs b) r d2 k) in
     step fs e c l (fits_first d1 d2 s' m g)
-      (framed p inner strict (afterwards d1 s) (afterwards d1 s') rest (plug fs b) r d2 k
-        (λ x. alike_step s s' d1 fs a b (ready_open a (local_ready p inner loc a b d1 l)) (λ marks q. inl (local_marks p inner loc a b d1 l marks q)) (subst (Alike s s') c (h x)))
-        (fits_then d1 d2 s' m g)) w
+    (framed p inner strict (afterwards d1 s) (afterwards d1 s') rest (plug fs b) r d2 k
+    (λ x. alike_step s s' d1 fs a b (ready_open a (local_ready p inner loc a b d1 l)) (λ marks q. inl (local_marks p inner loc a b d1 l marks q)) (subst (Alike s s') c (h x)))
+    (fits_then d1 d2 s' m g)) w
 framed p inner strict s s' ps t r d (stop fs a b c e x w) h f = stop fs a b c e x w
 framed p inner strict s s' ps t r d (attempt {m = md} {within = within} {rest = rest} {a = a} {b = b} {body = body} {ended = ended} {d1 = d1} {d2 = d2} {d3 = d3} fs e c l bare may k close k' w) h f =
     let g : FitsAll (both d2 d3) s' = subst (λ x. FitsAll x s') w f in
@@ -119,7 +128,7 @@ framed p inner strict s s' ps t r d (attempt {m = md} {within = within} {rest = 
     let mt = both_meet d2 d3 s (closes_fit p md body b ended d1 d2 s close f1) (runs_fit (afterwards d2 s) rest (plug fs b) r d3 k') in
     let g1 : FitsAll d1 s' = fits_closed p md body b ended d1 d2 s' close (fits_first d2 d3 s' mt g) in
     attempt fs e c l bare (may_alike strict s s' t fs a o c h may)
-      (framed p true true s s' within body ended d1 k (λ x. bare_alike s s' body bare) g1) close
-      (framed p inner strict (afterwards d2 s) (afterwards d2 s') rest (plug fs b) r d3 k'
-        (λ x. alike_step s s' d2 fs a b o (λ marks q. inr (closes_marks p md body b ended d1 d2 s s' bare close f1 g1 marks q)) (subst (Alike s s') c (h x)))
-        (fits_then d2 d3 s' mt g)) w
+    (framed p true true s s' within body ended d1 k (λ x. bare_alike s s' body bare) g1) close
+    (framed p inner strict (afterwards d2 s) (afterwards d2 s') rest (plug fs b) r d3 k'
+    (λ x. alike_step s s' d2 fs a b o (λ marks q. inr (closes_marks p md body b ended d1 d2 s s' bare close f1 g1 marks q)) (subst (Alike s s') c (h x)))
+    (fits_then d2 d3 s' mt g)) w

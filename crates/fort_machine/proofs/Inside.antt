@@ -1,17 +1,15 @@
 -- Sleeping forms in a term, and in what stands round a part.
-use Rattle.std.proofs.Common.{◌≡◌, ℕ, Bool, true, false, List, [], ◌∷◌, ◌++◌, map, Option, Some, None, refl, ap, sym, ◌∙◌, subst, ◌⊎◌, inl, inr, if◌then◌else◌}
+use Rattle.std.proofs.Common.{◌≡◌, Bool, true, false, List, [], ◌∷◌, ◌++◌, map, Option, Some, None, refl, ap, sym, ◌∙◌, subst, ◌⊎◌, inl, inr, if◌then◌else◌}
 use Rattle.std.specs.Prelude.{nat_le, option_to_list}
-use Rattle.fort_base.specs.declared.ty.Ty.{Ty}
 use Rattle.fort_core.specs.declared.term.Term.{Term, Group, Asleep, out-Term}
 use Rattle.fort_core.specs.declared.term.Term as term
 use Rattle.fort_core.specs.declared.term.Term.TheVariants.{outs-Value, outs-Group, outs-Call, outs-Operator, outs-Apply, outs-Fill, outs-Let, outs-Mutable, outs-Write, outs-ReadField, outs-WriteField, outs-ReadElement, outs-WriteElement, outs-Size, outs-Then, outs-If, outs-Typecase, outs-For, outs-ForHalves, outs-Reduce, outs-ReduceHalves, outs-Also, outs-Try, outs-Throw, outs-Asleep}
 use Rattle.fort_core.specs.declared.term.Term.TheOpen.{Term-F}
 use Rattle.fort_core.specs.declared.value.Value.{Value, Tuple}
-use Rattle.fort_core.specs.declared.value.Closure.{Closure}
 use Rattle.fort_machine.specs.Texts.{depth, deepest}
-use Rattle.fort_machine.specs.Ends.{Standing, open_yet, standing, values_of, tuple_of, group}
+use Rattle.fort_machine.specs.Ends.{open_yet, standing, values_of, tuple_of, group}
 use Rattle.fort_machine.specs.Frames.{Frame, in_group, in_call, in_function, in_argument, in_first_half, in_second_half, in_first_reduced, in_second_reduced, in_block, in_throw, in_operand, in_fill_size, in_fill_value, in_let, in_mutable, in_write, in_field, in_field_target, in_field_value, in_element, in_index, in_element_target, in_element_index, in_element_value, in_size, in_then, in_test, in_subject, in_source, in_reduced_source, in_try, on, plug}
-use Rattle.fort_machine.specs.Parts.{IsOneOf, in_clauses, parts_of, terms_in, Inside, itself, in_part}
+use Rattle.fort_machine.specs.Parts.{IsOneOf, in_clauses, terms_in, Inside, itself, in_part}
 use Rattle.fort_machine.specs.Marked.{Marks}
 use Rattle.fort_machine.proofs.Standing.{group_open}
 use Rattle.fort_machine.proofs.Places.{on_layer, out_on, plug_open}
@@ -158,6 +156,7 @@ split_plug marks body (f ∷ fs) b i = go (split_on marks body f (plug fs b) i) 
     inner : Split (Asleep marks body) (plug fs) b → Split (Asleep marks body) (plug (f ∷ fs)) b
     inner (inl k) = inl k
     inner (inr k) = inr (λ a o. inside_on (Asleep marks body) f (plug fs a) (plug_open fs a o) (k a o))
+
     go : Split (Asleep marks body) (on f) (plug fs b) → (Inside (Asleep marks body) (plug fs b) → Split (Asleep marks body) (plug fs) b) → Split (Asleep marks body) (plug (f ∷ fs)) b
     go (inl k) ih = inner (ih k)
     go (inr k) ih = inr (λ a o. k (plug fs a) (plug_open fs a o))

@@ -1,5 +1,5 @@
 -- A step puts no form to sleep but by an attempt.
-use Rattle.std.proofs.Common.{◌≡◌, ℕ, zero, suc, ◌+◌, ◌==◌, Bool, true, false, ◌||◌, List, [], ◌∷◌, ◌++◌, map, Option, Some, None, refl, ap, sym, ◌∙◌, subst, ◌⊎◌, inl, inr, if◌then◌else◌, ℤ, pos, negsuc}
+use Rattle.std.proofs.Common.{◌≡◌, ℕ, zero, suc, ◌+◌, ◌==◌, Bool, true, false, ◌||◌, List, [], ◌∷◌, ◌++◌, map, Option, Some, None, refl, ap, sym, ◌∙◌, subst, ◌⊎◌, inl, inr, if◌then◌else◌, pos, negsuc}
 use Rattle.std.specs.Prelude.{option_to_list, nat_le, nat_lt}
 use Rattle.std.specs.List.{list_any}
 use Rattle.fort_base.specs.declared.ids.SetId.{SetId}
@@ -15,7 +15,7 @@ use Rattle.fort_core.specs.declared.program.CoreShape.{CoreShape}
 use Rattle.fort_core.specs.declared.program.Program.{Program}
 use Rattle.fort_core.specs.declared.term.Term.{Term, Asleep, Write, Then, If, While, For, ForHalves, Reduce, ReduceHalves, Operator, out-Term, roll-out-Term, map-Term, para-Term, para-roll-Term, fold_out-Term}
 use Rattle.fort_core.specs.declared.term.Term as term
-use Rattle.fort_core.specs.declared.term.Term.TheVariants.{Variable, Read, outs-Value, outs-Throw, outs-Variable, outs-Read, outs-Write, outs-Then, outs-If, outs-While, outs-For, outs-ForHalves, outs-Reduce, outs-ReduceHalves, outs-Operator, outs-Asleep}
+use Rattle.fort_core.specs.declared.term.Term.TheVariants.{Variable, outs-Value, outs-Throw, outs-Variable, outs-Read, outs-Write, outs-Then, outs-If, outs-While, outs-For, outs-ForHalves, outs-Reduce, outs-ReduceHalves, outs-Operator, outs-Asleep}
 use Rattle.fort_core.specs.declared.term.Term.TheOpen.{Term-F, Value-F}
 use Rattle.fort_core.specs.declared.value.Value.{Value, para-Value, fold-Value, out-Value}
 use Rattle.fort_core.specs.declared.value.Closure.{Closure, out-Closure, roll-out-Closure, para-Closure, para-roll-Closure, fold-Closure, fold_out-Closure}
@@ -25,11 +25,11 @@ use Rattle.fort_machine.specs.Deeds.{Deed}
 use Rattle.fort_machine.specs.Ends.{Standing, at_value, at_throw, open_yet, standing, throw_of}
 use Rattle.fort_machine.specs.Parts.{IsOneOf, in_clauses, parts_of, terms_in, Inside, itself, in_part}
 use Rattle.fort_machine.specs.Scopes.{holds_all}
-use Rattle.fort_machine.specs.Substitution.{Changed, with_value, substituted, substituted_all, at_location, with_location, closure_now, located, bound_to, held_by}
+use Rattle.fort_machine.specs.Substitution.{with_value, substituted, substituted_all, at_location, with_location, closure_now, located, bound_to, held_by}
 use Rattle.fort_machine.specs.Acts.{Act, stuck, turns, enters, asks, sets, makes, calls, unit, single, throws_object, throwing, by_standing, after, after_all, Together, at_values, leftmost, some_open, standing_together, by_together, once_all}
 use Rattle.fort_machine.specs.Acts as acts
-use Rattle.fort_machine.specs.Generators.{Items, numbers_from, elements_from, no_items, items_at, by_item, first_half, rest_half, for_items, reduced_halves, reduce_items, spanned, generating, reducing}
-use Rattle.fort_machine.specs.Forms.{entering, applying_to, applying, filling, binding, reading_at, writing_at, location_of, field_of, by_element, sizing, choosing, clause_for, finally_then, trying, too_deep, act_at, act}
+use Rattle.fort_machine.specs.Generators.{Items, numbers_from, elements_from, no_items, items_at, by_item, first_half, rest_half, for_items, reduced_halves, reduce_items, spanned}
+use Rattle.fort_machine.specs.Forms.{entering, applying_to, applying, filling, binding, reading_at, writing_at, location_of, field_of, by_element, sizing, choosing, clause_for, finally_then, trying, too_deep, act_at}
 use Rattle.fort_machine.specs.Calls.{by_answer, constructing, by_body, by_number}
 use Rattle.fort_machine.specs.Marked.{Marks, dozes_at, dozes, Bare}
 use Rattle.fort_machine.specs.Steps.{Acts, by_itself, by_call, Does, Local, steps}
@@ -80,7 +80,8 @@ module _ (x l : ℕ) where
   from_place (Term-F.Read y) = plain_term (located x l) (Term-F.Read y) _ _ (outs-Read (at_location x l y)) (λ c k. k) (λ ms b e. cc)
   from_place (Term-F.Write y a) = record {
     parts = λ c k. one c (subst (IsOneOf c) (ap terms_in (outs-Write (at_location x l y) (located x l a))) k);
-    asleep = λ ms b e. let z = sym (outs-Write (at_location x l y) (located x l a)) ∙ e in absurd cc }
+    asleep = λ ms b e. let z = sym (outs-Write (at_location x l y) (located x l a)) ∙ e in absurd cc;
+  }
     where
       one : (c : Term) → IsOneOf c (located x l a ∷ []) → (b : Term) × IsOneOf b (a ∷ []) × ((c ≡ located x l b) ⊎ (c ≡ b))
       one c (inl q) = (a, inl refl, inl q)
@@ -289,7 +290,7 @@ module _ (marks : Marks) (t : Term) where
       let one = For order.Parallel (span.Part k h) x (term.Value source) b in
       let two = For order.Parallel (span.Part (k + h) (rest_half (suc (suc n)))) x (term.Value source) b in
       less_by (ForHalves one two) _ (outs-ForHalves one two) (λ c e. cc)
-        (less_list (one ∷ two ∷ []) (less_for order.Parallel (span.Part k h) x source b lb, (less_for order.Parallel (span.Part (k + h) (rest_half (suc (suc n)))) x source b lb, tt)))
+      (less_list (one ∷ two ∷ []) (less_for order.Parallel (span.Part k h) x source b lb, (less_for order.Parallel (span.Part (k + h) (rest_half (suc (suc n)))) x source b lb, tt)))
 
   less_reduce : (o : Order) (s : Span) (set : SetId) (empty : Term) (x : ℕ) (source : Value) (b : Term) → Less empty → Less b → Less (Reduce o s set empty x (term.Value source) b)
   less_reduce o s set empty x source b le lb =

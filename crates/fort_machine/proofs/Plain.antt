@@ -1,12 +1,12 @@
 -- The plain reading follows.
-use Rattle.std.proofs.Common.{◌≡◌, ℕ, zero, suc, ◌==◌, ◌+◌, ◌<◌, ◌≤◌, Bool, true, false, List, [], ◌∷◌, ◌++◌, length, Option, Some, None, refl, ap, sym, ◌∙◌, subst, arith, rules, if◌then◌else◌}
+use Rattle.std.proofs.Common.{◌≡◌, ℕ, zero, suc, ◌==◌, ◌+◌, ◌<◌, Bool, true, false, List, [], ◌∷◌, length, Option, Some, None, refl, ap, sym, ◌∙◌, subst, arith, rules, if◌then◌else◌}
 use Rattle.std.proofs.Math.Path.{fun_ext}
 use Rattle.fort_core.specs.declared.form.Mode.{Mode}
 use Rattle.fort_core.specs.declared.program.Program.{Program}
 use Rattle.fort_core.specs.declared.term.Term.{Term}
 use Rattle.fort_core.specs.declared.value.Value.{Value}
 use Rattle.fort_machine.specs.Cells.{Cell, untouched, found, made, Fits, left_at}
-use Rattle.fort_machine.specs.Deeds.{Store, Deed, only_at, reading, writing, made_from, making, FitsAll, afterwards, failing}
+use Rattle.fort_machine.specs.Deeds.{Store, Deed, only_at, made_from, FitsAll, afterwards, failing}
 use Rattle.fort_machine.specs.Frames.{plug}
 use Rattle.fort_machine.specs.Attempts as closes
 use Rattle.fort_machine.specs.Attempts.{Ended, goes, aborts, Closes}
@@ -138,7 +138,7 @@ runs_plainly p inner strict s ps t r d (runs.Runs.step {rest = rest} {b = b} {d1
     let q = runs_plainly p inner strict (afterwards d1 s) rest (plug fs b) r d2 k in
     let e = ap (λ x. afterwards x s) w ∙ afterwards_both d1 d2 s f (runs_fit (afterwards d1 s) rest (plug fs b) r d2 k) in
     subst (λ x. Plain p inner ps s t r x d.output d.cost) (sym e)
-      (plain.Plain.step fs a c l f refl q (ap (λ (x : Deed). x.output) w) (ap (λ (x : Deed). x.cost) w))
+    (plain.Plain.step fs a c l f refl q (ap (λ (x : Deed). x.output) w) (ap (λ (x : Deed). x.cost) w))
 runs_plainly p inner strict s ps t r d (runs.Runs.stop fs a b c e h w) =
     plain.Plain.stop fs a b c e h (ap (λ x. afterwards x s) w) (ap (λ (x : Deed). x.output) w) (ap (λ (x : Deed). x.cost) w)
 runs_plainly p inner strict s ps t r d (runs.Runs.attempt {m = m} {within = within} {rest = rest} {b = b} {body = body} {ended = ended} {d1 = d1} {d2 = d2} {d3 = d3} fs a c l bare may k close k' w) =
@@ -149,4 +149,4 @@ runs_plainly p inner strict s ps t r d (runs.Runs.attempt {m = m} {within = with
     let n : d.cost ≡ d2.cost + d3.cost = ap (λ (x : Deed). x.cost) w in
     let n2 = closes_cost p m body b ended d1 d2 close in
     subst (λ x. Plain p inner ps s t r x d.output d.cost) (sym e)
-      (plain.Plain.attempt fs a c l q (closes_plainly p m body b ended d1 d2 s f1 close) q' (ap (λ (x : Deed). x.output) w) (omega arith))
+    (plain.Plain.attempt fs a c l q (closes_plainly p m body b ended d1 d2 s f1 close) q' (ap (λ (x : Deed). x.output) w) (omega arith))

@@ -1,5 +1,5 @@
 -- Runs one after the other, and runs of a part.
-use Rattle.std.proofs.Common.{◌≡◌, ℕ, Bool, true, false, List, [], ◌∷◌, ◌++◌, map, Option, Some, None, refl, ap, sym, ◌∙◌, subst, append_assoc}
+use Rattle.std.proofs.Common.{◌≡◌, ℕ, Bool, false, List, [], ◌∷◌, ◌++◌, map, refl, ap, sym, ◌∙◌, subst, append_assoc}
 use Rattle.fort_base.specs.declared.ids.Loc.{Loc}
 use Rattle.fort_core.specs.declared.form.Mode.{Mode}
 use Rattle.fort_core.specs.declared.path.Path.{Path}
@@ -10,7 +10,7 @@ use Rattle.fort_core.specs.declared.pick.Pick.TheVariants.{outs-Step, outs-Attem
 use Rattle.fort_machine.specs.Deeds.{Store, Deed, both, FitsAll, afterwards, failing, aborting}
 use Rattle.fort_machine.specs.Frames.{Frame, on, plug, part_number, road}
 use Rattle.fort_machine.specs.Attempts.{Ended, goes, Closes, completed, failed, gave_up, fell_asleep}
-use Rattle.fort_machine.specs.Runs.{Runs, none, step, stop, attempt, path_to, location}
+use Rattle.fort_machine.specs.Runs.{Runs, none, step, stop, attempt, location}
 use Rattle.fort_machine.specs.Threads.{under, under_at, ended_in}
 use Rattle.fort_machine.proofs.Cells.{given_back_fits, fits_given_back, taken_away_fits, fits_taken_away}
 use Rattle.fort_machine.proofs.Deeds.{both_assoc, idle_both, afterwards_both, both_fits}
@@ -19,7 +19,7 @@ module _ {p : Program} {inner strict : Bool} where
   pub again : (s s' : Store) (ps ps' : List Pick) (t t' : Term) (r r' : Ended) (d d' : Deed) → s ≡ s' → ps ≡ ps' → t ≡ t' → r ≡ r' → d ≡ d' → Runs p inner strict s ps t r d → Runs p inner strict s' ps' t' r' d'
   again s s' ps ps' t t' r r' d d' a b c e f k =
       subst (λ x. Runs p inner strict x ps' t' r' d') a (subst (λ x. Runs p inner strict s x t' r' d') b (subst (λ x. Runs p inner strict s ps x r' d') c
-        (subst (λ x. Runs p inner strict s ps t x d') e (subst (λ x. Runs p inner strict s ps t r x) f k))))
+      (subst (λ x. Runs p inner strict s ps t x d') e (subst (λ x. Runs p inner strict s ps t r x) f k))))
 
 -- an attempt fits where its inner run does
 pub closes_fit : (p : Program) (m : Mode) (body t : Term) (r : Ended) (d e : Deed) (s : Store) → Closes p m body r d t e → FitsAll d s → FitsAll e s
@@ -84,15 +84,15 @@ pub lift : {p : Program} {inner : Bool} (fs : List Frame) (s : Store) (ps : List
 lift fs s ps t r d (none a b c) = none (ap (map (under (road fs))) a) (ap (ended_in fs) b) c
 lift {p = p} {inner = inner} fs s ps t r d (step {rest = rest} {b = b} {d1 = d1} {d2 = d2} {loc = loc} gs a c l f k w) =
     step (fs ++ gs)
-      (ap (map (under (road fs))) a ∙ ap (λ x. x ∷ map (under (road fs)) rest) (under-Step (road fs) (road gs) (location loc) ∙ ap (λ x. Step (path_at x) (location loc)) (sym (road_append fs gs))))
-      (ap (plug fs) c ∙ sym (plug_append fs gs _)) l f
-      (subst (λ x. Runs p inner false (afterwards d1 s) (map (under (road fs)) rest) x (ended_in fs r) d2) (sym (plug_append fs gs b)) (lift fs (afterwards d1 s) rest (plug gs b) r d2 k)) w
+    (ap (map (under (road fs))) a ∙ ap (λ x. x ∷ map (under (road fs)) rest) (under-Step (road fs) (road gs) (location loc) ∙ ap (λ x. Step (path_at x) (location loc)) (sym (road_append fs gs))))
+    (ap (plug fs) c ∙ sym (plug_append fs gs _)) l f
+    (subst (λ x. Runs p inner false (afterwards d1 s) (map (under (road fs)) rest) x (ended_in fs r) d2) (sym (plug_append fs gs b)) (lift fs (afterwards d1 s) rest (plug gs b) r d2 k)) w
 lift fs s ps t r d (stop gs a b c e h w) =
     stop (fs ++ gs) a
-      (ap (map (under (road fs))) b ∙ ap (λ x. x ∷ []) (under-Step (road fs) (road gs) (location 0) ∙ ap (λ x. Step (path_at x) (location 0)) (sym (road_append fs gs))))
-      (ap (plug fs) c ∙ sym (plug_append fs gs _)) e (ap (ended_in fs) h) w
+    (ap (map (under (road fs))) b ∙ ap (λ x. x ∷ []) (under-Step (road fs) (road gs) (location 0) ∙ ap (λ x. Step (path_at x) (location 0)) (sym (road_append fs gs))))
+    (ap (plug fs) c ∙ sym (plug_append fs gs _)) e (ap (ended_in fs) h) w
 lift {p = p} {inner = inner} fs s ps t r d (attempt {within = within} {rest = rest} {b = b} {d2 = d2} {d3 = d3} gs a c l bare may k close k' w) =
     attempt (fs ++ gs)
-      (ap (map (under (road fs))) a ∙ ap (λ x. x ∷ map (under (road fs)) rest) (under-Attempt (road fs) (road gs) within ∙ ap (λ x. Attempt (path_at x) within) (sym (road_append fs gs))))
-      (ap (plug fs) c ∙ sym (plug_append fs gs _)) l bare tt k close
-      (subst (λ x. Runs p inner false (afterwards d2 s) (map (under (road fs)) rest) x (ended_in fs r) d3) (sym (plug_append fs gs b)) (lift fs (afterwards d2 s) rest (plug gs b) r d3 k')) w
+    (ap (map (under (road fs))) a ∙ ap (λ x. x ∷ map (under (road fs)) rest) (under-Attempt (road fs) (road gs) within ∙ ap (λ x. Attempt (path_at x) within) (sym (road_append fs gs))))
+    (ap (plug fs) c ∙ sym (plug_append fs gs _)) l bare tt k close
+    (subst (λ x. Runs p inner false (afterwards d2 s) (map (under (road fs)) rest) x (ended_in fs r) d3) (sym (plug_append fs gs b)) (lift fs (afterwards d2 s) rest (plug gs b) r d3 k')) w

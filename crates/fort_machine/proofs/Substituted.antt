@@ -1,20 +1,19 @@
 -- A substitution puts no form to sleep.
-use Rattle.std.proofs.Common.{◌≡◌, ℕ, ◌==◌, Bool, true, false, ◌||◌, ◌&&◌, List, [], ◌∷◌, ◌++◌, map, Option, Some, None, refl, ap, sym, ◌∙◌, subst, ◌⊎◌, inl, inr, if◌then◌else◌}
-use Rattle.std.specs.Prelude.{option_to_list, option_map, nat_le}
-use Rattle.std.specs.List.{list_any}
+use Rattle.std.proofs.Common.{◌≡◌, ℕ, Bool, true, false, ◌&&◌, List, [], ◌∷◌, map, Some, None, refl, ap, sym, ◌∙◌, subst, ◌⊎◌, inl, inr, if◌then◌else◌}
+use Rattle.std.specs.Prelude.{nat_le}
 use Rattle.fort_base.specs.declared.ids.Loc.{Loc}
 use Rattle.fort_base.specs.declared.ty.Ty.{Ty}
 use Rattle.fort_core.specs.declared.term.Term.{Term, Fn, Asleep, Write, out-Term, roll-Term, roll-out-Term, out-roll-Term, map-Term, para-roll-Term, fold_out-Term}
 use Rattle.fort_core.specs.declared.term.Term as term
-use Rattle.fort_core.specs.declared.term.Term.TheVariants.{Variable, Read, outs-Value, outs-Variable, outs-Fn, outs-Read, outs-Write, outs-Asleep, rolls-Asleep}
+use Rattle.fort_core.specs.declared.term.Term.TheVariants.{outs-Value, outs-Fn, outs-Asleep, rolls-Asleep}
 use Rattle.fort_core.specs.declared.term.Term.TheOpen.{Term-F}
-use Rattle.fort_core.specs.declared.value.Value.{Value, Function, para-Value, fold-Value}
+use Rattle.fort_core.specs.declared.value.Value.{Value, Function}
 use Rattle.fort_core.specs.declared.value.Closure.{Closure}
 use Rattle.fort_machine.specs.Texts.{closure_depth, deepest}
 use Rattle.fort_machine.specs.Parts.{IsOneOf, in_clauses, parts_of, terms_in, Inside, itself, in_part}
 use Rattle.fort_machine.specs.Scopes.{holds_all, function}
-use Rattle.fort_machine.specs.Substitution.{Changed, now, remade, occurs, put_held, held_by, with_value, substituted, substituted_all, at_location, with_location, closure_now, located}
-use Rattle.fort_machine.specs.Marked.{Marks, dozes_at, dozes, Bare}
+use Rattle.fort_machine.specs.Substitution.{Changed, now, remade, occurs, put_held, held_by}
+use Rattle.fort_machine.specs.Marked.{Marks}
 use Rattle.fort_machine.proofs.Standing.{rolled}
 use Rattle.fort_machine.proofs.Inside.{out_group, Sleeper}
 
@@ -73,18 +72,21 @@ module _ {A B : Type 0} (F : Term → Term) (g : Value → A) (h : Closure → B
       go : (out-Term (remade (pairs (Term-F.Group ps))) ≡ Term-F.Group (map now (map (λ t. (t, F t)) ps))) ⊎ ((v : Value) × (out-Term (remade (pairs (Term-F.Group ps))) ≡ Term-F.Value v)) → From F (Term-F.Group ps) (remade (pairs (Term-F.Group ps)))
       go (inl e) = record {
         parts = λ c k. weaken (Term-F.Group ps) c (same_parts (Term-F.Group ps) c (subst (IsOneOf c) (ap terms_in e) k));
-        asleep = λ ms b q. let z = sym e ∙ q in absurd cc }
+        asleep = λ ms b q. let z = sym e ∙ q in absurd cc;
+      }
       go (inr (v, e)) = record {
         parts = λ c k. absurd (subst (IsOneOf c) (ap terms_in e) k);
-        asleep = λ ms b q. let z = sym e ∙ q in absurd cc }
+        asleep = λ ms b q. let z = sym e ∙ q in absurd cc;
+      }
 
   from_asleep : (ms : Marks) (t : Term) → From F (Term-F.Asleep ms t) (remade (pairs (Term-F.Asleep ms t)))
   from_asleep ms t = record {
     parts = λ c k. weaken (Term-F.Asleep ms t) c (same_parts (Term-F.Asleep ms t) c (subst (IsOneOf c) (ap terms_in (out-roll-Term (same_form (Term-F.Asleep ms t)))) k));
     asleep = λ ns b q.
-      let z : same_form (Term-F.Asleep ms t) ≡ Term-F.Asleep ns b = sym (out-roll-Term (same_form (Term-F.Asleep ms t))) ∙ q in
-      let w : map (λ (m : Loc × (Value × A)). (m.0, m.1.0)) (map (λ (m : Loc × Value). (m.0, (m.1, g m.1))) ms) ≡ ns = cc in
-      (t, ap (λ x. Term-F.Asleep x t) (sym (marks_back g ms) ∙ w)) }
+        let z : same_form (Term-F.Asleep ms t) ≡ Term-F.Asleep ns b = sym (out-roll-Term (same_form (Term-F.Asleep ms t))) ∙ q in
+        let w : map (λ (m : Loc × (Value × A)). (m.0, m.1.0)) (map (λ (m : Loc × Value). (m.0, (m.1, g m.1))) ms) ≡ ns = cc in
+        (t, ap (λ x. Term-F.Asleep x t) (sym (marks_back g ms) ∙ w));
+  }
 
   -- a form that is as it was but for its parts
   pub from_remade : (y : Term-F Term Value Closure) → ((c : Closure) → y ≡ Term-F.Fn c → ⊥) → From F y (remade (pairs y))
@@ -93,7 +95,8 @@ module _ {A B : Type 0} (F : Term → Term) (g : Value → A) (h : Closure → B
   from_remade (Term-F.Fn c) n = absurd (n c refl)
   from_remade form n = record {
     parts = λ c k. weaken form c (same_parts form c (subst (IsOneOf c) (ap terms_in (out-roll-Term (same_form form))) k));
-    asleep = λ ms b q. let z : same_form form ≡ Term-F.Asleep ms b = sym (out-roll-Term (same_form form)) ∙ q in absurd cc }
+    asleep = λ ms b q. let z : same_form form ≡ Term-F.Asleep ms b = sym (out-roll-Term (same_form form)) ∙ q in absurd cc;
+  }
 
   -- a function, with another body or its own
   pub from_function : (c c' : Closure) → (c'.body ≡ F c.body) ⊎ (c'.body ≡ c.body) → From F (Term-F.Fn c) (function c')

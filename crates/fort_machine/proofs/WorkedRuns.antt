@@ -1,33 +1,30 @@
 -- The worked run.
-use Rattle.std.proofs.Common.{◌≡◌, ℕ, zero, suc, ◌<◌, ◌≤◌, Bool, true, false, ◌&&◌, ◌||◌, List, [], ◌∷◌, ◌++◌, map, length, Option, Some, None, refl, ap, sym, ◌∙◌, subst, arith}
+use Rattle.std.proofs.Common.{◌≡◌, ℕ, zero, suc, ◌<◌, Bool, true, false, ◌&&◌, ◌||◌, List, [], ◌∷◌, ◌++◌, map, Some, refl, ap, sym, ◌∙◌, subst, arith}
 use Rattle.std.specs.Prelude.{slice_get, IsTrue, Contains}
-use Rattle.std.specs.List.{list_any, slice_index_or}
+use Rattle.std.specs.List.{slice_index_or}
 use Rattle.fort_base.specs.declared.ids.DeclId.{DeclId}
 use Rattle.fort_base.specs.declared.ty.Ty.{Ty, Arrow, out-Ty, fold-roll-Ty}
 use Rattle.fort_base.specs.declared.ty.Ty.TheVariants.{Named, Any, outs-Any, rolls-Named}
 use Rattle.fort_base.specs.declared.ty.Ty.TheOpen.{Ty-F}
-use Rattle.fort_core.specs.declared.pick.Pick.{Step}
 use Rattle.fort_core.specs.declared.program.CoreDecl.{CoreDecl}
 use Rattle.fort_core.specs.declared.program.CoreSet.{CoreSet}
 use Rattle.fort_core.specs.declared.term.Term.{Term, Call, out-Term, fold-roll-Term}
 use Rattle.fort_core.specs.declared.term.Term as term
 use Rattle.fort_core.specs.declared.term.Term.TheVariants.{outs-Call, rolls-Call, rolls-Value}
 use Rattle.fort_core.specs.declared.term.Term.TheOpen.{Term-F, Value-F}
-use Rattle.fort_core.specs.declared.value.Value.{Value, Text, fold-roll-Value}
+use Rattle.fort_core.specs.declared.value.Value.{Value, fold-roll-Value}
 use Rattle.fort_core.specs.declared.value.Value.TheVariants.{rolls-Text}
-use Rattle.fort_machine.specs.Types.{Relation, below_at, relation, all_below, each_below, type_at, type_of, domain_of}
+use Rattle.fort_machine.specs.Types.{Relation, below_at, relation, all_below, type_at, type_of, domain_of}
 use Rattle.fort_machine.specs.Texts.{text_at, text}
-use Rattle.fort_machine.specs.Primitives.{prints, answer_of}
-use Rattle.fort_machine.specs.Deeds.{Deed, idle, paid, printed, both, FitsAll}
-use Rattle.fort_machine.specs.Acts.{Act, turns, enters, calls, unit, with_first, at_values, by_together}
+use Rattle.fort_machine.specs.Primitives.{prints}
+use Rattle.fort_machine.specs.Deeds.{Deed, idle, paid, printed, both}
+use Rattle.fort_machine.specs.Acts.{turns, enters, calls, unit, with_first, at_values, by_together}
 use Rattle.fort_machine.specs.Forms.{act_at, act}
-use Rattle.fort_machine.specs.Calls.{IsApplicable, IsMostSpecific, Dispatches, by_answer, by_body}
+use Rattle.fort_machine.specs.Calls.{IsApplicable, Dispatches, by_answer}
 use Rattle.fort_machine.specs.Marked.{dozes_at, dozes, Bare}
-use Rattle.fort_machine.specs.Steps.{Acts, by_call, Does, Local, steps}
-use Rattle.fort_machine.specs.Attempts.{goes}
-use Rattle.fort_machine.specs.Runs.{Runs, none, step, path_to, location}
-use Rattle.fort_machine.specs.Journals.{opening_store, IsRun, Records}
-use Rattle.fort_machine.specs.Worked.{type, set, decl, letter, printing, run_decl, println_decl, hello, two_steps, PrintsLetter}
+use Rattle.fort_machine.specs.Steps.{by_call, Local, steps}
+use Rattle.fort_machine.specs.Runs.{none, step}
+use Rattle.fort_machine.specs.Worked.{type, set, decl, letter, printing, run_decl, println_decl, hello, PrintsLetter}
 use Rattle.fort_machine.proofs.Standing.{standing-Value}
 
 -- a set of one declaration has no other one
@@ -50,8 +47,10 @@ dispatches : (n : ℕ) (d : DeclId) (c : CoreDecl) (vs : List Value) → slice_g
 dispatches n d c vs q r h = record {
   most_specific = record {
     applicable = record { members = record { decls = d ∷ [] }; is_set = q; is_member = (0, omega arith, refl); is_decl = r; applies = h };
-    over_others = λ e other a ne. absurd (ne (only_one n d q _ e other a)) };
-  no_other = λ e other m. only_one n d q _ e other m.applicable }
+    over_others = λ e other a ne. absurd (ne (only_one n d q _ e other a));
+  };
+  no_other = λ e other m. only_one n d q _ e other m.applicable;
+}
 
 -- the text has a type below `Any`, and is itself its text
 letter_type : type_of hello letter ≡ Named (type 4)
@@ -99,9 +98,16 @@ abbrev done : Deed
 done = both (paid 1) (both (printed (97 ∷ 10 ∷ []) 3) idle)
 
 pub prints_letter : PrintsLetter
-prints_letter = (done, record {
+prints_letter = (
+  done,
+  record {
     is_run = record {
       runs = step [] refl refl first_step (λ l. tt) (step [] refl refl second_step (λ l. tt) (none refl refl refl) refl) refl;
-      bounded = λ l v e. absurd cc };
+      bounded = λ l v e. absurd cc;
+    };
     within_fuel = omega arith;
-    ends = refl }, refl, refl)
+    ends = refl;
+  },
+  refl,
+  refl,
+)

@@ -55,4 +55,3 @@ tuple_of ts None = Group ts
 -- The term `(a, b)`: the tuple itself where all parts are values and it isn't too deep.
 abbrev pub group : List Term → Term
 group ts = tuple_of ts (values_of ts)
-

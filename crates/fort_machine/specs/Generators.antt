@@ -48,7 +48,7 @@ for_items order.Parallel items k (suc zero) x source body = by_item items k (λ 
 for_items order.Parallel items k (suc (suc n)) x source body =
     let h = first_half (suc (suc n)) in
     becomes (ForHalves (For order.Parallel (span.Part k h) x (term.Value source) body)
-      (For order.Parallel (span.Part (k + h) (rest_half (suc (suc n)))) x (term.Value source) body))
+    (For order.Parallel (span.Part (k + h) (rest_half (suc (suc n)))) x (term.Value source) body))
 
 -- Both halves of a reduction: a parallel node, or in `seq` the operands of its operator.
 abbrev pub reduced_halves : Order → SetId → Term → Term → Term
@@ -62,7 +62,7 @@ reduce_items o items k (suc zero) set empty x source body = by_item items k (λ 
 reduce_items o items k (suc (suc n)) set empty x source body =
     let h = first_half (suc (suc n)) in
     becomes (reduced_halves o set (Reduce o (span.Part k h) set empty x (term.Value source) body)
-      (Reduce o (span.Part (k + h) (rest_half (suc (suc n)))) set empty x (term.Value source) body))
+    (Reduce o (span.Part (k + h) (rest_half (suc (suc n)))) set empty x (term.Value source) body))
 
 -- Goes on by the number of the first item and by how many there are: all of them, or those of a part.
 abbrev pub spanned : Span → Items → (ℕ → ℕ → Act) → Act

@@ -1,9 +1,9 @@
 -- Chapter "Journals": a worked run, of `run(): () = println("a")`. Nothing in the code is like it.
-use Rattle.std.specs.Prelude.{◌≡◌, ℕ, List, [], ◌∷◌}
+use Rattle.std.specs.Prelude.{◌≡◌, ℕ, [], ◌∷◌}
 use Rattle.fort_base.specs.declared.ids.DeclId.{DeclId}
 use Rattle.fort_base.specs.declared.ids.SetId.{SetId}
 use Rattle.fort_base.specs.declared.ids.TypeId.{TypeId}
-use Rattle.fort_base.specs.declared.ty.Ty.{Ty, Tuple}
+use Rattle.fort_base.specs.declared.ty.Ty.{Tuple}
 use Rattle.fort_base.specs.declared.ty.Ty.TheVariants.{Any}
 use Rattle.fort_core.specs.declared.journal.Ending.TheVariants.{Completed}
 use Rattle.fort_core.specs.declared.journal.Journal.{Journal}
@@ -12,7 +12,6 @@ use Rattle.fort_core.specs.declared.primitive.Primitive.TheVariants.{Println}
 use Rattle.fort_core.specs.declared.program.BuiltIn.{BuiltIn}
 use Rattle.fort_core.specs.declared.program.CoreBody.TheVariants as body
 use Rattle.fort_core.specs.declared.program.CoreDecl.{CoreDecl}
-use Rattle.fort_core.specs.declared.program.CoreSet.{CoreSet}
 use Rattle.fort_core.specs.declared.program.Program.{Program}
 use Rattle.fort_core.specs.declared.term.Term.{Term, Call}
 use Rattle.fort_core.specs.declared.term.Term as term
@@ -65,7 +64,8 @@ hello = record {
   decls = run_decl ∷ println_decl ∷ [];
   first = Call (set 0) [];
   opening = [];
-  opening_types = [] }
+  opening_types = [];
+}
 
 -- Two steps of the root thread, with a fuel of 4.
 abbrev pub two_steps : Journal
