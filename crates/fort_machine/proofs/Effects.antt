@@ -2,17 +2,14 @@
 use Rattle.std.proofs.Common.{◌≡◌, ℕ, zero, suc, ◌+◌, ◌<◌, ◌≤◌, ◌==◌, Bool, true, false, List, [], ◌∷◌, length, Option, Some, None, refl, ap, sym, ◌∙◌, subst, arith, rules, if◌then◌else◌}
 use Rattle.std.specs.Prelude.{slice_get}
 use Rattle.std.proofs.Math.Path.{fun_ext}
-use Rattle.fort_core.specs.declared.form.Mode.{Mode}
 use Rattle.fort_core.specs.declared.program.Program.{Program}
-use Rattle.fort_core.specs.declared.pick.Pick.{Pick}
 use Rattle.fort_core.specs.declared.term.Term.{Term}
 use Rattle.fort_core.specs.declared.value.Value.{Value}
 use Rattle.fort_machine.specs.Cells.{Cell, untouched, found, made, Fits, left_at}
-use Rattle.fort_machine.specs.Deeds.{Store, Deed, idle, paid, printed, only_at, reading, writing, made_from, making, both, FitsAll, afterwards, failing, aborting}
+use Rattle.fort_machine.specs.Deeds.{Deed, only_at, made_from, afterwards, failing}
 use Rattle.fort_machine.specs.Acts.{Act, stuck, turns, enters, asks, sets, makes, calls, ends}
-use Rattle.fort_machine.specs.Steps.{Does, Local, steps, or_unit}
-use Rattle.fort_machine.specs.Attempts.{Ended, goes, aborts, Closes, completed, failed, gave_up, fell_asleep}
-use Rattle.fort_machine.specs.Runs.{Runs}
+use Rattle.fort_machine.specs.Steps.{Does, steps, or_unit}
+use Rattle.fort_machine.specs.Attempts.{aborts, completed, failed, gave_up, fell_asleep}
 use Rattle.fort_machine.specs.EffectLaws.{EffectsJoin, EffectsFollow, EffectsPart, MakesInARow, StepsMakeInARow, GivesBack, AbortUndoes}
 use Rattle.fort_machine.proofs.Cells.{older_back, all_back}
 use Rattle.fort_machine.proofs.Deeds.{both_assoc, idle_both, both_idle, afterwards_both, both_fits, fits_first, fits_then}

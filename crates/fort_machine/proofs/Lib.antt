@@ -8,3 +8,9 @@ pub mod Single
 pub mod Effects
 pub mod Picks
 pub mod Plain
+pub mod Inside
+pub mod Substituted
+pub mod Less
+pub mod Frame
+pub mod Legs
+pub mod WorkedRuns

@@ -1,11 +1,11 @@
 -- A run, pick by pick; attempts as picks; runs of parts.
-use Rattle.std.proofs.Common.{◌≡◌, ℕ, ◌+◌, Bool, true, List, [], ◌∷◌, ◌++◌, refl, ap, sym, ◌∙◌, subst}
+use Rattle.std.proofs.Common.{◌≡◌, ◌+◌, Bool, List, [], ◌∷◌, ◌++◌, refl, ap, sym, ◌∙◌}
 use Rattle.fort_core.specs.declared.program.Program.{Program}
 use Rattle.fort_core.specs.declared.pick.Pick.{Pick, Step, Attempt}
 use Rattle.fort_core.specs.declared.term.Term.{Term}
-use Rattle.fort_machine.specs.Deeds.{Store, Deed, idle, both, FitsAll, afterwards}
+use Rattle.fort_machine.specs.Deeds.{Store, Deed, both, afterwards}
 use Rattle.fort_machine.specs.Frames.{plug}
-use Rattle.fort_machine.specs.Attempts.{Ended, goes, aborts}
+use Rattle.fort_machine.specs.Attempts.{Ended, goes}
 use Rattle.fort_machine.specs.Runs.{Runs, none, step, stop, attempt, path_to, location}
 use Rattle.fort_machine.specs.RunLaws.{Lifts, RunsJoin, RunsFit, AttemptIsOnePick, PickByPick, no_more, next, stopped, all_of, outputs, costs, PicksAddUp}
 use Rattle.fort_machine.proofs.Deeds.{both_idle}

@@ -1,5 +1,5 @@
 -- Places in a term: the path of a thread determines what stands there.
-use Rattle.std.proofs.Common.{◌≡◌, ℕ, suc, List, [], ◌∷◌, ◌++◌, map, length, refl, ap, sym, ◌∙◌, subst, arith, append_assoc, ◌⊎◌, inl, inr}
+use Rattle.std.proofs.Common.{◌≡◌, ℕ, List, [], ◌∷◌, ◌++◌, map, length, refl, ap, sym, ◌∙◌, arith, append_assoc, ◌⊎◌, inl, inr}
 use Rattle.std.proofs.lemmas.List.{append-nil}
 use Rattle.fort_base.specs.declared.ids.SetId.{SetId}
 use Rattle.fort_core.specs.declared.term.Term.{Term, out-Term}
@@ -8,7 +8,7 @@ use Rattle.fort_core.specs.declared.term.Term.TheVariants.{outs-Group, outs-Call
 use Rattle.fort_core.specs.declared.term.Term.TheOpen.{Term-F}
 use Rattle.fort_core.specs.declared.value.Value.{Value}
 use Rattle.fort_core.specs.declared.value.Closure.{Closure}
-use Rattle.fort_machine.specs.Ends.{Standing, at_value, at_throw, open_yet, standing_at, standing, Finished}
+use Rattle.fort_machine.specs.Ends.{Standing, at_value, open_yet, standing_at, standing}
 use Rattle.fort_machine.specs.Frames.{Frame, in_group, in_call, in_function, in_argument, in_first_half, in_second_half, in_first_reduced, in_second_reduced, in_block, in_throw, in_operand, in_fill_size, in_fill_value, in_let, in_mutable, in_write, in_field, in_field_target, in_field_value, in_element, in_index, in_element_target, in_element_index, in_element_value, in_size, in_then, in_test, in_subject, in_source, in_reduced_source, in_try, on, plug, part_number, road}
 use Rattle.fort_machine.specs.Attempts.{Ready}
 use Rattle.fort_machine.specs.RunLaws.{OnePlace}

@@ -1,12 +1,12 @@
 -- The plain reading follows.
-use Rattle.std.proofs.Common.{◌≡◌, ℕ, zero, suc, ◌==◌, ◌+◌, ◌<◌, ◌≤◌, Bool, true, false, List, [], ◌∷◌, ◌++◌, length, Option, Some, None, refl, ap, sym, ◌∙◌, subst, arith, rules, if◌then◌else◌}
+use Rattle.std.proofs.Common.{◌≡◌, ℕ, zero, suc, ◌==◌, ◌+◌, ◌<◌, Bool, true, false, List, [], ◌∷◌, length, Option, Some, None, refl, ap, sym, ◌∙◌, subst, arith, rules, if◌then◌else◌}
 use Rattle.std.proofs.Math.Path.{fun_ext}
 use Rattle.fort_core.specs.declared.form.Mode.{Mode}
 use Rattle.fort_core.specs.declared.program.Program.{Program}
 use Rattle.fort_core.specs.declared.term.Term.{Term}
 use Rattle.fort_core.specs.declared.value.Value.{Value}
 use Rattle.fort_machine.specs.Cells.{Cell, untouched, found, made, Fits, left_at}
-use Rattle.fort_machine.specs.Deeds.{Store, Deed, only_at, reading, writing, made_from, making, FitsAll, afterwards, failing}
+use Rattle.fort_machine.specs.Deeds.{Store, Deed, only_at, made_from, FitsAll, afterwards, failing}
 use Rattle.fort_machine.specs.Frames.{plug}
 use Rattle.fort_machine.specs.Attempts as closes
 use Rattle.fort_machine.specs.Attempts.{Ended, goes, aborts, Closes}

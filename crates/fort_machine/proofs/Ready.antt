@@ -12,7 +12,7 @@ use Rattle.fort_machine.specs.Deeds.{Deed}
 use Rattle.fort_machine.specs.Ends.{Standing, at_value, at_throw, open_yet, standing_at, standing, throw_of, Finished}
 use Rattle.fort_machine.specs.Ends as ends
 use Rattle.fort_machine.specs.Frames.{Frame, in_group, in_call, in_function, in_argument, in_first_half, in_second_half, in_first_reduced, in_second_reduced, in_block, in_throw, in_operand, in_fill_size, in_fill_value, in_let, in_mutable, in_write, in_field, in_field_target, in_field_value, in_element, in_index, in_element_target, in_element_index, in_element_value, in_size, in_then, in_test, in_subject, in_source, in_reduced_source, in_try, on}
-use Rattle.fort_machine.specs.Acts.{Act, stuck, calls, ends as ends_machine, by_standing, after, after_all, Together, at_values, leftmost, some_open, with_first, standing_together, by_together, once_all}
+use Rattle.fort_machine.specs.Acts.{Act, stuck, ends as ends_machine, by_standing, after, after_all, Together, at_values, leftmost, some_open, with_first, standing_together, by_together, once_all}
 use Rattle.fort_machine.specs.Forms.{act_at, act, trying}
 use Rattle.fort_machine.specs.Steps.{Acts, by_itself, by_call, Does, Local, steps}
 use Rattle.fort_machine.specs.Attempts.{Ready, Form, fresh, slept}
@@ -108,7 +108,7 @@ no_frame_atomic : (m : Mode) (body : Term) (f : Frame) (b : Term) → Term-F.Ato
 no_frame_atomic m body in_throw b e = cc
 no_frame_atomic m body _ b e = cc
 
-no_frame_asleep : (marks : Marks) (body : Term) (f : Frame) (b : Term) → Term-F.Asleep marks body ≡ on_layer f b → ⊥
+pub no_frame_asleep : (marks : Marks) (body : Term) (f : Frame) (b : Term) → Term-F.Asleep marks body ≡ on_layer f b → ⊥
 no_frame_asleep marks body in_throw b e = cc
 no_frame_asleep marks body _ b e = cc
 

@@ -1,5 +1,5 @@
 -- Runs one after the other, and runs of a part.
-use Rattle.std.proofs.Common.{◌≡◌, ℕ, Bool, true, false, List, [], ◌∷◌, ◌++◌, map, Option, Some, None, refl, ap, sym, ◌∙◌, subst, append_assoc}
+use Rattle.std.proofs.Common.{◌≡◌, ℕ, Bool, false, List, [], ◌∷◌, ◌++◌, map, refl, ap, sym, ◌∙◌, subst, append_assoc}
 use Rattle.fort_base.specs.declared.ids.Loc.{Loc}
 use Rattle.fort_core.specs.declared.form.Mode.{Mode}
 use Rattle.fort_core.specs.declared.path.Path.{Path}
@@ -10,7 +10,7 @@ use Rattle.fort_core.specs.declared.pick.Pick.TheVariants.{outs-Step, outs-Attem
 use Rattle.fort_machine.specs.Deeds.{Store, Deed, both, FitsAll, afterwards, failing, aborting}
 use Rattle.fort_machine.specs.Frames.{Frame, on, plug, part_number, road}
 use Rattle.fort_machine.specs.Attempts.{Ended, goes, Closes, completed, failed, gave_up, fell_asleep}
-use Rattle.fort_machine.specs.Runs.{Runs, none, step, stop, attempt, path_to, location}
+use Rattle.fort_machine.specs.Runs.{Runs, none, step, stop, attempt, location}
 use Rattle.fort_machine.specs.Threads.{under, under_at, ended_in}
 use Rattle.fort_machine.proofs.Cells.{given_back_fits, fits_given_back, taken_away_fits, fits_taken_away}
 use Rattle.fort_machine.proofs.Deeds.{both_assoc, idle_both, afterwards_both, both_fits}

@@ -1,5 +1,5 @@
 -- The picks of a run determine it.
-use Rattle.std.proofs.Common.{◌≡◌, ℕ, ◌<◌, ◌==◌, Bool, true, false, List, [], ◌∷◌, Option, Some, None, refl, ap, sym, ◌∙◌, subst, arith, rules, inl, inr}
+use Rattle.std.proofs.Common.{◌≡◌, ℕ, ◌<◌, Bool, true, false, List, [], ◌∷◌, Option, Some, None, refl, ap, sym, ◌∙◌, subst, arith, rules, inl, inr}
 use Rattle.std.specs.Prelude.{slice_get}
 use Rattle.fort_base.specs.declared.ids.DeclId.{DeclId}
 use Rattle.fort_base.specs.declared.ids.Loc.{Loc}
@@ -16,18 +16,18 @@ use Rattle.fort_core.specs.declared.term.Term as term
 use Rattle.fort_core.specs.declared.term.Term.TheVariants.{outs-Atomic, outs-Asleep}
 use Rattle.fort_core.specs.declared.value.Value.{Value}
 use Rattle.fort_machine.specs.Cells.{Cell, found, Fits}
-use Rattle.fort_machine.specs.Deeds.{Store, Deed, paid, printed, reading, writing, making, only_at, both, FitsAll, afterwards, completing, failing, aborting}
-use Rattle.fort_machine.specs.Ends.{Standing, at_throw, standing, throw_of}
+use Rattle.fort_machine.specs.Deeds.{Store, Deed, reading, only_at, both, FitsAll, afterwards, completing, failing, aborting}
+use Rattle.fort_machine.specs.Ends.{throw_of}
 use Rattle.fort_machine.specs.Frames.{Frame, plug, road}
-use Rattle.fort_machine.specs.Acts.{Act, stuck, turns, enters, asks, sets, makes, calls, ends, single as single_of}
+use Rattle.fort_machine.specs.Acts.{Act, stuck, turns, enters, asks, sets, makes, calls, ends}
 use Rattle.fort_machine.specs.Forms.{act}
 use Rattle.fort_machine.specs.Calls.{Dispatches, by_body}
-use Rattle.fort_machine.specs.Steps.{Acts, by_itself, by_call, Does, Local, steps, or_unit}
-use Rattle.fort_machine.specs.Attempts.{AreRead, AllAbove, Rising, Form, fresh, slept, Ended, goes, aborts, Closes, completed, failed, gave_up, fell_asleep}
+use Rattle.fort_machine.specs.Steps.{Acts, by_itself, by_call, Does, Local, steps}
+use Rattle.fort_machine.specs.Attempts.{AreRead, AllAbove, Rising, Form, fresh, slept, Ended, goes, Closes, completed, failed, gave_up, fell_asleep}
 use Rattle.fort_machine.specs.Marked.{Marks, In}
 use Rattle.fort_machine.specs.Runs.{Runs, none, step, stop, attempt, path_to, location}
 use Rattle.fort_machine.specs.RunLaws.{OneStep, OneMarks, OneRun}
-use Rattle.fort_machine.proofs.Standing.{standing-throw, value_not_throw}
+use Rattle.fort_machine.proofs.Standing.{value_not_throw}
 use Rattle.fort_machine.proofs.Places.{one_place}
 use Rattle.fort_machine.proofs.Ready.{local_ready, stop_ready, form_ready}
 

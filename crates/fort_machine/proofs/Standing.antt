@@ -1,5 +1,5 @@
 -- How a term stands, and tuples whose parts aren't all values.
-use Rattle.std.proofs.Common.{◌≡◌, List, [], ◌∷◌, ◌++◌, Option, Some, None, refl, ap, sym, ◌∙◌, subst, ◌⊎◌, inl, inr}
+use Rattle.std.proofs.Common.{◌≡◌, List, [], ◌∷◌, ◌++◌, Option, Some, None, refl, ap, sym, ◌∙◌, ◌⊎◌, inl, inr}
 use Rattle.std.specs.Prelude.{option_map, option_and_then}
 use Rattle.fort_core.specs.declared.term.Term.{Term, Throw, Group, out-Term, roll-Term, roll-out-Term}
 use Rattle.fort_core.specs.declared.term.Term as term

@@ -30,6 +30,7 @@ becomes t = turns t [] 1
 abbrev pub unit : Value
 unit = Tuple []
 
+-- An object of a type, where the type has one value.
 abbrev pub object_of : TypeId → CoreShape → Option Value
 object_of id s = single_of s.kind
   where
@@ -56,6 +57,7 @@ by_standing (at_value v) f = f v
 by_standing (at_throw v) f = becomes (throw_of v)
 by_standing open_yet f = stuck
 
+-- A form goes on by a part, once that is finished.
 abbrev pub after : Term → (Value → Act) → Act
 after t f = by_standing (standing t) f
 
@@ -70,6 +72,7 @@ pub data Together : Type 0 where
   leftmost : (thrown : Value) → Together
   some_open : Together
 
+-- A part with the parts behind it; one that is open keeps all waiting.
 abbrev pub with_first : Standing → Together → Together
 with_first (at_value v) (at_values vs) = at_values (v ∷ vs)
 with_first (at_value v) (leftmost w) = leftmost w
@@ -77,10 +80,12 @@ with_first (at_throw v) (at_values vs) = leftmost v
 with_first (at_throw v) (leftmost w) = leftmost v
 with_first _ _ = some_open
 
+-- How the parts of a parallel node stand.
 abbrev pub standing_together : List Term → Together
 standing_together [] = at_values []
 standing_together (t ∷ ts) = with_first (standing t) (standing_together ts)
 
+-- A parallel node goes on by its parts: by their values, or as the leftmost throw.
 abbrev pub by_together : Together → (List Value → Act) → Act
 by_together (at_values vs) f = f vs
 by_together (leftmost v) f = becomes (throw_of v)

@@ -1,6 +1,5 @@
 -- Chapter "Atomic": who is awake, which form may be tried, and how an attempt closes. The code has books with lists of reads; here an attempt is what its inner run did.
 use Rattle.std.specs.Prelude.{◌≡◌, ℕ, ◌<◌, Bool, true, false, ◌⊎◌, List, [], ◌∷◌, Option, Some}
-use Rattle.fort_base.specs.declared.ids.Loc.{Loc}
 use Rattle.fort_core.specs.declared.form.Mode.{Mode}
 use Rattle.fort_core.specs.declared.form.Mode.TheVariants as mode
 use Rattle.fort_core.specs.declared.program.Program.{Program}

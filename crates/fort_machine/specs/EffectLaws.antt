@@ -1,15 +1,15 @@
 -- Chapter "Store and effects": what holds of effects, and of single steps and attempts.
-use Rattle.std.specs.Prelude.{◌≡◌, ℕ, ◌+◌, ◌-◌, ◌<◌, ◌≤◌, Bool, true, false, List, [], ◌∷◌, length, slice_get, Option, Some, None}
+use Rattle.std.specs.Prelude.{◌≡◌, ℕ, ◌+◌, ◌<◌, ◌≤◌, Bool, true, List, [], length, slice_get, Option, Some, None}
 use Rattle.fort_core.specs.declared.form.Mode.{Mode}
 use Rattle.fort_core.specs.declared.pick.Pick.{Pick}
 use Rattle.fort_core.specs.declared.program.Program.{Program}
 use Rattle.fort_core.specs.declared.term.Term.{Term}
 use Rattle.fort_core.specs.declared.term.Term as term
 use Rattle.fort_core.specs.declared.value.Value.{Value}
-use Rattle.fort_machine.specs.Cells.{found, made}
-use Rattle.fort_machine.specs.Deeds.{Store, Deed, idle, both, reading, writing, FitsAll, MeetsAll, afterwards}
+use Rattle.fort_machine.specs.Cells.{made}
+use Rattle.fort_machine.specs.Deeds.{Store, Deed, idle, both, FitsAll, MeetsAll, afterwards}
 use Rattle.fort_machine.specs.Steps.{Local}
-use Rattle.fort_machine.specs.Attempts.{Ended, goes, aborts, Closes}
+use Rattle.fort_machine.specs.Attempts.{Ended, aborts, Closes}
 use Rattle.fort_machine.specs.Runs.{Runs}
 
 -- Stretches join in any grouping, and what does nothing adds nothing.
@@ -32,6 +32,7 @@ pub record MakesInARow (loc : ℕ) (d : Deed) : Type 0 where
   pub none_there : (s : Store) → FitsAll d s → (n : ℕ) (v : Value) → slice_get values n ≡ Some v → s (loc + n) ≡ None
   pub zero_for_none : values ≡ [] → loc ≡ 0
 
+-- A step that makes locations makes consecutive ones from its pick's on, that the store lacked.
 abbrev pub StepsMakeInARow : Type 0
 StepsMakeInARow = (p : Program) (inner : Bool) (loc : ℕ) (a b : Term) (d : Deed) → Local p inner loc a b d → MakesInARow loc d
 

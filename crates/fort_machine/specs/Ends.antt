@@ -18,6 +18,7 @@ abbrev pub of_thrown : Term-F Term Value Closure → Standing
 of_thrown (Term-F.Value v) = at_throw v
 of_thrown _ = open_yet
 
+-- How a form stands: a value and a throw of one are finished.
 abbrev pub standing_at : Term-F Term Value Closure → Standing
 standing_at (Term-F.Value v) = at_value v
 standing_at (Term-F.Throw t) = of_thrown (out-Term t)
@@ -36,6 +37,7 @@ pub data Finished (t : Term) : Type 0 where
   value : (v : Value) → t ≡ term.Value v → Finished t
   throw : (v : Value) → t ≡ throw_of v → Finished t
 
+-- The value of what stands at one.
 abbrev pub value_at : Standing → Option Value
 value_at (at_value v) = Some v
 value_at _ = None

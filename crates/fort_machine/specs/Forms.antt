@@ -26,6 +26,7 @@ abbrev pub entering : Closure → Option (List (ℕ × Value)) → Act
 entering c (Some hs) = enters c.body (substituted_all (hs ++ c.held) c.body)
 entering c None = stuck
 
+-- A function value is applied to its argument.
 abbrev pub applying_to : Kind → Value → Act
 applying_to (Value-F.Function c) v = entering c (bound_to c.parameters v)
 applying_to _ v = stuck
@@ -56,6 +57,7 @@ abbrev pub writing_at : Option ℕ → Value → Act
 writing_at (Some l) v = sets l v
 writing_at None v = stuck
 
+-- The location of a variable that has one.
 abbrev pub location_of : Slot → Option ℕ
 location_of (slot.Location l) = Some l.0
 location_of (slot.Variable x) = None

@@ -19,6 +19,7 @@ pub data Items : Type 0 where
   elements_from : (base count : ℕ) → Items
   no_items : Items
 
+-- The items of a range or an array.
 abbrev pub items_at : Value-F Term Value Closure → Items
 items_at (Value-F.Range first count) = numbers_from first count
 items_at (Value-F.Array element base size) = elements_from base.0 size
@@ -34,6 +35,7 @@ by_item no_items k next = stuck
 abbrev pub first_half : ℕ → ℕ
 first_half n = (n + 1) / 2
 
+-- What the first half leaves of a count.
 abbrev pub rest_half : ℕ → ℕ
 rest_half n = n / 2
 

@@ -23,3 +23,4 @@ pub mod Journals
 pub mod EffectLaws
 pub mod RunLaws
 pub mod Plain
+pub mod Worked

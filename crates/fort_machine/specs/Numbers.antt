@@ -25,9 +25,11 @@ abbrev pub within : Width → Figure → Figure
 within w (number n) = if is_within w n then number n else too_large
 within w f = f
 
+-- Whether a number is 0.
 abbrev pub is_zero : ℤ → Bool
 is_zero n = int_eq n (pos 0)
 
+-- Whether a number is below 0.
 abbrev pub is_negative : ℤ → Bool
 is_negative n = int_lt n (pos 0)
 

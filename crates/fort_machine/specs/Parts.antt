@@ -1,5 +1,5 @@
 -- Chapter "Terms and threads": the terms in a term. The code walks a term form by form.
-use Rattle.std.specs.Prelude.{◌≡◌, List, [], ◌∷◌, ◌++◌, map, Option, option_to_list, ◌⊎◌}
+use Rattle.std.specs.Prelude.{◌≡◌, List, [], ◌∷◌, ◌++◌, map, option_to_list, ◌⊎◌}
 use Rattle.fort_base.specs.declared.ty.Ty.{Ty}
 use Rattle.fort_core.specs.declared.term.Term.{Term, out-Term}
 use Rattle.fort_core.specs.declared.term.Term.TheOpen.{Term-F}

@@ -1,5 +1,5 @@
 -- Chapter "Runs": the plain reading, a store before and a store after, which follows. A step's effect says more: what was read, which a sleeping form watches.
-use Rattle.std.specs.Prelude.{◌≡◌, ℕ, ◌+◌, ◌<◌, ◌==◌, Bool, true, false, if◌then◌else◌, List, [], ◌∷◌, ◌++◌, length, Option, Some, None, ◌↔◌}
+use Rattle.std.specs.Prelude.{◌≡◌, ℕ, ◌+◌, ◌<◌, ◌==◌, Bool, true, if◌then◌else◌, List, [], ◌∷◌, ◌++◌, length, Some, None, ◌↔◌}
 use Rattle.fort_core.specs.declared.form.Mode.{Mode}
 use Rattle.fort_core.specs.declared.form.Mode.TheVariants as mode
 use Rattle.fort_core.specs.declared.pick.Pick.{Pick, Step, Attempt}
@@ -9,7 +9,7 @@ use Rattle.fort_core.specs.declared.term.Term as term
 use Rattle.fort_core.specs.declared.value.Value.{Value}
 use Rattle.fort_machine.specs.Deeds.{Store, Deed, reading, writing, making, FitsAll, afterwards}
 use Rattle.fort_machine.specs.Ends.{throw_of}
-use Rattle.fort_machine.specs.Frames.{Frame, plug, road}
+use Rattle.fort_machine.specs.Frames.{Frame, plug}
 use Rattle.fort_machine.specs.Acts.{ends, single}
 use Rattle.fort_machine.specs.Steps.{Acts, Local}
 use Rattle.fort_machine.specs.Attempts.{Form, Ended, goes, aborts}

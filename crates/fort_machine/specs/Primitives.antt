@@ -33,11 +33,12 @@ as_value p make too_large = throws p.built_in.integer_overflow
 as_value p make by_zero = throws p.built_in.division_by_zero
 as_value p make below_zero = throws p.built_in.negative_exponent
 
--- Asks two values for numbers of one type.
+-- Asks two values for numbers on ZZ32.
 abbrev pub two_small : (ℤ → ℤ → Answer) → List Kind → Answer
 two_small f (Value-F.Small a ∷ Value-F.Small b ∷ []) = f a b
 two_small f _ = nothing
 
+-- The same on ZZ64.
 abbrev pub two_large : (ℤ → ℤ → Answer) → List Kind → Answer
 two_large f (Value-F.Large a ∷ Value-F.Large b ∷ []) = f a b
 two_large f _ = nothing
@@ -46,6 +47,7 @@ two_large f _ = nothing
 abbrev pub small : Program → (ℤ → ℤ → Figure) → List Kind → Answer
 small p f = two_small (λ a b. as_value p Small (within w32 (f a b)))
 
+-- The same on ZZ64.
 abbrev pub large : Program → (ℤ → ℤ → Figure) → List Kind → Answer
 large p f = two_large (λ a b. as_value p Large (within w64 (f a b)))
 
@@ -53,40 +55,46 @@ large p f = two_large (λ a b. as_value p Large (within w64 (f a b)))
 abbrev pub small_test : (ℤ → ℤ → Bool) → List Kind → Answer
 small_test f = two_small (λ a b. gives (Truth (f a b)))
 
+-- The same on ZZ64.
 abbrev pub large_test : (ℤ → ℤ → Bool) → List Kind → Answer
 large_test f = two_large (λ a b. gives (Truth (f a b)))
 
--- An operator on one ZZ32, on one ZZ64.
+-- An operator on one ZZ32.
 abbrev pub one_small : (ℤ → Answer) → List Kind → Answer
 one_small f (Value-F.Small a ∷ []) = f a
 one_small f _ = nothing
 
+-- The same on one ZZ64.
 abbrev pub one_large : (ℤ → Answer) → List Kind → Answer
 one_large f (Value-F.Large a ∷ []) = f a
 one_large f _ = nothing
 
--- An operator on two texts, on two truths, on one truth, on one text.
+-- An operator on two texts.
 abbrev pub two_texts : (List ℕ → List ℕ → Answer) → List Kind → Answer
 two_texts f (Value-F.Text s ∷ Value-F.Text r ∷ []) = f s r
 two_texts f _ = nothing
 
+-- An operator on two truths.
 abbrev pub two_truths : (Bool → Bool → Bool) → List Kind → Answer
 two_truths f (Value-F.Truth a ∷ Value-F.Truth b ∷ []) = gives (Truth (f a b))
 two_truths f _ = nothing
 
+-- An operator on one truth.
 abbrev pub one_truth : (Bool → Bool) → List Kind → Answer
 one_truth f (Value-F.Truth a ∷ []) = gives (Truth (f a))
 one_truth f _ = nothing
 
+-- An operator on one text.
 abbrev pub one_text : (List ℕ → Answer) → List Kind → Answer
 one_text f (Value-F.Text s ∷ []) = f s
 one_text f _ = nothing
 
--- An operator on two values, on one value, of any kind.
+-- An operator on two values of any kind.
 abbrev pub two_values : (Value → Value → Answer) → List Value → Answer
 two_values f (a ∷ b ∷ []) = f a b
 two_values f _ = nothing
 
+-- An operator on one value of any kind.
 abbrev pub one_value : (Value → Answer) → List Value → Answer
 one_value f (a ∷ []) = f a
 one_value f _ = nothing

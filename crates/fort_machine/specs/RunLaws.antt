@@ -35,6 +35,20 @@ abbrev pub Framed : Type 0
 Framed = (p : Program) (inner strict : Bool) (s s' : Store) (picks : List Pick) (t : Term) (r : Ended) (d : Deed)
     → Runs p inner strict s picks t r d → (strict ≡ true → Alike s s' t) → FitsAll d s' → Runs p inner strict s' picks t r d
 
+-- Each effect suits some store.
+abbrev pub SomeStore : Type 0
+SomeStore = (d : Deed) → (s : Store) × FitsAll d s
+
+-- A run on one store is one on each store that suits it, where the rule on sleeping forms is left aside at its own level.
+abbrev pub OneStore : Type 0
+OneStore = (p : Program) (inner : Bool) (s s' : Store) (picks : List Pick) (t : Term) (r : Ended) (d : Deed)
+    → Runs p inner false s picks t r d → FitsAll d s' → Runs p inner false s' picks t r d
+
+-- So is a run that keeps the rule, from a term in which no form sleeps.
+abbrev pub OneStoreBare : Type 0
+OneStoreBare = (p : Program) (inner : Bool) (s s' : Store) (picks : List Pick) (t : Term) (r : Ended) (d : Deed)
+    → Bare t → Runs p inner true s picks t r d → FitsAll d s' → Runs p inner true s' picks t r d
+
 -- A run suits the store that it runs on.
 abbrev pub RunsFit : Type 0
 RunsFit = (p : Program) (inner strict : Bool) (s : Store) (picks : List Pick) (t : Term) (r : Ended) (d : Deed) → Runs p inner strict s picks t r d → FitsAll d s

@@ -23,16 +23,20 @@ is_among x xs = list_any (λ y. x == y) xs
 abbrev pub Scoped : Type 0
 Scoped = List ℕ → Bool
 
+-- The variables of each part are among those.
 abbrev pub all_scoped : List Scoped → Scoped
 all_scoped fs xs = list_all (λ (f : Scoped). f xs) fs
 
+-- The variables of each clause are among those.
 abbrev pub clauses_scoped : List (Scoped × Ty) → Scoped
 clauses_scoped cs xs = list_all (λ (c : Scoped × Ty). c.0 xs) cs
 
+-- The variables of a `finally`, where there is one, are among those.
 abbrev pub last_scoped : Option Scoped → Scoped
 last_scoped None xs = true
 last_scoped (Some f) xs = f xs
 
+-- A mutable variable that has no location yet is among those.
 abbrev pub slot_scoped : Slot → Scoped
 slot_scoped (slot.Variable x) xs = is_among x xs
 slot_scoped (slot.Location l) xs = true

@@ -1,5 +1,5 @@
 -- Chapter "Steps and costs": a step of one form, with what it does to any store. The code looks into its store first; here a step says what it reads, and a store suits it or doesn't.
-use Rattle.std.specs.Prelude.{◌≡◌, ℕ, Bool, true, false, List, [], ◌∷◌, Option, Some}
+use Rattle.std.specs.Prelude.{◌≡◌, ℕ, Bool, false, List, [], ◌∷◌, Some}
 use Rattle.fort_base.specs.declared.ids.DeclId.{DeclId}
 use Rattle.fort_base.specs.declared.ids.SetId.{SetId}
 use Rattle.fort_core.specs.declared.program.CoreDecl.{CoreDecl}

@@ -18,6 +18,7 @@ use Rattle.fort_machine.specs.Scopes.{function}
 abbrev pub Changed : Type 0
 Changed = Term × Term
 
+-- A part as it is after the substitution.
 abbrev pub now : Changed → Term
 now t = t.1
 
@@ -72,6 +73,7 @@ with_location x l (Term-F.Write y a) = Write (at_location x l y) (now a)
 with_location x l (Term-F.Fn c) = function c.1
 with_location x l form = remade form
 
+-- A closure with its body as it is after the substitution.
 abbrev pub closure_now : {A B : Type 0} → Closure-F Changed (Value × A) (Closure × B) → Closure
 closure_now c = record { parameters = c.parameters; result = c.result; body = now c.body; held = map (λ (h : ℕ × (Value × _)). (h.0, h.1.0)) c.held }
 
@@ -85,6 +87,7 @@ paired [] [] = Some []
 paired (x ∷ xs) (v ∷ vs) = option_map (λ hs. (x.0, v) ∷ hs) (paired xs vs)
 paired _ _ = None
 
+-- Variables with the parts of a tuple, where there are as many.
 abbrev pub parts_paired : List (ℕ × Ty) → Value-F Term Value Closure → Option (List (ℕ × Value))
 parts_paired xs (Value-F.Tuple vs) = paired xs vs
 parts_paired xs _ = None

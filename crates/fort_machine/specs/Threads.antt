@@ -10,6 +10,7 @@ use Rattle.fort_machine.specs.Attempts.{Ended, goes, aborts}
 abbrev pub below_path : List ℕ → Path → Path
 below_path path q = record { 0 = path ++ q.0 }
 
+-- A pick with a path before its own, by its kind.
 abbrev pub under_at : List ℕ → Pick-F Pick → Pick
 under_at path (Pick-F.Step q loc) = Step (below_path path q) loc
 under_at path (Pick-F.Attempt q within) = Attempt (below_path path q) within

@@ -4,7 +4,9 @@
 #![tactic(auto)]
 
 ghost use Rattle.fort_machine.specs.EffectLaws.{EffectsJoin, EffectsFollow, EffectsPart, StepsMakeInARow, GivesBack, AbortUndoes};
-ghost use Rattle.fort_machine.specs.RunLaws.{OnePlace, OneStep, OneMarks, OneRun, Lifts, RunsJoin, RunsFit, AttemptIsOnePick, PicksAddUp};
+ghost use Rattle.fort_machine.specs.RunLaws.{OnePlace, OneStep, OneMarks, OneRun, Framed, SomeStore, OneStore, OneStoreBare, Lifts, RunsJoin, RunsFit, AttemptIsOnePick, PicksAddUp};
+ghost use Rattle.fort_machine.specs.Plain.{MakesPlainly, ReadsPlainly, RunsPlainly, WritesPlainly};
+ghost use Rattle.fort_machine.specs.Worked.{PrintsLetter};
 
 use fort_core::{Journal, Program};
 
@@ -84,4 +86,50 @@ pub fn attempt_is_one_pick()
 /// A run's output is that of its picks in a row, and its cost the sum of theirs.
 pub fn picks_add_up()
     ensures { PicksAddUp }
+{}
+
+/// A run depends only on what it read, on the older locations that it wrote being there, on those that it made being
+/// absent, and, where the rule on sleeping forms is kept, on what the sleepers of its first term watch.
+pub fn framed()
+    ensures { Framed }
+{}
+
+/// Each effect suits some store.
+pub fn some_store()
+    ensures { SomeStore }
+{}
+
+/// A run on one store is one on each store that suits it, the rule on sleeping forms left aside at its own level.
+pub fn one_store()
+    ensures { OneStore }
+{}
+
+/// The same from a term in which no form sleeps, the rule kept.
+pub fn one_store_bare()
+    ensures { OneStoreBare }
+{}
+
+/// A read asks that the value is there, and leaves the store as it is.
+pub fn reads_plainly()
+    ensures { ReadsPlainly }
+{}
+
+/// A write asks that a value is there, and puts its own in its place.
+pub fn writes_plainly()
+    ensures { WritesPlainly }
+{}
+
+/// What makes locations asks that none of them is there, and puts the values into them.
+pub fn makes_plainly()
+    ensures { MakesPlainly }
+{}
+
+/// A run is one in the plain reading: a store before, and a store after.
+pub fn runs_plainly()
+    ensures { RunsPlainly }
+{}
+
+/// A journal of two steps is a run of `run(): () = println("a")`, prints `a` and a line feed, and costs 4.
+pub fn prints_letter()
+    ensures { PrintsLetter }
 {}
