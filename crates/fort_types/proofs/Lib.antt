@@ -1,0 +1,12 @@
+pub mod ByParts
+pub mod Paths
+pub mod Orders
+pub mod Antisymmetry
+pub mod BelowTwo
+pub mod ByLayers
+pub mod Asked
+pub mod Bits
+pub mod Arms
+pub mod Upwards
+pub mod Closure
+pub mod Pairs

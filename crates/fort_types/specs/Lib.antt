@@ -1,0 +1,9 @@
+pub mod Hierarchy
+pub mod Types
+pub mod Layers
+pub mod Table
+pub mod Relation
+pub mod Laws
+pub mod Square
+pub mod Supertypes
+pub mod Rounds

@@ -1,0 +1,42 @@
+//! Declared types, as a component writes them.
+ghost use Rattle.std.specs.Prelude.{◌≡◌, ◌↔◌, IsTrue};
+ghost use Rattle.fort_types.specs.declared.hierarchy.Kind.TheVariants as a_kind;
+
+use fort_base::List;
+
+/// What a declared type is.
+#[derive(Clone, Copy, Debug, PartialEq, Eq)]
+pub enum Kind {
+    /// `trait`, and the built-in `Object` and `Exception`.
+    Trait,
+    /// `object`, and the built-in exceptions.
+    Object,
+    /// A built-in type that nothing extends, as `ZZ32`.
+    Leaf,
+}
+
+/// A declared type: its kind, and the numbers of the declared types that its head names, each number a place in the hierarchy.
+///
+/// A number past the hierarchy's end names no type and counts for nothing.
+#[derive(Drop)]
+pub struct Declared {
+    pub kind: Kind,
+    /// `extends { .. }`
+    pub extends: List<usize>,
+    /// `excludes { .. }`
+    pub excludes: List<usize>,
+    /// `comprises { .. }`; no numbers where there is none.
+    pub comprises: List<usize>,
+}
+
+impl Kind {
+    /// Whether other types may extend the type.
+    pub fn is_trait(self) -> bool
+        ensures { IsTrue result ↔ (self ≡ a_kind.Trait) }
+    {
+        match self {
+            Kind::Trait => true,
+            Kind::Object | Kind::Leaf => false,
+        }
+    }
+}
