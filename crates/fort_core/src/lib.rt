@@ -26,6 +26,3 @@ pub use primitive::Primitive;
 pub use program::{BuiltIn, CoreBody, CoreDecl, CoreField, CoreKind, CoreSet, CoreShape, Program};
 pub use term::Term;
 pub use value::{Closure, Value};
-
-#[cfg(test)]
-mod tests;

@@ -14,7 +14,8 @@ use Rattle.fort_core.specs.declared.term.Term.TheVariants.{outs-Call, rolls-Call
 use Rattle.fort_core.specs.declared.term.Term.TheOpen.{Term-F, Value-F}
 use Rattle.fort_core.specs.declared.value.Value.{Value, fold-roll-Value}
 use Rattle.fort_core.specs.declared.value.Value.TheVariants.{rolls-Text}
-use Rattle.fort_machine.specs.Types.{Relation, below_at, relation, all_below, type_at, type_of, domain_of}
+use Rattle.fort_types.specs.Relation.{Relation, below_at, relation}
+use Rattle.fort_machine.specs.Types.{all_below, type_at, type_of, domain_of}
 use Rattle.fort_machine.specs.Texts.{text_at, text}
 use Rattle.fort_machine.specs.Primitives.{prints}
 use Rattle.fort_machine.specs.Deeds.{Deed, idle, paid, printed, both}

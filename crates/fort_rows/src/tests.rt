@@ -1,6 +1,6 @@
 //! What no clause says: that depth takes no stack.
-use crate::{Path, Pick, Term, Value};
 use fort_base::{Boxed, List, Loc, Memory, Ty};
+use fort_core::{Path, Pick, Term, Value};
 use std::alloc::Global;
 
 fn nested(alloc: Global, levels: u32) -> Result<Pick, Memory> {
