@@ -1,4 +1,3 @@
-pub mod Alike
 pub mod Falls
 pub mod Rests
 pub mod Stacks

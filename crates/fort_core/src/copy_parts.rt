@@ -1,10 +1,21 @@
 //! Copies of what terms are made of.
-ghost use Rattle.std.specs.Prelude.{◌≡◌, IfOk};
+ghost use Rattle.std.specs.Prelude.{◌≡◌, IfOk, Ok};
 
 use crate::term::Term;
 use crate::value::{Closure, Value};
 use fort_base::{Boxed, Bytes, List, Loc, Memory, Ty};
 use std::alloc::Global;
+
+/// Both, where both were made.
+pub fn both<A: Drop, B: Drop>(
+    first: Result<A, Memory>,
+    second: Result<B, Memory>,
+) -> Result<(A, B), Memory>
+    ensures { IfOk result (λ both. (first ≡ Ok both.0) × (second ≡ Ok both.1)) }
+{
+    let first = first?;
+    Ok((first, second?))
+}
 
 fn copy_bytes(alloc: Global, bytes: &Bytes) -> Result<Bytes, Memory>
     ensures { IfOk result (λ copy. copy ≡ bytes.now) }
@@ -119,11 +130,18 @@ impl Closure {
     pub fn copy(&self, alloc: Global) -> Result<Closure, Memory>
         ensures { IfOk result (λ copy. copy ≡ self.now) }
     {
+        let domain = both(
+            copy_parameters(alloc, &self.parameters),
+            self.result.copy(alloc),
+        );
+        let inside = both(copy_boxed(alloc, &self.body), copy_held(alloc, &self.held));
+        let ((parameters, result), (body, held)) = both(domain, inside)?;
         Ok(Closure {
-            parameters: copy_parameters(alloc, &self.parameters)?,
-            result: self.result.copy(alloc)?,
-            body: copy_boxed(alloc, &self.body)?,
-            held: copy_held(alloc, &self.held)?,
+            number: self.number,
+            parameters,
+            result,
+            body,
+            held,
         })
     }
 }

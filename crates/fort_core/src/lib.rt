@@ -13,6 +13,8 @@ mod primitive;
 mod program;
 mod release;
 mod same;
+mod same_blocks;
+mod same_forms;
 mod same_parts;
 mod term;
 mod value;

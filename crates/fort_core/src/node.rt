@@ -59,6 +59,7 @@ pub enum ValueNode {
 /// A closure whose parts can be taken, its body out of its box.
 #[derive(Drop)]
 pub struct ClosureNode {
+    pub number: u32,
     pub parameters: List<(u32, Ty)>,
     pub result: Ty,
     pub body: Term,

@@ -3,7 +3,7 @@ ghost use Rattle.std.specs.Prelude.{◌≡◌, ◌↔◌, IsTrue};
 
 use crate::term::Term;
 use crate::value::{Closure, Value};
-use fort_base::{Boxed, List, Loc, Ty};
+use fort_base::{Boxed, List, Loc, NameId, SetId, Ty};
 
 pub fn same_parameters(left: &List<(u32, Ty)>, right: &List<(u32, Ty)>) -> bool
     ensures { IsTrue result ↔ (left.now ≡ right.now) }
@@ -19,6 +19,25 @@ pub fn same_parameters(left: &List<(u32, Ty)>, right: &List<(u32, Ty)>) -> bool
         }
     }
     true
+}
+
+pub fn same_set(left: SetId, right: SetId) -> bool
+    ensures { IsTrue result ↔ (left ≡ right) }
+{
+    left.0 == right.0
+}
+
+pub fn same_name(left: NameId, right: NameId) -> bool
+    ensures { IsTrue result ↔ (left ≡ right) }
+{
+    left.0 == right.0
+}
+
+#[cycle(same)]
+pub fn same_boxed(a: &Boxed<Term>, b: &Boxed<Term>) -> bool
+    ensures { IsTrue result ↔ (a.now ≡ b.now) }
+{
+    a.get().same(b.get())
 }
 
 #[cycle(same)]
@@ -130,9 +149,10 @@ impl Closure {
     pub fn same(&self, other: &Closure) -> bool
         ensures { IsTrue result ↔ (self.now ≡ other.now) }
     {
-        same_parameters(&self.parameters, &other.parameters)
+        self.number == other.number
+            && same_parameters(&self.parameters, &other.parameters)
             && self.result.same(&other.result)
-            && self.body.get().same(other.body.get())
+            && same_boxed(&self.body, &other.body)
             && same_held(&self.held, &other.held)
     }
 }

@@ -36,6 +36,9 @@ pub enum Value {
 /// A function term, or a function once it holds the values of all variables round it.
 #[cycle(core)]
 pub struct Closure {
+    /// The number of the `fn` in its program, by its place in the source: two that are written alike at two
+    /// places differ by it.
+    pub number: u32,
     /// The variables of the parameters, with their types. With other than one parameter the function
     /// takes the tuple of their values.
     pub parameters: List<(u32, Ty)>,
@@ -69,6 +72,7 @@ impl Drop for Closure {
     #[cycle(core)]
     fn drop(self) {
         let Closure {
+            number: _,
             parameters: _,
             result: _,
             body,
@@ -108,18 +112,21 @@ impl Value {
 impl Closure {
     /// The closure's parts; it takes no memory.
     pub fn open(self) -> ClosureNode
+        ensures number { result.number ≡ self.number }
         ensures parameters { result.parameters ≡ self.parameters }
         ensures result { result.result ≡ self.result }
         ensures body { result.body ≡ self.body }
         ensures held { result.held ≡ self.held }
     {
         let Closure {
+            number,
             parameters,
             result,
             body,
             held,
         } = self;
         ClosureNode {
+            number,
             parameters,
             result,
             body: body.into_inner(),

@@ -75,7 +75,7 @@ with_location x l form = remade form
 
 -- A closure with its body as it is after the substitution.
 abbrev pub closure_now : {A B : Type 0} → Closure-F Changed (Value × A) (Closure × B) → Closure
-closure_now c = record { parameters = c.parameters; result = c.result; body = now c.body; held = map (λ (h : ℕ × (Value × _)). (h.0, h.1.0)) c.held }
+closure_now c = record { number = c.number; parameters = c.parameters; result = c.result; body = now c.body; held = map (λ (h : ℕ × (Value × _)). (h.0, h.1.0)) c.held }
 
 -- A term with a location in place of a mutable variable.
 unfoldable pub located : ℕ → ℕ → Term → Term
