@@ -32,8 +32,7 @@ each_is [] (u ∷ us) h = (λ e. absurd cc, λ e. absurd cc)
 each_is (t ∷ ts) [] h = (λ e. absurd cc, λ e. absurd cc)
 each_is (t ∷ ts) (u ∷ us) h =
     let i = each_is ts us (λ k x e. h (suc k) x e) in
-    let j = h 0 t refl u in
-    (
+    let j = h 0 t refl u in (
       λ e. let p = j.0 (left_true _ _ e) in let q = i.0 (right_true _ _ e) in cc,
       λ e. let p : t ≡ u = cc in let q : ts ≡ us = cc in both_true (j.1 p) (i.1 q),
     )
@@ -69,8 +68,7 @@ flat_is (Ty-F.Arrow a b) (Ty-F.Named j) h = (λ e. absurd cc, λ e. absurd cc)
 flat_is (Ty-F.Arrow a b) (Ty-F.Tuple us) h = (λ e. absurd cc, λ e. absurd cc)
 flat_is (Ty-F.Arrow a b) (Ty-F.Arrow c d) h =
     let k = h.0 c in
-    let l = h.1 d in
-    (
+    let l = h.1 d in (
       λ e. let p = k.0 (left_true _ _ e) in let q = l.0 (right_true _ _ e) in cc,
       λ e. let p : a ≡ c = cc in let q : b ≡ d = cc in both_true (k.1 p) (l.1 q),
     )
@@ -85,9 +83,9 @@ flat_is (Ty-F.Array a) (Ty-F.Array c) h = let k = h c in (λ e. ap Ty-F.Array (k
 same_is : (a b : Ty) → IsTrue (same_type a b) ↔ (a ≡ b)
 same_is =
     by_parts Told (
-      λ t h b.
-          let f = flat_is (out-Ty t) (out-Ty b) h in
-          (λ e. same_layers t b (f.0 (sym (flatly t b) ∙ e)), λ e. flatly t b ∙ f.1 (ap out-Ty e))
+    λ t h b.
+    let f = flat_is (out-Ty t) (out-Ty b) h in
+    (λ e. same_layers t b (f.0 (sym (flatly t b) ∙ e)), λ e. flatly t b ∙ f.1 (ap out-Ty e))
     )
 
 unless : (b : Bool) → (b ≡ true → false ≡ true) → false ≡ b

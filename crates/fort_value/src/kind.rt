@@ -1,5 +1,5 @@
 //! The type of a value, and whether a value has a type.
-ghost use Rattle.std.specs.Prelude.{◌≡◌, ◌×◌, true, false, map, IfOk};
+ghost use Rattle.std.specs.Prelude.{◌≡◌, true, false, map, IfOk};
 ghost use Rattle.fort_types.specs.Relation.{each_below, relation};
 ghost use Rattle.fort_machine.specs.Types.{domain_of, has_type as has, type_of as type_at};
 

@@ -7,4 +7,4 @@ abbrev pub invariant-loop-i : goal.invariant-loop-i
 invariant-loop-i l =
     (length l.left ≡ length l.right)
     × (each_below (map (relation l.program.types.below) (map (λ (x : ℕ × Ty). x.1) l.parameters)) false l.types
-      ≡ each_below (map (relation l.program.types.below) (map (λ (x : ℕ × Ty). x.1) (drop l.i l.left))) false (drop l.i l.right))
+    ≡ each_below (map (relation l.program.types.below) (map (λ (x : ℕ × Ty). x.1) (drop l.i l.left))) false (drop l.i l.right))

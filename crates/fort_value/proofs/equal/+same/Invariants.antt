@@ -1,7 +1,7 @@
 use Rattle.std.proofs.Common.{◌≡◌, Bool, length, drop, map}
 use Rattle.fort_core.specs.declared.value.Value.{Value}
 use Rattle.fort_machine.specs.Texts.{each_same, same}
-use Rattle.fort_value.proofs.same.+same.Given as goal
+use Rattle.fort_value.proofs.equal.+same.Given as goal
 
 abbrev pub invariant-all_same-loop-i : goal.invariant-all_same-loop-i
 invariant-all_same-loop-i l =

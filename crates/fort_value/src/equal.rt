@@ -1,8 +1,8 @@
 //! Whether two values are the same, as the operator `===` asks.
 ghost use Rattle.std.specs.Prelude.{◌≡◌, map};
-ghost use Rattle.fort_machine.specs.Texts.{each_same, same as same_values};
+ghost use Rattle.fort_machine.specs.Texts.{each_same, same as same_values, same_type};
 
-use fort_base::List;
+use fort_base::{List, Ty};
 use fort_core::Value;
 
 /// Whether two values are the same: of one kind and made of the same. A function is never the same as anything, itself
@@ -19,9 +19,15 @@ pub fn same(a: &Value, b: &Value) -> bool
         (Value::Tuple(xs), Value::Tuple(ys)) => all_same(xs, ys),
         (Value::Range(x, m), Value::Range(y, n)) => *x == *y && *m == *n,
         (Value::Object(s, x), Value::Object(t, y)) => s.0 == t.0 && x.0 == y.0,
-        (Value::Array(s, x, m), Value::Array(t, y, n)) => s.same(t) && x.0 == y.0 && *m == *n,
+        (Value::Array(s, x, m), Value::Array(t, y, n)) => alike(s, t) && x.0 == y.0 && *m == *n,
         _ => false,
     }
+}
+
+fn alike(left: &Ty, right: &Ty) -> bool
+    ensures { result ≡ same_type left.now right.now }
+{
+    left.same(right)
 }
 
 #[cycle(same)]
