@@ -9,7 +9,7 @@ use fort_base::{Boxed, List, Loc, SetId, Ty};
 
 impl Term {
     #[cycle(same)]
-    pub fn is_then(&self, first: &Boxed<Term>, rest: &Boxed<Term>) -> bool
+    pub(crate) fn is_then(&self, first: &Boxed<Term>, rest: &Boxed<Term>) -> bool
         ensures { IsTrue result ↔ (self.now ≡ Term.Then first.now rest.now) }
     {
         match self {
@@ -19,7 +19,7 @@ impl Term {
     }
 
     #[cycle(same)]
-    pub fn is_if(&self, test: &Boxed<Term>, yes: &Boxed<Term>, no: &Boxed<Term>) -> bool
+    pub(crate) fn is_if(&self, test: &Boxed<Term>, yes: &Boxed<Term>, no: &Boxed<Term>) -> bool
         ensures { IsTrue result ↔ (self.now ≡ Term.If test.now yes.now no.now) }
     {
         match self {
@@ -29,7 +29,7 @@ impl Term {
     }
 
     #[cycle(same)]
-    pub fn is_while(&self, test: &Boxed<Term>, body: &Boxed<Term>) -> bool
+    pub(crate) fn is_while(&self, test: &Boxed<Term>, body: &Boxed<Term>) -> bool
         ensures { IsTrue result ↔ (self.now ≡ Term.While test.now body.now) }
     {
         match self {
@@ -39,7 +39,7 @@ impl Term {
     }
 
     #[cycle(same)]
-    pub fn is_typecase(
+    pub(crate) fn is_typecase(
         &self,
         variable: u32,
         subject: &Boxed<Term>,
@@ -60,7 +60,7 @@ impl Term {
     }
 
     #[cycle(same)]
-    pub fn is_for(
+    pub(crate) fn is_for(
         &self,
         order: Order,
         span: Span,
@@ -83,7 +83,7 @@ impl Term {
     }
 
     #[cycle(same)]
-    pub fn is_for_halves(&self, first: &Boxed<Term>, second: &Boxed<Term>) -> bool
+    pub(crate) fn is_for_halves(&self, first: &Boxed<Term>, second: &Boxed<Term>) -> bool
         ensures { IsTrue result ↔ (self.now ≡ Term.ForHalves first.now second.now) }
     {
         match self {
@@ -93,7 +93,7 @@ impl Term {
     }
 
     #[cycle(same)]
-    pub fn is_reduce(
+    pub(crate) fn is_reduce(
         &self,
         order: Order,
         span: Span,
@@ -120,7 +120,12 @@ impl Term {
     }
 
     #[cycle(same)]
-    pub fn is_reduce_halves(&self, set: SetId, first: &Boxed<Term>, second: &Boxed<Term>) -> bool
+    pub(crate) fn is_reduce_halves(
+        &self,
+        set: SetId,
+        first: &Boxed<Term>,
+        second: &Boxed<Term>,
+    ) -> bool
         ensures { IsTrue result ↔ (self.now ≡ Term.ReduceHalves set first.now second.now) }
     {
         match self {
@@ -132,7 +137,7 @@ impl Term {
     }
 
     #[cycle(same)]
-    pub fn is_also(&self, blocks: &List<Term>) -> bool
+    pub(crate) fn is_also(&self, blocks: &List<Term>) -> bool
         ensures { IsTrue result ↔ (self.now ≡ Term.Also blocks.now) }
     {
         match self {
@@ -142,7 +147,7 @@ impl Term {
     }
 
     #[cycle(same)]
-    pub fn is_try(
+    pub(crate) fn is_try(
         &self,
         body: &Boxed<Term>,
         variable: u32,
@@ -163,7 +168,7 @@ impl Term {
     }
 
     #[cycle(same)]
-    pub fn is_atomic(&self, mode: Mode, body: &Boxed<Term>) -> bool
+    pub(crate) fn is_atomic(&self, mode: Mode, body: &Boxed<Term>) -> bool
         ensures { IsTrue result ↔ (self.now ≡ Term.Atomic mode body.now) }
     {
         match self {
@@ -173,7 +178,7 @@ impl Term {
     }
 
     #[cycle(same)]
-    pub fn is_asleep(&self, marks: &List<(Loc, Value)>, body: &Boxed<Term>) -> bool
+    pub(crate) fn is_asleep(&self, marks: &List<(Loc, Value)>, body: &Boxed<Term>) -> bool
         ensures { IsTrue result ↔ (self.now ≡ Term.Asleep marks.now body.now) }
     {
         match self {

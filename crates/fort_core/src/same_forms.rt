@@ -9,7 +9,7 @@ use fort_base::{Boxed, List, NameId, SetId, Ty};
 
 impl Term {
     #[cycle(same)]
-    pub fn is_value(&self, value: &Value) -> bool
+    pub(crate) fn is_value(&self, value: &Value) -> bool
         ensures { IsTrue result ↔ (self.now ≡ Term.Value value.now) }
     {
         match self {
@@ -19,7 +19,7 @@ impl Term {
     }
 
     #[cycle(same)]
-    pub fn is_throw(&self, thrown: &Boxed<Term>) -> bool
+    pub(crate) fn is_throw(&self, thrown: &Boxed<Term>) -> bool
         ensures { IsTrue result ↔ (self.now ≡ Term.Throw thrown.now) }
     {
         match self {
@@ -28,7 +28,7 @@ impl Term {
         }
     }
 
-    pub fn is_variable(&self, variable: u32) -> bool
+    pub(crate) fn is_variable(&self, variable: u32) -> bool
         ensures { IsTrue result ↔ (self.now ≡ Term.Variable variable) }
     {
         match self {
@@ -38,7 +38,7 @@ impl Term {
     }
 
     #[cycle(same)]
-    pub fn is_group(&self, parts: &List<Term>) -> bool
+    pub(crate) fn is_group(&self, parts: &List<Term>) -> bool
         ensures { IsTrue result ↔ (self.now ≡ Term.Group parts.now) }
     {
         match self {
@@ -48,7 +48,7 @@ impl Term {
     }
 
     #[cycle(same)]
-    pub fn is_fn(&self, closure: &Closure) -> bool
+    pub(crate) fn is_fn(&self, closure: &Closure) -> bool
         ensures { IsTrue result ↔ (self.now ≡ Term.Fn closure.now) }
     {
         match self {
@@ -58,7 +58,7 @@ impl Term {
     }
 
     #[cycle(same)]
-    pub fn is_call(&self, set: SetId, arguments: &List<Term>) -> bool
+    pub(crate) fn is_call(&self, set: SetId, arguments: &List<Term>) -> bool
         ensures { IsTrue result ↔ (self.now ≡ Term.Call set arguments.now) }
     {
         match self {
@@ -68,7 +68,7 @@ impl Term {
     }
 
     #[cycle(same)]
-    pub fn is_operator(&self, set: SetId, operands: &List<Term>) -> bool
+    pub(crate) fn is_operator(&self, set: SetId, operands: &List<Term>) -> bool
         ensures { IsTrue result ↔ (self.now ≡ Term.Operator set operands.now) }
     {
         match self {
@@ -78,7 +78,7 @@ impl Term {
     }
 
     #[cycle(same)]
-    pub fn is_apply(&self, function: &Boxed<Term>, argument: &Boxed<Term>) -> bool
+    pub(crate) fn is_apply(&self, function: &Boxed<Term>, argument: &Boxed<Term>) -> bool
         ensures { IsTrue result ↔ (self.now ≡ Term.Apply function.now argument.now) }
     {
         match self {
@@ -88,7 +88,7 @@ impl Term {
     }
 
     #[cycle(same)]
-    pub fn is_fill(&self, ty: &Ty, size: &Boxed<Term>, value: &Boxed<Term>) -> bool
+    pub(crate) fn is_fill(&self, ty: &Ty, size: &Boxed<Term>, value: &Boxed<Term>) -> bool
         ensures { IsTrue result ↔ (self.now ≡ Term.Fill ty.now size.now value.now) }
     {
         match self {
@@ -98,7 +98,7 @@ impl Term {
     }
 
     #[cycle(same)]
-    pub fn is_let(
+    pub(crate) fn is_let(
         &self,
         variables: &List<(u32, Ty)>,
         first: &Boxed<Term>,
@@ -115,7 +115,7 @@ impl Term {
     }
 
     #[cycle(same)]
-    pub fn is_mutable(
+    pub(crate) fn is_mutable(
         &self,
         variable: u32,
         ty: &Ty,
@@ -132,7 +132,7 @@ impl Term {
         }
     }
 
-    pub fn is_read(&self, slot: Slot) -> bool
+    pub(crate) fn is_read(&self, slot: Slot) -> bool
         ensures { IsTrue result ↔ (self.now ≡ Term.Read slot) }
     {
         match self {
@@ -142,7 +142,7 @@ impl Term {
     }
 
     #[cycle(same)]
-    pub fn is_write(&self, slot: Slot, value: &Boxed<Term>) -> bool
+    pub(crate) fn is_write(&self, slot: Slot, value: &Boxed<Term>) -> bool
         ensures { IsTrue result ↔ (self.now ≡ Term.Write slot value.now) }
     {
         match self {
@@ -152,7 +152,7 @@ impl Term {
     }
 
     #[cycle(same)]
-    pub fn is_read_field(&self, object: &Boxed<Term>, field: NameId) -> bool
+    pub(crate) fn is_read_field(&self, object: &Boxed<Term>, field: NameId) -> bool
         ensures { IsTrue result ↔ (self.now ≡ Term.ReadField object.now field) }
     {
         match self {
@@ -162,7 +162,12 @@ impl Term {
     }
 
     #[cycle(same)]
-    pub fn is_write_field(&self, object: &Boxed<Term>, field: NameId, value: &Boxed<Term>) -> bool
+    pub(crate) fn is_write_field(
+        &self,
+        object: &Boxed<Term>,
+        field: NameId,
+        value: &Boxed<Term>,
+    ) -> bool
         ensures { IsTrue result ↔ (self.now ≡ Term.WriteField object.now field value.now) }
     {
         match self {
@@ -174,7 +179,7 @@ impl Term {
     }
 
     #[cycle(same)]
-    pub fn is_read_element(&self, array: &Boxed<Term>, index: &Boxed<Term>) -> bool
+    pub(crate) fn is_read_element(&self, array: &Boxed<Term>, index: &Boxed<Term>) -> bool
         ensures { IsTrue result ↔ (self.now ≡ Term.ReadElement array.now index.now) }
     {
         match self {
@@ -184,7 +189,7 @@ impl Term {
     }
 
     #[cycle(same)]
-    pub fn is_write_element(
+    pub(crate) fn is_write_element(
         &self,
         array: &Boxed<Term>,
         index: &Boxed<Term>,
@@ -201,7 +206,7 @@ impl Term {
     }
 
     #[cycle(same)]
-    pub fn is_size(&self, array: &Boxed<Term>) -> bool
+    pub(crate) fn is_size(&self, array: &Boxed<Term>) -> bool
         ensures { IsTrue result ↔ (self.now ≡ Term.Size array.now) }
     {
         match self {
