@@ -1,8 +1,8 @@
 -- The chapter "Grammar", limits: what a tree measures, the places of its flat expressions and of its crowded forms.
 use Rattle.std.specs.Prelude.{ℕ, cond, nat_lt, List, [], ◌∷◌, ◌++◌, Option, Some, None, length}
-use Rattle.fort_base.specs.declared.refusal.Gap.{Gap}
 use Rattle.fort_base.specs.declared.refusal.Place.{Place}
-use Rattle.fort_ops.specs.declared.op.Op.{Op}
+use Rattle.fort_tree.specs.declared.grouped.Joint.{Joint}
+use Rattle.fort_tree.specs.declared.grouped.Row.{Row}
 use Rattle.fort_tree.specs.declared.spot.Spot.{Spot}
 use Rattle.fort_tree.specs.declared.delimited.Delimited.TheOpen.{Delimited-F, Item-F, Atom-F, Expr-F, FlatPart-F, Generator-F, Head-F, Postfix-F, RunPart-F, Variable-F, Also-F, BlockItem-F, CaseClause-F, Catch-F, Elif-F, ElseBlock-F, ElseClause-F, Finally-F, NextGenerator-F, TypeClause-F, ExprList-F, Flat-F, NextExpr-F, Operand-F, Run-F}
 
@@ -53,19 +53,6 @@ abbrev pub most_names : ℕ
 most_names = 32
 
 -- ---- what a tree measures
-
--- How a unit of a flat expression stands to the one before it.
-pub data Joint : Type 0 where
-  -- beside it, without an operator
-  Beside : Joint
-  -- behind an infix operator, with the gaps before and after that
-  Behind : Op → Gap → Gap → Joint
-
--- What the grouping of a flat expression depends on: where it begins, and how each unit but the first stands to the one
--- before it.
-pub record Row : Type 0 where
-  pub place : Place
-  pub joints : List Joint
 
 -- What a tree measures.
 pub record Measured : Type 0 where

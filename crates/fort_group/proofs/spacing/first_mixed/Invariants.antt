@@ -3,4 +3,4 @@ use Rattle.fort_group.specs.Spacing.{first_mixed}
 use Rattle.fort_group.proofs.spacing.first_mixed.Given as goal
 
 abbrev pub invariant-loop-link : goal.invariant-loop-link
-invariant-loop-link l = first_mixed l.links ≡ first_mixed (drop l.link-index l.links)
+invariant-loop-link l = first_mixed l.joints ≡ first_mixed (drop l.link-index l.joints)
