@@ -1,12 +1,13 @@
 ghost use Rattle.std.specs.Prelude.{◌≡◌, ◌++◌, OnOk, IfOk, map};
 ghost use Rattle.fort_tree.specs.Measured.{all_flats};
-ghost use Rattle.fort_tree.specs.Limits.{measured_trait_member, measured_object_member, measured_method, measured_declaration, flats};
+ghost use Rattle.fort_tree.specs.Limits.{measured_trait_member, measured_object_member, measured_method, measured_body, measured_declaration, flats};
 
 use crate::blocks::add_variable;
 use crate::expressions::add_expr;
 use fort_base::{List, Memory};
 use fort_tree::{
-    Component, Declaration, Method, ObjectEntry, ObjectMember, Row, TraitEntry, TraitMember,
+    Component, Declaration, Declared, Method, MethodBody, ObjectEntry, ObjectMember, Row,
+    TraitEntry, TraitMember,
 };
 use std::alloc::Global;
 
@@ -17,10 +18,18 @@ pub fn rows(alloc: Global, component: &Component) -> Result<List<Row>, Memory>
     ensures { IfOk result (λ rows. rows ≡ flats component.now) }
 {
     let mut rows = List::new(alloc);
-    for declared in component.declarations.as_slice() {
-        add_declaration(&declared.declaration, &mut rows)?;
-    }
+    add_declarations(component.declarations.as_slice(), &mut rows)?;
     Ok(rows)
+}
+
+/// Adds the flat expressions of the declarations of a component.
+fn add_declarations(declarations: &[Declared], rows: &mut List<Row>) -> Result<(), Memory>
+    ensures { OnOk result (rows.new ≡ rows.old ++ all_flats (map (λ d. measured_declaration d.declaration) declarations.now)) }
+{
+    for declared in declarations {
+        add_declaration(&declared.declaration, rows)?;
+    }
+    Ok(())
 }
 
 /// Adds the flat expressions of a declaration.
@@ -82,7 +91,15 @@ fn add_object_member(member: &ObjectMember, rows: &mut List<Row>) -> Result<(), 
 fn add_method(method: &Method, rows: &mut List<Row>) -> Result<(), Memory>
     ensures { OnOk result (rows.new ≡ rows.old ++ (measured_method method.now).flats) }
 {
-    if let Some(body) = &method.body {
+    add_maybe_body(&method.body, rows)?;
+    Ok(())
+}
+
+/// Adds the flat expressions of a body that may be left out.
+fn add_maybe_body(body: &Option<MethodBody>, rows: &mut List<Row>) -> Result<(), Memory>
+    ensures { OnOk result (rows.new ≡ rows.old ++ all_flats (measured_body body.now)) }
+{
+    if let Some(body) = body {
         add_expr(&body.body, rows)?;
     }
     Ok(())

@@ -1,4 +1,6 @@
-ghost use Rattle.std.specs.Prelude.{◌≡◌};
+ghost use Rattle.std.specs.Prelude.{◌≡◌, Some};
+ghost use Rattle.fort_tree.specs.declared.spot.Spot.{Spot};
+ghost use Rattle.fort_tree.specs.Measures.{prefix_spot};
 ghost use Rattle.fort_tree.specs.Measuring.{measured_operand, measured_run, measured_atom, measured_delimited};
 
 use fort_tree::{Atom, Delimited, Operand, Prefix, Run, Spot};
@@ -9,8 +11,17 @@ pub fn unit_spot(unit: &Operand) -> Spot
 {
     match unit.prefix {
         None => run_spot(&unit.run),
-        Some(Prefix::Minus(spot)) => spot,
-        Some(Prefix::Not(spot)) => spot,
+        Some(prefix) => prefix_spot(prefix),
+    }
+}
+
+/// Where a prefix operator stands.
+fn prefix_spot(prefix: Prefix) -> Spot
+    ensures { (at : Spot) → prefix_spot (Some prefix) at ≡ result }
+{
+    match prefix {
+        Prefix::Minus(spot) => spot,
+        Prefix::Not(spot) => spot,
     }
 }
 

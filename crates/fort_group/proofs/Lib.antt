@@ -12,3 +12,4 @@ pub mod Spaces
 pub mod Agreement
 pub mod Senses
 pub mod Rules
+pub mod Each

@@ -86,6 +86,10 @@ over most count place = cond (nat_lt most count) (place ∷ []) []
 abbrev pub made_of : Spot → List Place → List Measured → Measured
 made_of spot own parts = record { spot = spot; flats = all_flats parts; crowded = own ++ all_crowded parts }
 
+-- the same of a type, in which no flat expression stands
+abbrev pub made_in_type : Spot → List Place → List Measured → Measured
+made_in_type spot own parts = record { spot = spot; flats = []; crowded = own ++ all_crowded parts }
+
 -- what may be left out, as a list
 abbrev pub maybe_measured : Option Measured → List Measured
 maybe_measured None = []

@@ -16,7 +16,7 @@ use Rattle.fort_tree.specs.declared.types.SimpleType.TheOpen.{SimpleType-F, Type
 use Rattle.fort_tree.specs.declared.types.SimpleType.TheFolds.{fold-SimpleType, fold-TypeTree, fold-NextType, fold-TypeList}
 use Rattle.fort_tree.specs.Types.{parameter_count}
 use Rattle.fort_tree.specs.Flats.{big_first}
-use Rattle.fort_tree.specs.Measured.{Measured, Joined, Listed, listed_parts, all_flats, all_crowded, made_of, over, maybe_measured, block_measured, most_parameters, most_tuple_parts, most_generators, most_units, most_elements, most_also_blocks, most_clauses, MeasuredDelimited, MeasuredItem, MeasuredAtom, MeasuredExpr, MeasuredFlatPart, MeasuredGenerator, MeasuredHead, MeasuredPostfix, MeasuredRunPart, MeasuredVariable, MeasuredAlso, MeasuredBlockItem, MeasuredCaseClause, MeasuredCatch, MeasuredElif, MeasuredElseBlock, MeasuredElseClause, MeasuredFinally, MeasuredNextGenerator, MeasuredTypeClause, MeasuredExprList, MeasuredFlat, MeasuredNextExpr, MeasuredOperand, MeasuredRun}
+use Rattle.fort_tree.specs.Measured.{Measured, Joined, Listed, listed_parts, all_flats, all_crowded, made_of, made_in_type, over, maybe_measured, block_measured, most_parameters, most_tuple_parts, most_generators, most_units, most_elements, most_also_blocks, most_clauses, MeasuredDelimited, MeasuredItem, MeasuredAtom, MeasuredExpr, MeasuredFlatPart, MeasuredGenerator, MeasuredHead, MeasuredPostfix, MeasuredRunPart, MeasuredVariable, MeasuredAlso, MeasuredBlockItem, MeasuredCaseClause, MeasuredCatch, MeasuredElif, MeasuredElseBlock, MeasuredElseClause, MeasuredFinally, MeasuredNextGenerator, MeasuredTypeClause, MeasuredExprList, MeasuredFlat, MeasuredNextExpr, MeasuredOperand, MeasuredRun}
 
 -- where a token stands
 abbrev pub spot_of : Token → Spot
@@ -26,14 +26,14 @@ spot_of t = record { gap = t.gap; place = t.place }
 
 -- what a simple type measures; a list in parentheses is counted
 abbrev pub measure_simple_type : SimpleType-F Measured Measured Measured Listed → Measured
-measure_simple_type (SimpleType-F.Named n) = made_of n.spot [] []
-measure_simple_type (SimpleType-F.Array array left element comma index right) = made_of array.spot [] (element ∷ [])
-measure_simple_type (SimpleType-F.Parts left parts right) = made_of left (over most_tuple_parts (length (listed_parts parts)) left.place) (listed_parts parts)
+measure_simple_type (SimpleType-F.Named n) = made_in_type n.spot [] []
+measure_simple_type (SimpleType-F.Array array left element comma index right) = made_in_type array.spot [] (element ∷ [])
+measure_simple_type (SimpleType-F.Parts left parts right) = made_in_type left (over most_tuple_parts (length (listed_parts parts)) left.place) (listed_parts parts)
 
 -- what a type measures
 abbrev pub measure_type_tree : TypeTree-F Measured Measured Measured Listed → Measured
 measure_type_tree (TypeTree-F.Simple simple) = simple
-measure_type_tree (TypeTree-F.Arrow domain arrow result) = made_of domain.spot [] (domain ∷ result ∷ [])
+measure_type_tree (TypeTree-F.Arrow domain arrow result) = made_in_type domain.spot [] (domain ∷ result ∷ [])
 
 -- what a further type of a list measures
 abbrev pub measure_next_type : NextType-F Measured Measured Measured Listed → Measured
