@@ -1,12 +1,12 @@
 -- The flat expressions of each declaration stand in its bodies and initials.
-use Rattle.std.proofs.Common.{◌≡◌, List, [], ◌∷◌, ◌++◌, Option, Some, ap, ◌∙◌}
+use Rattle.std.proofs.Common.{◌≡◌, List, [], ◌∷◌, ◌++◌, ap, ◌∙◌}
 use Rattle.fort_tree.specs.declared.declarations.Function.{Function}
 use Rattle.fort_tree.specs.declared.declarations.Method.{Method}
 use Rattle.fort_tree.specs.declared.declarations.Object.{Object}
 use Rattle.fort_tree.specs.declared.grouped.Row.{Row}
 use Rattle.fort_tree.specs.declared.types.TypeTree.{TypeTree}
 use Rattle.fort_tree.specs.Limits.{measured_function, measured_method, measured_method_parameters, measured_body, measured_object, measured_object_parameters, object_members}
-use Rattle.fort_tree.specs.Measured.{Measured, all_flats}
+use Rattle.fort_tree.specs.Measured.{all_flats}
 use Rattle.fort_tree.specs.Measures.{measured_type, measured_parameters}
 use Rattle.fort_tree.specs.Measuring.{measured_expr}
 use Rattle.fort_flats.proofs.Lists.{joined, last}

@@ -13,3 +13,4 @@ pub mod Agreement
 pub mod Senses
 pub mod Rules
 pub mod Each
+pub mod Exists

@@ -1,5 +1,5 @@
 -- The chapter "Operators", its refusals: what `group` answers. The code asks the four rules in turn.
-use Rattle.std.specs.Prelude.{◌≡◌, ℕ, List, length, Some, None, Result, Ok, Err}
+use Rattle.std.specs.Prelude.{◌≡◌, ℕ, List, length, Some, None, Result, Ok, Err, ◌⊎◌}
 use Rattle.fort_base.specs.declared.refusal.Place.{Place}
 use Rattle.fort_base.specs.declared.refusal.Rule.{Rule}
 use Rattle.fort_base.specs.declared.refusal.CheckFault.{CheckFault}
@@ -45,3 +45,11 @@ Answers row (Err Memory) = Unit {0}
 -- two groupings of the same units are one
 abbrev pub OneAtMost : Type 0
 OneAtMost = (joints : List Joint) (i j : ℕ) (g h : Grouped) → IsGrouping joints i j g → IsGrouping joints i j h → g ≡ h
+
+-- a flat expression has a grouping that breaks no rule, or it breaks one
+abbrev pub EachAnswered : Type 0
+EachAnswered = (row : Row) → ((g : Grouped) × IsGrouped row g) ⊎ ((rule : Rule) × (place : Place) × Breaks row rule place)
+
+-- and never both
+abbrev pub NeverBoth : Type 0
+NeverBoth = (row : Row) (g : Grouped) (rule : Rule) (place : Place) → IsGrouped row g → Breaks row rule place → ⊥

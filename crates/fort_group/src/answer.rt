@@ -1,5 +1,5 @@
 ghost use Rattle.fort_tree.specs.Measuring.{row_of};
-ghost use Rattle.fort_group.specs.Answers.{Answers, OneAtMost};
+ghost use Rattle.fort_group.specs.Answers.{Answers, OneAtMost, EachAnswered, NeverBoth};
 ghost use Rattle.fort_group.specs.Yield.{UnitsInOrder};
 
 use crate::chains::is_sensible;
@@ -56,6 +56,12 @@ pub fn group_row(alloc: Global, row: &Row) -> Result<Grouped, CheckFault>
 /// A law of groupings: a flat expression has one at most, whatever `group` answers.
 pub fn one_grouping_at_most()
     ensures { OneAtMost }
+{}
+
+/// A law of flat expressions: each has a grouping that breaks no rule, or breaks one, and none both.
+pub fn one_answer()
+    ensures some { EachAnswered }
+    ensures apart { NeverBoth }
 {}
 
 /// A law of groupings: the units stand in them in order.

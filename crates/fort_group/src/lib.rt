@@ -11,5 +11,5 @@ mod number;
 mod part;
 mod spacing;
 
-pub use answer::{group, groupings_are_in_order, one_grouping_at_most};
+pub use answer::{group, groupings_are_in_order, one_answer, one_grouping_at_most};
 pub use components::groups;

@@ -1,6 +1,5 @@
 use Rattle.std.proofs.Common.{ap, ◌∙◌}
 use Rattle.std.specs.Prelude.{map}
-use Rattle.fort_tree.specs.declared.expr.FlatPart.{FlatPart}
 use Rattle.fort_tree.specs.declared.spot.Spot.{Spot}
 use Rattle.fort_tree.specs.Measured.{Joined}
 use Rattle.fort_tree.specs.Measuring.{measured_flat_part}
