@@ -1,5 +1,5 @@
 -- Each flat expression has a grouping that breaks no rule, or breaks one.
-use Rattle.std.proofs.Common.{◌≡◌, ℕ, zero, suc, ◌+◌, ◌-◌, ◌<◌, ◌≤◌, Bool, true, false, List, [], ◌∷◌, length, get_or, Option, Some, None, IsTrue, ◌⊎◌, inl, inr, refl, sym, ap, ◌∙◌, arith, subst}
+use Rattle.std.proofs.Common.{◌≡◌, ℕ, zero, suc, ◌+◌, ◌-◌, ◌<◌, ◌≤◌, Bool, true, false, List, length, get_or, Option, Some, None, IsTrue, ◌⊎◌, inl, inr, refl, ap, arith, subst}
 use Rattle.std.proofs.lemmas.Bool.{cases_lt}
 use Rattle.std.proofs.lemmas.Option.{slice_get-get_or}
 use Rattle.fort_base.specs.declared.refusal.Place.{Place}
@@ -18,8 +18,8 @@ use Rattle.fort_group.specs.declared.answer.TheConstants.{MIXED_SPACING, NO_PREC
 use Rattle.fort_group.specs.declared.form.Form.{Form}
 use Rattle.fort_group.specs.declared.form.Form.TheVariants as a_form
 use Rattle.fort_group.specs.Joints.{operator_of, operator_in, between, strength}
-use Rattle.fort_group.specs.Grouping.{form_of, root, fits, Fits, FitsLeft, SameSide, Continues, IsGrouping}
-use Rattle.fort_group.specs.Joining.{juxtaposed, linked, JoinsBy, Joins, IsWeakest, IsTheGrouping}
+use Rattle.fort_group.specs.Grouping.{form_of, root, fits, Fits, FitsLeft, SameSide, Continues}
+use Rattle.fort_group.specs.Joining.{juxtaposed, linked, JoinsBy, IsWeakest, IsTheGrouping}
 use Rattle.fort_group.specs.Numbers.{number}
 use Rattle.fort_group.specs.Spacing.{first_mixed}
 use Rattle.fort_group.specs.Walks.{spaced, sensible}
