@@ -12,3 +12,5 @@ pub mod Spaces
 pub mod Agreement
 pub mod Senses
 pub mod Rules
+pub mod Each
+pub mod Exists

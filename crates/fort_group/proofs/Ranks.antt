@@ -3,8 +3,8 @@ use Rattle.std.proofs.Common.{◌≡◌, ℕ, ◌<◌, ◌≤◌, Option, Some, 
 use Rattle.fort_ops.specs.declared.op.Op.{Op}
 use Rattle.fort_ops.specs.declared.precedence.Group.{Group}
 use Rattle.fort_ops.specs.declared.precedence.Group.TheVariants.{Adjacent}
-use Rattle.fort_group.specs.declared.tree.Grouped.{Grouped, out-Grouped}
-use Rattle.fort_group.specs.declared.tree.Grouped.TheOpen.{Grouped-F}
+use Rattle.fort_tree.specs.declared.grouped.Grouped.{Grouped, out-Grouped}
+use Rattle.fort_tree.specs.declared.grouped.Grouped.TheOpen.{Grouped-F}
 use Rattle.fort_ops.proofs.Ranks.{rank_falls}
 use Rattle.fort_ops.specs.Precedence.{group_of, rank}
 use Rattle.fort_group.specs.Grouping.{root_at, root, fits, FitsLeft, Continues}

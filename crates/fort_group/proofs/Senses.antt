@@ -5,8 +5,8 @@ use Rattle.fort_ops.specs.declared.op.Op.{Op}
 use Rattle.fort_ops.specs.declared.op.Sense.{Sense}
 use Rattle.fort_ops.specs.declared.op.Sense.TheVariants.{Equal, Unequal, Rising, Falling, Other}
 use Rattle.fort_ops.specs.Senses.{sense_of}
-use Rattle.fort_group.specs.declared.tree.Grouped.{Grouped, out-Grouped, map-Grouped, fold_out-Grouped}
-use Rattle.fort_group.specs.declared.tree.Grouped.TheOpen.{Grouped-F}
+use Rattle.fort_tree.specs.declared.grouped.Grouped.{Grouped, out-Grouped, map-Grouped, fold_out-Grouped}
+use Rattle.fort_tree.specs.declared.grouped.Grouped.TheOpen.{Grouped-F}
 use Rattle.fort_group.specs.Nodes.{itself}
 use Rattle.fort_group.specs.Chains.{HasSense, IsGoodChain, IsGoodNode, IsSensible}
 use Rattle.fort_group.specs.Walks.{equal_senses, has_sense, good_chain, all_true, sensible_step, sensible}

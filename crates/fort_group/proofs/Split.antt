@@ -4,21 +4,21 @@ use Rattle.std.proofs.lemmas.Bool.{cases_lt}
 use Rattle.fort_ops.specs.declared.op.Op.{Op}
 use Rattle.fort_ops.specs.declared.precedence.Group.TheVariants.{Relation}
 use Rattle.fort_ops.specs.declared.op.Op.TheVariants.{Juxt}
-use Rattle.fort_group.specs.declared.link.Link.{Link}
-use Rattle.fort_group.specs.declared.tree.Grouped.{Grouped, out-Grouped}
-use Rattle.fort_group.specs.declared.tree.Grouped as tree
-use Rattle.fort_group.specs.declared.tree.Grouped.TheOpen.{Grouped-F}
+use Rattle.fort_tree.specs.declared.grouped.Joint.{Joint}
+use Rattle.fort_tree.specs.declared.grouped.Grouped.{Grouped, out-Grouped}
+use Rattle.fort_tree.specs.declared.grouped.Grouped as tree
+use Rattle.fort_tree.specs.declared.grouped.Grouped.TheOpen.{Grouped-F}
 use Rattle.fort_ops.specs.Precedence.{group_of, rank}
-use Rattle.fort_group.specs.Links.{rank_in, between, strength}
+use Rattle.fort_group.specs.Joints.{rank_in, between, strength}
 use Rattle.fort_group.specs.declared.form.Form.TheVariants as a_form
-use Rattle.fort_group.specs.Grouping.{form_of, root_at, root, fits, Fits, FitsLeft, IsRow, two, one_more, IsGrouping, unit, row, binary, chain, IsChain, first, next}
+use Rattle.fort_group.specs.Grouping.{form_of, root_at, root, fits, Fits, FitsLeft, IsJuxt, two, one_more, IsGrouping, unit, juxt, binary, chain, IsChain, first, next}
 use Rattle.fort_group.specs.Joining.{juxtaposed_at, linked_at, linked, Pairs, JoinsBy, Joins, IsWeakest}
 use Rattle.fort_group.proofs.Ranks.{rank_over, fits_rank, left_rank}
 use Rattle.fort_group.proofs.Trees.{out-unit, out-chain, out-juxt}
 use Rattle.fort_group.proofs.Least.{relation_rank, AtLeast, beside, least, chained_least}
 
-module _ (links : List Link) where
-  weakest_once : (i j k m : ℕ) → IsWeakest links i j k → IsWeakest links i j m → k ≡ m
+module _ (joints : List Joint) where
+  weakest_once : (i j k m : ℕ) → IsWeakest joints i j k → IsWeakest joints i j m → k ≡ m
   weakest_once i j k m v w =
       elim (cases_lt k m) as (λ z. k ≡ m) [
         | inl h ↦ (let a = v.last m h w.to in let b = w.least k v.from v.to in absurd (omega arith))
@@ -29,27 +29,27 @@ module _ (links : List Link) where
       ]
 
   -- a place of strength m between sides that are at least m and above it
-  weakest_at : (i k j m x y : ℕ) → strength links k ≡ m → i ≤ k → k + 1 ≤ j → AtLeast links i k x → m ≤ x → AtLeast links (k + 1) j y → m < y → IsWeakest links i j k
+  weakest_at : (i k j m x y : ℕ) → strength joints k ≡ m → i ≤ k → k + 1 ≤ j → AtLeast joints i k x → m ≤ x → AtLeast joints (k + 1) j y → m < y → IsWeakest joints i j k
   weakest_at i k j m x y e a b f le g lt = record {
     from = a;
     to = omega arith;
-    least = λ n c d. let h = beside links i k j m x e f le y g lt n c d in omega arith;
+    least = λ n c d. let h = beside joints i k j m x e f le y g lt n c d in omega arith;
     last = λ n c d. let h = g n (omega arith) d in omega arith;
   }
 
   pub record Halves (i j : ℕ) (h : Grouped) (k : ℕ) (s : Op) : Type 0 where
     pub left : Grouped
     pub right : Grouped
-    pub groups_left : IsGrouping links i k left
-    pub groups_right : IsGrouping links (k + 1) j right
+    pub groups_left : IsGrouping joints i k left
+    pub groups_right : IsGrouping joints (k + 1) j right
     pub joined : Joins s left right (Some h)
     pub joins : (o : Option Grouped) → Joins s left right o → o ≡ Some h
 
   pub record Split (i j : ℕ) (h : Grouped) : Type 0 where
     pub at : ℕ
     pub sign : Op
-    pub weakest : IsWeakest links i j at
-    pub signed : between links at ≡ Some sign
+    pub weakest : IsWeakest joints i j at
+    pub signed : between joints at ≡ Some sign
     pub halves : Halves i j h at sign
 
   not_chain_fits : (ops : List Op) (l r : Grouped) (t : Grouped-F Grouped) → out-Grouped l ≡ t → Fits l Relation → (op : Op) → linked_at op t l r ≡ Some (tree.Chain (op ∷ []) (l ∷ r ∷ []))
@@ -73,8 +73,8 @@ module _ (links : List Link) where
   joins_pairs op l r fl fr None m = absurd (m fl fr)
   joins_pairs op l r fl fr (Some g) m = ap Some m.0
 
-  row_split : (i j : ℕ) (units : List ℕ) → IsRow links i j units → Split i j (tree.Juxt units)
-  row_split i j units (two e) = record {
+  juxt_split : (i j : ℕ) (units : List ℕ) → IsJuxt joints i j units → Split i j (tree.Juxt units)
+  juxt_split i j units (two e) = record {
     at = i;
     sign = Juxt;
     weakest = weakest_at i i (i + 1) 6 6 7 (ap rank_in e) (omega arith) (omega arith) (λ n a b. absurd (omega arith)) (omega arith) (λ n a b. absurd (omega arith)) (omega arith);
@@ -88,8 +88,8 @@ module _ (links : List Link) where
       joins = λ o m. m ∙ ap (λ t. juxtaposed_at t (out-Grouped (tree.Unit (i + 1)))) (out-unit i) ∙ ap (λ t. juxtaposed_at (Grouped-F.Unit i) t) (out-unit (i + 1));
     };
   }
-  row_split i j units (one_more {k = k} {units = us} r e) =
-      let h = least links i k (tree.Juxt us) (row r) in
+  juxt_split i j units (one_more {k = k} {units = us} r e) =
+      let h = least joints i k (tree.Juxt us) (juxt r) in
       let d : rank_over (root (tree.Juxt us)) ≡ 6 = ap (λ o. rank_over (root_at o)) (out-juxt us) in
       record {
         at = k;
@@ -99,17 +99,17 @@ module _ (links : List Link) where
         halves = record {
           left = tree.Juxt us;
           right = tree.Unit (k + 1);
-          groups_left = row r;
+          groups_left = juxt r;
           groups_right = unit;
           joined = sym (ap (λ t. juxtaposed_at t (out-Grouped (tree.Unit (k + 1)))) (out-juxt us) ∙ ap (λ t. juxtaposed_at (Grouped-F.Juxt us) t) (out-unit (k + 1)));
           joins = λ o m. m ∙ ap (λ t. juxtaposed_at t (out-Grouped (tree.Unit (k + 1)))) (out-juxt us) ∙ ap (λ t. juxtaposed_at (Grouped-F.Juxt us) t) (out-unit (k + 1));
         };
       }
 
-  chained_split : (i j : ℕ) (ops : List Op) (parts : List Grouped) → IsChain links i j ops parts → Split i j (tree.Chain ops parts)
+  chained_split : (i j : ℕ) (ops : List Op) (parts : List Grouped) → IsChain joints i j ops parts → Split i j (tree.Chain ops parts)
   chained_split i j ops parts (first {k = k} {op = op} {left = l} {right = r} b e gl gr fl fr) =
-      let hl = least links i k l gl in
-      let hr = least links (k + 1) j r gr in
+      let hl = least joints i k l gl in
+      let hr = least joints (k + 1) j r gr in
       let f : 2 < rank_over (root l) = fits_rank (root l) Relation fl in
       record {
         at = k;
@@ -126,8 +126,8 @@ module _ (links : List Link) where
         };
       }
   chained_split i j ops parts (next {k = k} {ops = ops'} {parts = parts'} {op = op} {right = r} c b e gr fr) =
-      let hl = chained_least links i k ops' parts' c in
-      let hr = least links (k + 1) j r gr in
+      let hl = chained_least joints i k ops' parts' c in
+      let hr = least joints (k + 1) j r gr in
       record {
         at = k;
         sign = op;
@@ -143,13 +143,13 @@ module _ (links : List Link) where
         };
       }
 
-  pub split : (i j : ℕ) (h : Grouped) → IsGrouping links i j h → i < j → Split i j h
+  pub split : (i j : ℕ) (h : Grouped) → IsGrouping joints i j h → i < j → Split i j h
   split i j h unit lt = absurd (omega arith)
-  split i j h (row {units = units} r) lt = row_split i j units r
+  split i j h (juxt {units = units} r) lt = juxt_split i j units r
   split i j h (chain {ops = ops} {parts = parts} c) lt = chained_split i j ops parts c
   split i j h (binary {k = k} {op = op} {left = l} {right = r} b e gl gr fl fr) lt =
-      let hl = least links i k l gl in
-      let hr = least links (k + 1) j r gr in
+      let hl = least joints i k l gl in
+      let hr = least joints (k + 1) j r gr in
       record {
         at = k;
         sign = op;
@@ -166,9 +166,9 @@ module _ (links : List Link) where
       }
 
   -- the halves at a weakest place that was found
-  pub split_at : (i j : ℕ) (h : Grouped) (k : ℕ) (s : Op) → IsGrouping links i j h → IsWeakest links i j k → between links k ≡ Some s → Halves i j h k s
+  pub split_at : (i j : ℕ) (h : Grouped) (k : ℕ) (s : Op) → IsGrouping joints i j h → IsWeakest joints i j k → between joints k ≡ Some s → Halves i j h k s
   split_at i j h k s g w e =
       let p = split i j h g (let a = w.from in let b = w.to in omega arith) in
       let q = weakest_once i j p.at k p.weakest w in
-      let d : p.sign ≡ s = let z = ap (between links) q in cc in
+      let d : p.sign ≡ s = let z = ap (between joints) q in cc in
       subst (λ v. Halves i j h k v) d (subst (λ v. Halves i j h v p.sign) q p.halves)

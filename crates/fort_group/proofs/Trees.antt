@@ -2,10 +2,10 @@
 use Rattle.std.proofs.Common.{◌≡◌, ℕ, zero, suc, List, [], ◌∷◌, map, refl, sym, ap, ◌∙◌, arith, subst}
 use Rattle.std.specs.List.{Contains, All}
 use Rattle.fort_ops.specs.declared.op.Op.{Op}
-use Rattle.fort_group.specs.declared.tree.Grouped.{Grouped, out-Grouped, roll-Grouped, out-roll-Grouped, roll-out-Grouped, ind-Grouped, map-Grouped}
-use Rattle.fort_group.specs.declared.tree.Grouped as tree
-use Rattle.fort_group.specs.declared.tree.Grouped.TheVariants.{rolls-Unit, rolls-Binary, rolls-Chain, rolls-Juxt}
-use Rattle.fort_group.specs.declared.tree.Grouped.TheOpen.{Grouped-F}
+use Rattle.fort_tree.specs.declared.grouped.Grouped.{Grouped, out-Grouped, roll-Grouped, out-roll-Grouped, roll-out-Grouped, ind-Grouped, map-Grouped}
+use Rattle.fort_tree.specs.declared.grouped.Grouped as tree
+use Rattle.fort_tree.specs.declared.grouped.Grouped.TheVariants.{rolls-Unit, rolls-Binary, rolls-Chain, rolls-Juxt}
+use Rattle.fort_tree.specs.declared.grouped.Grouped.TheOpen.{Grouped-F}
 use Rattle.fort_group.specs.Nodes.{itself, in_left, in_right, in_part, Everywhere}
 
 pub out-unit : (n : ℕ) → out-Grouped (tree.Unit n) ≡ Grouped-F.Unit n

@@ -1,39 +1,55 @@
 -- The chapter "Operators", its refusals: what `group` answers. The code asks the four rules in turn.
-use Rattle.std.specs.Prelude.{◌≡◌, ℕ, List, length, Some, None, Result, Ok, Err}
+use Rattle.std.specs.Prelude.{◌≡◌, ℕ, List, length, Some, None, Result, Ok, Err, ◌⊎◌}
 use Rattle.fort_base.specs.declared.refusal.Place.{Place}
 use Rattle.fort_base.specs.declared.refusal.Rule.{Rule}
 use Rattle.fort_base.specs.declared.refusal.CheckFault.{CheckFault}
 use Rattle.fort_base.specs.declared.refusal.CheckFault.TheVariants.{Refused, Memory}
+use Rattle.fort_tree.specs.declared.grouped.Joint.{Joint}
+use Rattle.fort_tree.specs.declared.grouped.Row.{Row}
+use Rattle.fort_tree.specs.declared.grouped.Grouped.{Grouped}
 use Rattle.fort_group.specs.declared.answer.TheConstants.{MIXED_SPACING, NO_PRECEDENCE, SPACING_CONTRADICTS, BAD_CHAIN}
-use Rattle.fort_group.specs.declared.link.Link.{Link}
-use Rattle.fort_group.specs.declared.tree.Grouped.{Grouped}
 use Rattle.fort_group.specs.Grouping.{IsGrouping}
 use Rattle.fort_group.specs.Spacing.{first_mixed, Agrees}
 use Rattle.fort_group.specs.Chains.{IsSensible}
 
 -- a grouping of the whole, and no other is there
-abbrev pub IsOnly : List Link → Grouped → Type 0
-IsOnly links g = IsGrouping links 0 (length links) g × ((h : Grouped) → IsGrouping links 0 (length links) h → g ≡ h)
+abbrev pub IsOnly : List Joint → Grouped → Type 0
+IsOnly joints g = IsGrouping joints 0 (length joints) g × ((h : Grouped) → IsGrouping joints 0 (length joints) h → g ≡ h)
 
--- one rule is broken, and none of a lower number
-pub data Breaks (links : List Link) (start : Place) : Rule → Place → Type 0 where
-  mixed_spacing : {place : Place} → first_mixed links ≡ Some place → Breaks links start MIXED_SPACING place
+-- A flat expression breaks one rule, and none of a lower number.
+pub data Breaks (row : Row) : Rule → Place → Type 0 where
+  mixed_spacing : {place : Place} → first_mixed row.joints ≡ Some place → Breaks row MIXED_SPACING place
   no_precedence :
-      first_mixed links ≡ None → ((h : Grouped) → IsGrouping links 0 (length links) h → ⊥)
-      → Breaks links start NO_PRECEDENCE start
+      first_mixed row.joints ≡ None → ((h : Grouped) → IsGrouping row.joints 0 (length row.joints) h → ⊥)
+      → Breaks row NO_PRECEDENCE row.place
   spacing_contradicts :
-      {g : Grouped} → first_mixed links ≡ None → IsOnly links g → (Agrees links g → ⊥)
-      → Breaks links start SPACING_CONTRADICTS start
+      {g : Grouped} → first_mixed row.joints ≡ None → IsOnly row.joints g → (Agrees row.joints g → ⊥)
+      → Breaks row SPACING_CONTRADICTS row.place
   bad_chain :
-      {g : Grouped} → first_mixed links ≡ None → IsOnly links g → Agrees links g → (IsSensible g → ⊥)
-      → Breaks links start BAD_CHAIN start
+      {g : Grouped} → first_mixed row.joints ≡ None → IsOnly row.joints g → Agrees row.joints g → (IsSensible g → ⊥)
+      → Breaks row BAD_CHAIN row.place
 
--- the one grouping that breaks no rule, or the lowest rule that is broken, with its place
-abbrev pub Answers : List Link → Place → Result Grouped CheckFault → Type 0
-Answers links start (Ok g) = (first_mixed links ≡ None) × IsOnly links g × Agrees links g × IsSensible g
-Answers links start (Err (Refused rule place)) = Breaks links start rule place
-Answers links start (Err Memory) = Unit {0}
+-- A flat expression breaks no rule, and this is its one grouping.
+pub record IsGrouped (row : Row) (g : Grouped) : Type 0 where
+  pub even : first_mixed row.joints ≡ None
+  pub only : IsOnly row.joints g
+  pub agrees : Agrees row.joints g
+  pub sensible : IsSensible g
+
+-- the one grouping, or the lowest rule that is broken, with its place
+abbrev pub Answers : Row → Result Grouped CheckFault → Type 0
+Answers row (Ok g) = IsGrouped row g
+Answers row (Err (Refused rule place)) = Breaks row rule place
+Answers row (Err Memory) = Unit {0}
 
 -- two groupings of the same units are one
 abbrev pub OneAtMost : Type 0
-OneAtMost = (links : List Link) (i j : ℕ) (g h : Grouped) → IsGrouping links i j g → IsGrouping links i j h → g ≡ h
+OneAtMost = (joints : List Joint) (i j : ℕ) (g h : Grouped) → IsGrouping joints i j g → IsGrouping joints i j h → g ≡ h
+
+-- a flat expression has a grouping that breaks no rule, or it breaks one
+abbrev pub EachAnswered : Type 0
+EachAnswered = (row : Row) → ((g : Grouped) × IsGrouped row g) ⊎ ((rule : Rule) × (place : Place) × Breaks row rule place)
+
+-- and never both
+abbrev pub NeverBoth : Type 0
+NeverBoth = (row : Row) (g : Grouped) (rule : Rule) (place : Place) → IsGrouped row g → Breaks row rule place → ⊥

@@ -4,8 +4,8 @@ use Rattle.fort_ops.specs.declared.op.Op.{Op}
 use Rattle.fort_ops.specs.declared.op.Sense.{Sense}
 use Rattle.fort_ops.specs.declared.op.Sense.TheVariants.{Unequal, Rising, Falling}
 use Rattle.fort_ops.specs.Senses.{sense_of}
-use Rattle.fort_group.specs.declared.tree.Grouped.{Grouped}
-use Rattle.fort_group.specs.declared.tree.Grouped.TheOpen.{Grouped-F}
+use Rattle.fort_tree.specs.declared.grouped.Grouped.{Grouped}
+use Rattle.fort_tree.specs.declared.grouped.Grouped.TheOpen.{Grouped-F}
 use Rattle.fort_group.specs.Nodes.{Everywhere}
 
 -- one of the operators has this sense

@@ -7,15 +7,15 @@ use Rattle.fort_ops.specs.declared.precedence.Group.TheVariants.{Adjacent, Sum, 
 use Rattle.fort_ops.specs.Precedence.{group_of, pair}
 use Rattle.fort_group.specs.declared.form.Form.{Form}
 use Rattle.fort_group.specs.declared.form.Form.TheVariants as a_form
-use Rattle.fort_group.specs.declared.link.Link.{Link}
-use Rattle.fort_group.specs.declared.tree.Grouped.{Grouped, out-Grouped}
-use Rattle.fort_group.specs.declared.tree.Grouped as tree
-use Rattle.fort_group.specs.declared.tree.Grouped.TheOpen.{Grouped-F}
-use Rattle.fort_group.specs.Links.{between}
+use Rattle.fort_tree.specs.declared.grouped.Joint.{Joint}
+use Rattle.fort_tree.specs.declared.grouped.Grouped.{Grouped, out-Grouped}
+use Rattle.fort_tree.specs.declared.grouped.Grouped as tree
+use Rattle.fort_tree.specs.declared.grouped.Grouped.TheOpen.{Grouped-F}
+use Rattle.fort_group.specs.Joints.{between}
 
 -- the form of the nodes that a group makes
 abbrev pub form_at : Group → Form
-form_at Adjacent = a_form.Row
+form_at Adjacent = a_form.Juxt
 form_at Relation = a_form.Chain
 form_at _ = a_form.Binary
 
@@ -59,30 +59,30 @@ abbrev pub FitsLeft : Grouped → Op → Type 0
 FitsLeft t op = Fits t (group_of op) ⊎ Continues (out-Grouped t) op
 
 -- two units or more, from i to j, side by side
-pub data IsRow (links : List Link) : ℕ → ℕ → List ℕ → Type 0 where
-  two : {i : ℕ} → between links i ≡ Some Juxt → IsRow links i (i + 1) (i ∷ (i + 1) ∷ [])
-  one_more : {i k : ℕ} {units : List ℕ} → IsRow links i k units → between links k ≡ Some Juxt → IsRow links i (k + 1) (units ++ (k + 1) ∷ [])
+pub data IsJuxt (joints : List Joint) : ℕ → ℕ → List ℕ → Type 0 where
+  two : {i : ℕ} → between joints i ≡ Some Juxt → IsJuxt joints i (i + 1) (i ∷ (i + 1) ∷ [])
+  one_more : {i k : ℕ} {units : List ℕ} → IsJuxt joints i k units → between joints k ≡ Some Juxt → IsJuxt joints i (k + 1) (units ++ (k + 1) ∷ [])
 
 mutual
   -- a grouping of the units from i to j
-  pub data IsGrouping (links : List Link) : ℕ → ℕ → Grouped → Type 0 where
-    unit : {i : ℕ} → IsGrouping links i i (tree.Unit i)
-    row : {i j : ℕ} {units : List ℕ} → IsRow links i j units → IsGrouping links i j (tree.Juxt units)
+  pub data IsGrouping (joints : List Joint) : ℕ → ℕ → Grouped → Type 0 where
+    unit : {i : ℕ} → IsGrouping joints i i (tree.Unit i)
+    juxt : {i j : ℕ} {units : List ℕ} → IsJuxt joints i j units → IsGrouping joints i j (tree.Juxt units)
     binary :
         {i k j : ℕ} {op : Op} {left right : Grouped}
-        → between links k ≡ Some op → form_of op ≡ a_form.Binary
-        → IsGrouping links i k left → IsGrouping links (k + 1) j right
-        → FitsLeft left op → Fits right (group_of op) → IsGrouping links i j (tree.Binary op left right)
-    chain : {i j : ℕ} {ops : List Op} {parts : List Grouped} → IsChain links i j ops parts → IsGrouping links i j (tree.Chain ops parts)
+        → between joints k ≡ Some op → form_of op ≡ a_form.Binary
+        → IsGrouping joints i k left → IsGrouping joints (k + 1) j right
+        → FitsLeft left op → Fits right (group_of op) → IsGrouping joints i j (tree.Binary op left right)
+    chain : {i j : ℕ} {ops : List Op} {parts : List Grouped} → IsChain joints i j ops parts → IsGrouping joints i j (tree.Chain ops parts)
 
   -- relational operators with groupings before, between and after them, over the units from i to j
-  pub data IsChain (links : List Link) : ℕ → ℕ → List Op → List Grouped → Type 0 where
+  pub data IsChain (joints : List Joint) : ℕ → ℕ → List Op → List Grouped → Type 0 where
     first :
         {i k j : ℕ} {op : Op} {left right : Grouped}
-        → between links k ≡ Some op → form_of op ≡ a_form.Chain
-        → IsGrouping links i k left → IsGrouping links (k + 1) j right
-        → Fits left Relation → Fits right Relation → IsChain links i j (op ∷ []) (left ∷ right ∷ [])
+        → between joints k ≡ Some op → form_of op ≡ a_form.Chain
+        → IsGrouping joints i k left → IsGrouping joints (k + 1) j right
+        → Fits left Relation → Fits right Relation → IsChain joints i j (op ∷ []) (left ∷ right ∷ [])
     next :
         {i k j : ℕ} {ops : List Op} {parts : List Grouped} {op : Op} {right : Grouped}
-        → IsChain links i k ops parts → between links k ≡ Some op → form_of op ≡ a_form.Chain
-        → IsGrouping links (k + 1) j right → Fits right Relation → IsChain links i j (ops ++ op ∷ []) (parts ++ right ∷ [])
+        → IsChain joints i k ops parts → between joints k ≡ Some op → form_of op ≡ a_form.Chain
+        → IsGrouping joints (k + 1) j right → Fits right Relation → IsChain joints i j (ops ++ op ∷ []) (parts ++ right ∷ [])

@@ -2,12 +2,12 @@
 use Rattle.std.specs.Prelude.{◌≡◌, ℕ, ◌<◌, ◌≤◌, cond, List, [], ◌∷◌, ◌++◌, Option, Some, None, MatchOption}
 use Rattle.fort_ops.specs.declared.op.Op.{Op}
 use Rattle.fort_ops.specs.declared.precedence.Group.TheVariants.{Relation}
-use Rattle.fort_group.specs.declared.link.Link.{Link}
-use Rattle.fort_group.specs.declared.tree.Grouped.{Grouped, out-Grouped}
-use Rattle.fort_group.specs.declared.tree.Grouped as tree
-use Rattle.fort_group.specs.declared.tree.Grouped.TheOpen.{Grouped-F}
+use Rattle.fort_tree.specs.declared.grouped.Joint.{Joint}
+use Rattle.fort_tree.specs.declared.grouped.Grouped.{Grouped, out-Grouped}
+use Rattle.fort_tree.specs.declared.grouped.Grouped as tree
+use Rattle.fort_tree.specs.declared.grouped.Grouped.TheOpen.{Grouped-F}
 use Rattle.fort_ops.specs.Precedence.{group_of}
-use Rattle.fort_group.specs.Links.{strength}
+use Rattle.fort_group.specs.Joints.{strength}
 use Rattle.fort_group.specs.declared.form.Form.{Form}
 use Rattle.fort_group.specs.declared.form.Form.TheVariants as a_form
 use Rattle.fort_group.specs.Grouping.{form_of, root, fits, Fits, FitsLeft, IsGrouping}
@@ -51,7 +51,7 @@ Pairs op l r o = MatchOption o (FitsLeft l op → Fits r (group_of op) → ⊥) 
 
 -- the node of two parts by its form
 abbrev pub JoinsBy : Form → Op → Grouped → Grouped → Option Grouped → Type 0
-JoinsBy a_form.Row op l r o = o ≡ juxtaposed l r
+JoinsBy a_form.Juxt op l r o = o ≡ juxtaposed l r
 JoinsBy a_form.Chain op l r o = o ≡ linked op l r
 JoinsBy a_form.Binary op l r o = Pairs op l r o
 
@@ -60,18 +60,18 @@ abbrev pub Joins : Op → Grouped → Grouped → Option Grouped → Type 0
 Joins op l r o = JoinsBy (form_of op) op l r o
 
 -- the last of the places from i to j whose operators have the least rank
-pub record IsWeakest (links : List Link) (i j k : ℕ) : Type 0 where
+pub record IsWeakest (joints : List Joint) (i j k : ℕ) : Type 0 where
   pub from : i ≤ k
   pub to : k < j
-  pub least : (n : ℕ) → i ≤ n → n < j → strength links k ≤ strength links n
-  pub last : (n : ℕ) → k < n → n < j → strength links k < strength links n
+  pub least : (n : ℕ) → i ≤ n → n < j → strength joints k ≤ strength joints n
+  pub last : (n : ℕ) → k < n → n < j → strength joints k < strength joints n
 
 -- an answer is a grouping
-abbrev pub Sound : List Link → ℕ → ℕ → Option Grouped → Type 0
-Sound links i j (Some g) = IsGrouping links i j g
-Sound links i j None = Unit {0}
+abbrev pub Sound : List Joint → ℕ → ℕ → Option Grouped → Type 0
+Sound joints i j (Some g) = IsGrouping joints i j g
+Sound joints i j None = Unit {0}
 
 -- the one grouping of the units i to j, or none where there is none
-pub record IsTheGrouping (links : List Link) (i j : ℕ) (o : Option Grouped) : Type 0 where
-  pub sound : Sound links i j o
-  pub only : (h : Grouped) → IsGrouping links i j h → o ≡ Some h
+pub record IsTheGrouping (joints : List Joint) (i j : ℕ) (o : Option Grouped) : Type 0 where
+  pub sound : Sound joints i j o
+  pub only : (h : Grouped) → IsGrouping joints i j h → o ≡ Some h

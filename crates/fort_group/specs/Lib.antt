@@ -1,10 +1,11 @@
-pub mod Links
+pub mod Joints
 pub mod Grouping
 pub mod Yield
 pub mod Nodes
 pub mod Spacing
 pub mod Chains
 pub mod Answers
+pub mod Components
 pub mod Numbers
 pub mod Joining
 pub mod Walks

@@ -1,9 +1,9 @@
 -- The chapter "Operators": the nodes of a grouping. The code walks over them once for each rule.
 use Rattle.std.specs.Prelude.{List, Contains}
 use Rattle.fort_ops.specs.declared.op.Op.{Op}
-use Rattle.fort_group.specs.declared.tree.Grouped.{Grouped, out-Grouped}
-use Rattle.fort_group.specs.declared.tree.Grouped as tree
-use Rattle.fort_group.specs.declared.tree.Grouped.TheOpen.{Grouped-F}
+use Rattle.fort_tree.specs.declared.grouped.Grouped.{Grouped, out-Grouped}
+use Rattle.fort_tree.specs.declared.grouped.Grouped as tree
+use Rattle.fort_tree.specs.declared.grouped.Grouped.TheOpen.{Grouped-F}
 
 -- the second tree is the first one, or stands in it
 pub data Has : Grouped → Grouped → Type 0 where

@@ -4,18 +4,18 @@ use Rattle.fort_ops.specs.declared.op.Op.{Op}
 use Rattle.fort_ops.specs.declared.op.Sense.{Sense}
 use Rattle.fort_ops.specs.declared.op.Sense.TheVariants as a_sense
 use Rattle.fort_ops.specs.Senses.{sense_of}
-use Rattle.fort_group.specs.declared.link.Link.{Link}
+use Rattle.fort_tree.specs.declared.grouped.Joint.{Joint}
 use Rattle.fort_group.specs.declared.spacing.Spaced.{Spaced}
-use Rattle.fort_group.specs.declared.tree.Grouped.{Grouped, fold-Grouped}
-use Rattle.fort_group.specs.declared.tree.Grouped.TheOpen.{Grouped-F}
+use Rattle.fort_tree.specs.declared.grouped.Grouped.{Grouped, fold-Grouped}
+use Rattle.fort_tree.specs.declared.grouped.Grouped.TheOpen.{Grouped-F}
 use Rattle.fort_group.specs.Spacing.{loose_before, first_unit}
 
 -- a binary node from its two children
-abbrev pub binary_spaced : List Link → Spaced → Spaced → Spaced
-binary_spaced links l r = record {
+abbrev pub binary_spaced : List Joint → Spaced → Spaced → Spaced
+binary_spaced joints l r = record {
   first = l.first;
-  loose = loose_before links r.first;
-  good = l.good && r.good && (loose_before links r.first || not (l.loose || r.loose));
+  loose = loose_before joints r.first;
+  good = l.good && r.good && (loose_before joints r.first || not (l.loose || r.loose));
 }
 
 -- each part is good
@@ -29,38 +29,38 @@ some_loose_part [] = false
 some_loose_part (p ∷ ps) = p.loose || some_loose_part ps
 
 -- an operator before one of these parts is loose
-abbrev pub some_loose : List Link → List Spaced → Bool
-some_loose links [] = false
-some_loose links (p ∷ ps) = loose_before links p.first || some_loose links ps
+abbrev pub some_loose : List Joint → List Spaced → Bool
+some_loose joints [] = false
+some_loose joints (p ∷ ps) = loose_before joints p.first || some_loose joints ps
 
 -- an operator before one of these parts is tight
-abbrev pub some_tight : List Link → List Spaced → Bool
-some_tight links [] = false
-some_tight links (p ∷ ps) = not (loose_before links p.first) || some_tight links ps
+abbrev pub some_tight : List Joint → List Spaced → Bool
+some_tight joints [] = false
+some_tight joints (p ∷ ps) = not (loose_before joints p.first) || some_tight joints ps
 
 -- the operators stand before all parts but the first; where one is tight, none is loose, and no part
-abbrev pub chain_spaced : List Link → List Spaced → Spaced
-chain_spaced links [] = record { first = 0; loose = false; good = true }
-chain_spaced links (p ∷ ps) = record {
+abbrev pub chain_spaced : List Joint → List Spaced → Spaced
+chain_spaced joints [] = record { first = 0; loose = false; good = true }
+chain_spaced joints (p ∷ ps) = record {
   first = p.first;
-  loose = some_loose links ps;
-  good = all_good (p ∷ ps) && (not (some_tight links ps) || not (some_loose links ps || some_loose_part (p ∷ ps)));
+  loose = some_loose joints ps;
+  good = all_good (p ∷ ps) && (not (some_tight joints ps) || not (some_loose joints ps || some_loose_part (p ∷ ps)));
 }
 
 -- a node from its children
-abbrev pub spaced_step : List Link → Grouped-F Spaced → Spaced
-spaced_step links (Grouped-F.Unit n) = record { first = n; loose = false; good = true }
-spaced_step links (Grouped-F.Juxt units) = record { first = first_unit (slice_get units 0); loose = true; good = true }
-spaced_step links (Grouped-F.Binary op l r) = binary_spaced links l r
-spaced_step links (Grouped-F.Chain ops parts) = chain_spaced links parts
+abbrev pub spaced_step : List Joint → Grouped-F Spaced → Spaced
+spaced_step joints (Grouped-F.Unit n) = record { first = n; loose = false; good = true }
+spaced_step joints (Grouped-F.Juxt units) = record { first = first_unit (slice_get units 0); loose = true; good = true }
+spaced_step joints (Grouped-F.Binary op l r) = binary_spaced joints l r
+spaced_step joints (Grouped-F.Chain ops parts) = chain_spaced joints parts
 
 -- the first unit of a tree, whether it is loose, and whether its spacing agrees with it
-abbrev pub spaced : List Link → Grouped → Spaced
-spaced links t = fold-Grouped Spaced (spaced_step links) t
+abbrev pub spaced : List Joint → Grouped → Spaced
+spaced joints t = fold-Grouped Spaced (spaced_step joints) t
 
 -- the same of each tree
-abbrev pub all_spaced : List Link → List Grouped → List Spaced
-all_spaced links ts = map (spaced links) ts
+abbrev pub all_spaced : List Joint → List Grouped → List Spaced
+all_spaced joints ts = map (spaced joints) ts
 
 -- the same sense
 abbrev pub equal_senses : Sense → Sense → Bool

@@ -1,8 +1,8 @@
 -- The chapter "Operators": the units of a grouping stand in it in their order.
 use Rattle.std.specs.Prelude.{◌≡◌, ℕ, zero, suc, ◌+◌, List, [], ◌∷◌, ◌++◌}
-use Rattle.fort_group.specs.declared.link.Link.{Link}
-use Rattle.fort_group.specs.declared.tree.Grouped.{Grouped, fold-Grouped}
-use Rattle.fort_group.specs.declared.tree.Grouped.TheOpen.{Grouped-F}
+use Rattle.fort_tree.specs.declared.grouped.Joint.{Joint}
+use Rattle.fort_tree.specs.declared.grouped.Grouped.{Grouped, fold-Grouped}
+use Rattle.fort_tree.specs.declared.grouped.Grouped.TheOpen.{Grouped-F}
 use Rattle.fort_group.specs.Grouping.{IsGrouping}
 
 -- lists one after another
@@ -28,4 +28,4 @@ counted i (suc n) = i ∷ counted (i + 1) n
 
 -- the units of a grouping from i to j are the n numbers from i on
 abbrev pub UnitsInOrder : Type 0
-UnitsInOrder = (links : List Link) (i j n : ℕ) (t : Grouped) → IsGrouping links i j t → j + 1 ≡ i + n → units_of t ≡ counted i n
+UnitsInOrder = (joints : List Joint) (i j n : ℕ) (t : Grouped) → IsGrouping joints i j t → j + 1 ≡ i + n → units_of t ≡ counted i n

@@ -1,12 +1,13 @@
-ghost use Rattle.fort_group.specs.Answers.{Answers, OneAtMost};
+ghost use Rattle.fort_tree.specs.Measuring.{row_of};
+ghost use Rattle.fort_group.specs.Answers.{Answers, OneAtMost, EachAnswered, NeverBoth};
 ghost use Rattle.fort_group.specs.Yield.{UnitsInOrder};
 
 use crate::chains::is_sensible;
-use crate::link::Link;
 use crate::part::part;
 use crate::spacing::{first_mixed, spacing_of};
-use crate::tree::Grouped;
-use fort_base::{CheckFault, Place, Rule};
+use fort_base::{CheckFault, Rule};
+use fort_flats::row;
+use fort_tree::{Flat, Grouped, Row};
 use std::alloc::Global;
 
 /// An infix operator has a gap on one side only.
@@ -18,26 +19,34 @@ pub const SPACING_CONTRADICTS: Rule = Rule(303);
 /// A chain has no one sense.
 pub const BAD_CHAIN: Rule = Rule(304);
 
-/// The one grouping of a flat expression, from what stands between its units, one item fewer than
-/// there are units; `start` is the place of its first token.
+/// The one grouping of a flat expression; its numbers are places of units, counted from 0.
 ///
 /// It refuses the lowest rule that is broken: 301 at the first operator with a gap on one side only;
 /// 302 where there is no grouping, 303 where the spacing contradicts it, 304 where one of its chains
-/// mixes senses, all three at `start`.
-pub fn group(alloc: Global, start: Place, links: &[Link]) -> Result<Grouped, CheckFault>
-    ensures { Answers links.now start result }
+/// mixes senses, all three at the flat expression's first token. The chapter "Operators".
+pub fn group(alloc: Global, flat: &Flat) -> Result<Grouped, CheckFault>
+    ensures { Answers (row_of flat.now) result }
 {
-    if let Some(place) = first_mixed(links) {
+    let row = row(alloc, flat)?;
+    group_row(alloc, &row)
+}
+
+/// The same from what the grouping depends on.
+pub fn group_row(alloc: Global, row: &Row) -> Result<Grouped, CheckFault>
+    ensures { Answers row.now result }
+{
+    let joints = row.joints.as_slice();
+    if let Some(place) = first_mixed(joints) {
         return Err(CheckFault::Refused(MIXED_SPACING, place));
     }
-    match part(alloc, links, 0, links.len())? {
-        None => Err(CheckFault::Refused(NO_PRECEDENCE, start)),
+    match part(alloc, joints, 0, joints.len())? {
+        None => Err(CheckFault::Refused(NO_PRECEDENCE, row.place)),
         Some(tree) => {
-            if !spacing_of(&tree, links).good {
-                return Err(CheckFault::Refused(SPACING_CONTRADICTS, start));
+            if !spacing_of(&tree, joints).good {
+                return Err(CheckFault::Refused(SPACING_CONTRADICTS, row.place));
             }
             if !is_sensible(&tree) {
-                return Err(CheckFault::Refused(BAD_CHAIN, start));
+                return Err(CheckFault::Refused(BAD_CHAIN, row.place));
             }
             Ok(tree)
         }
@@ -47,6 +56,12 @@ pub fn group(alloc: Global, start: Place, links: &[Link]) -> Result<Grouped, Che
 /// A law of groupings: a flat expression has one at most, whatever `group` answers.
 pub fn one_grouping_at_most()
     ensures { OneAtMost }
+{}
+
+/// A law of flat expressions: each has a grouping that breaks no rule, or breaks one, and none both.
+pub fn one_answer()
+    ensures some { EachAnswered }
+    ensures apart { NeverBoth }
 {}
 
 /// A law of groupings: the units stand in them in order.

@@ -1,9 +1,9 @@
 ghost use Rattle.std.specs.Prelude.{◌≡◌};
 ghost use Rattle.fort_group.specs.Walks.{equal_senses, has_sense, good_chain, sensible, all_sensible};
 
-use crate::tree::Grouped;
 use fort_base::List;
 use fort_ops::{Op, Sense, sense};
+use fort_tree::Grouped;
 
 /// Whether two senses are the same.
 fn is_same(a: Sense, b: Sense) -> bool

@@ -7,7 +7,7 @@ use fort_ops::Op;
 #[derive(Clone, Copy)]
 pub enum Form {
     /// Units side by side.
-    Row,
+    Juxt,
     /// Relational operators.
     Chain,
     /// Any other operator.
@@ -19,7 +19,7 @@ pub fn node_form(op: Op) -> Form
     ensures { result ≡ form_of op }
 {
     match op {
-        Op::Juxt => Form::Row,
+        Op::Juxt => Form::Juxt,
         Op::Eq | Op::Ne | Op::Lt | Op::Le | Op::Gt | Op::Ge | Op::Same => Form::Chain,
         _ => Form::Binary,
     }

@@ -1,14 +1,14 @@
 ghost use Rattle.std.specs.Prelude.{◌≡◌, IsTrue, IfOk, ◌↔◌};
 ghost use Rattle.fort_ops.specs.Precedence.{group_of};
-ghost use Rattle.fort_group.specs.declared.tree.Grouped.{out-Grouped};
+ghost use Rattle.fort_tree.specs.declared.grouped.Grouped.{out-Grouped};
 ghost use Rattle.fort_group.specs.Grouping.{root, fits, Continues, FitsLeft};
 ghost use Rattle.fort_group.specs.Joining.{juxtaposed, first_link, linked, Pairs, Joins};
 
 use crate::form::{Form, node_form};
 use crate::number::same_side;
-use crate::tree::Grouped;
 use fort_base::{Boxed, List, Memory};
 use fort_ops::{Op, over};
+use fort_tree::Grouped;
 use std::alloc::Global;
 
 /// Whether a tree may stand under an operator: it is a unit, or its own operator is over it. A chain
@@ -41,7 +41,7 @@ fn fits_left(tree: &Grouped, op: Op) -> bool
     fits(tree, op) || continues(tree, op)
 }
 
-/// Units side by side with one more; none where the left part is no unit and no such row, or the
+/// Units side by side with one more; none where the left part is no unit and no juxtaposition, or the
 /// right one no unit.
 fn juxtapose(alloc: Global, left: Grouped, right: Grouped) -> Result<Option<Grouped>, Memory>
     ensures { IfOk result (λ o. o ≡ juxtaposed left right) }
@@ -111,7 +111,7 @@ pub fn join(alloc: Global, op: Op, left: Grouped, right: Grouped) -> Result<Opti
     ensures { IfOk result (λ o. Joins op left right o) }
 {
     match node_form(op) {
-        Form::Row => juxtapose(alloc, left, right),
+        Form::Juxt => juxtapose(alloc, left, right),
         Form::Chain => link(alloc, op, left, right),
         Form::Binary => pair(alloc, op, left, right),
     }

@@ -1,16 +1,15 @@
-//! The one grouping of a flat expression, from what stands between its units.
+//! The one grouping of a flat expression, and those of a component.
 #![tactic(auto)]
 
 mod answer;
 mod chains;
+mod components;
 mod form;
 mod join;
-mod link;
+mod joint;
 mod number;
 mod part;
 mod spacing;
-mod tree;
 
-pub use answer::{group, groupings_are_in_order, one_grouping_at_most};
-pub use link::Link;
-pub use tree::Grouped;
+pub use answer::{group, groupings_are_in_order, one_answer, one_grouping_at_most};
+pub use components::groups;

@@ -26,10 +26,11 @@ use Rattle.fort_tree.specs.declared.declarations.ObjectParameters.{ObjectParamet
 use Rattle.fort_tree.specs.declared.declarations.Trait.{Trait}
 use Rattle.fort_tree.specs.declared.declarations.TraitMember.{TraitMember}
 use Rattle.fort_tree.specs.declared.declarations.TraitMember.TheVariants as trait_member
+use Rattle.fort_tree.specs.declared.grouped.Row.{Row}
 use Rattle.fort_tree.specs.Types.{parameter_count}
 use Rattle.fort_tree.specs.Declarations.{name_first, method_parameter_count}
 use Rattle.fort_tree.specs.Component.{yield, Obeys, NumbersAreIn}
-use Rattle.fort_tree.specs.Measured.{Measured, Row, made_of, over, all_flats, all_crowded, most_parameters, most_names, most_declarations, most_types}
+use Rattle.fort_tree.specs.Measured.{Measured, made_of, over, all_flats, all_crowded, most_parameters, most_names, most_declarations, most_types}
 use Rattle.fort_tree.specs.Measures.{spot_of, measured_type, measured_parameters}
 use Rattle.fort_tree.specs.Measuring.{measured_expr, measured_variable}
 

@@ -1,8 +1,8 @@
 -- The chapter "Grammar", limits: what a tree measures, the places of its flat expressions and of its crowded forms.
 use Rattle.std.specs.Prelude.{ℕ, cond, nat_lt, List, [], ◌∷◌, ◌++◌, Option, Some, None, length}
-use Rattle.fort_base.specs.declared.refusal.Gap.{Gap}
 use Rattle.fort_base.specs.declared.refusal.Place.{Place}
-use Rattle.fort_ops.specs.declared.op.Op.{Op}
+use Rattle.fort_tree.specs.declared.grouped.Joint.{Joint}
+use Rattle.fort_tree.specs.declared.grouped.Row.{Row}
 use Rattle.fort_tree.specs.declared.spot.Spot.{Spot}
 use Rattle.fort_tree.specs.declared.delimited.Delimited.TheOpen.{Delimited-F, Item-F, Atom-F, Expr-F, FlatPart-F, Generator-F, Head-F, Postfix-F, RunPart-F, Variable-F, Also-F, BlockItem-F, CaseClause-F, Catch-F, Elif-F, ElseBlock-F, ElseClause-F, Finally-F, NextGenerator-F, TypeClause-F, ExprList-F, Flat-F, NextExpr-F, Operand-F, Run-F}
 
@@ -54,19 +54,6 @@ most_names = 32
 
 -- ---- what a tree measures
 
--- How a unit of a flat expression stands to the one before it.
-pub data Joint : Type 0 where
-  -- beside it, without an operator
-  Beside : Joint
-  -- behind an infix operator, with the gaps before and after that
-  Behind : Op → Gap → Gap → Joint
-
--- What the grouping of a flat expression depends on: where it begins, and how each unit but the first stands to the one
--- before it.
-pub record Row : Type 0 where
-  pub place : Place
-  pub joints : List Joint
-
 -- What a tree measures.
 pub record Measured : Type 0 where
   -- where its first token stands
@@ -98,6 +85,10 @@ over most count place = cond (nat_lt most count) (place ∷ []) []
 -- what a form measures that begins there, by its own crowding and its parts
 abbrev pub made_of : Spot → List Place → List Measured → Measured
 made_of spot own parts = record { spot = spot; flats = all_flats parts; crowded = own ++ all_crowded parts }
+
+-- the same of a type, in which no flat expression stands
+abbrev pub made_in_type : Spot → List Place → List Measured → Measured
+made_in_type spot own parts = record { spot = spot; flats = []; crowded = own ++ all_crowded parts }
 
 -- what may be left out, as a list
 abbrev pub maybe_measured : Option Measured → List Measured

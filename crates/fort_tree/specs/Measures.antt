@@ -1,6 +1,8 @@
 -- The chapter "Grammar", limits: what one level of each tree measures. The code counts while it walks a tree.
 use Rattle.std.specs.Prelude.{◌+◌, List, [], ◌∷◌, ◌++◌, Option, Some, None, length, map}
 use Rattle.fort_token.specs.declared.token.Token.{Token}
+use Rattle.fort_tree.specs.declared.grouped.Joint.TheVariants.{Beside, Behind}
+use Rattle.fort_tree.specs.declared.grouped.Row.{Row}
 use Rattle.fort_tree.specs.declared.spot.Spot.{Spot}
 use Rattle.fort_tree.specs.declared.declarations.Parameters.{Parameters}
 use Rattle.fort_tree.specs.declared.delimited.Delimited.TheOpen.{Delimited-F, Item-F, Atom-F, Expr-F, FlatPart-F, Generator-F, Head-F, Postfix-F, RunPart-F}
@@ -14,7 +16,7 @@ use Rattle.fort_tree.specs.declared.types.SimpleType.TheOpen.{SimpleType-F, Type
 use Rattle.fort_tree.specs.declared.types.SimpleType.TheFolds.{fold-SimpleType, fold-TypeTree, fold-NextType, fold-TypeList}
 use Rattle.fort_tree.specs.Types.{parameter_count}
 use Rattle.fort_tree.specs.Flats.{big_first}
-use Rattle.fort_tree.specs.Measured.{Measured, Beside, Behind, Row, Joined, Listed, listed_parts, all_flats, all_crowded, made_of, over, maybe_measured, block_measured, most_parameters, most_tuple_parts, most_generators, most_units, most_elements, most_also_blocks, most_clauses, MeasuredDelimited, MeasuredItem, MeasuredAtom, MeasuredExpr, MeasuredFlatPart, MeasuredGenerator, MeasuredHead, MeasuredPostfix, MeasuredRunPart, MeasuredVariable, MeasuredAlso, MeasuredBlockItem, MeasuredCaseClause, MeasuredCatch, MeasuredElif, MeasuredElseBlock, MeasuredElseClause, MeasuredFinally, MeasuredNextGenerator, MeasuredTypeClause, MeasuredExprList, MeasuredFlat, MeasuredNextExpr, MeasuredOperand, MeasuredRun}
+use Rattle.fort_tree.specs.Measured.{Measured, Joined, Listed, listed_parts, all_flats, all_crowded, made_of, made_in_type, over, maybe_measured, block_measured, most_parameters, most_tuple_parts, most_generators, most_units, most_elements, most_also_blocks, most_clauses, MeasuredDelimited, MeasuredItem, MeasuredAtom, MeasuredExpr, MeasuredFlatPart, MeasuredGenerator, MeasuredHead, MeasuredPostfix, MeasuredRunPart, MeasuredVariable, MeasuredAlso, MeasuredBlockItem, MeasuredCaseClause, MeasuredCatch, MeasuredElif, MeasuredElseBlock, MeasuredElseClause, MeasuredFinally, MeasuredNextGenerator, MeasuredTypeClause, MeasuredExprList, MeasuredFlat, MeasuredNextExpr, MeasuredOperand, MeasuredRun}
 
 -- where a token stands
 abbrev pub spot_of : Token → Spot
@@ -24,14 +26,14 @@ spot_of t = record { gap = t.gap; place = t.place }
 
 -- what a simple type measures; a list in parentheses is counted
 abbrev pub measure_simple_type : SimpleType-F Measured Measured Measured Listed → Measured
-measure_simple_type (SimpleType-F.Named n) = made_of n.spot [] []
-measure_simple_type (SimpleType-F.Array array left element comma index right) = made_of array.spot [] (element ∷ [])
-measure_simple_type (SimpleType-F.Parts left parts right) = made_of left (over most_tuple_parts (length (listed_parts parts)) left.place) (listed_parts parts)
+measure_simple_type (SimpleType-F.Named n) = made_in_type n.spot [] []
+measure_simple_type (SimpleType-F.Array array left element comma index right) = made_in_type array.spot [] (element ∷ [])
+measure_simple_type (SimpleType-F.Parts left parts right) = made_in_type left (over most_tuple_parts (length (listed_parts parts)) left.place) (listed_parts parts)
 
 -- what a type measures
 abbrev pub measure_type_tree : TypeTree-F Measured Measured Measured Listed → Measured
 measure_type_tree (TypeTree-F.Simple simple) = simple
-measure_type_tree (TypeTree-F.Arrow domain arrow result) = made_of domain.spot [] (domain ∷ result ∷ [])
+measure_type_tree (TypeTree-F.Arrow domain arrow result) = made_in_type domain.spot [] (domain ∷ result ∷ [])
 
 -- what a further type of a list measures
 abbrev pub measure_next_type : NextType-F Measured Measured Measured Listed → Measured
@@ -96,7 +98,7 @@ measure_flat flat = let parts = flat.first ∷ map (λ part. part.unit) flat.res
 -- what a further unit measures, and how it stands to the one before it
 abbrev pub measure_flat_part : MeasuredFlatPart → Joined
 measure_flat_part (FlatPart-F.Run run) = record { joint = Beside; unit = run }
-measure_flat_part (FlatPart-F.Infix sign operand) = record { joint = Behind sign.op sign.spot.gap operand.spot.gap; unit = operand }
+measure_flat_part (FlatPart-F.Infix sign operand) = record { joint = Behind sign operand.spot.gap; unit = operand }
 
 -- where a unit begins
 abbrev pub prefix_spot : Option Prefix → Spot → Spot

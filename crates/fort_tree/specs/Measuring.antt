@@ -25,7 +25,8 @@ use Rattle.fort_tree.specs.declared.expr.NextExpr.{NextExpr}
 use Rattle.fort_tree.specs.declared.expr.Operand.{Operand}
 use Rattle.fort_tree.specs.declared.expr.Run.{Run}
 use Rattle.fort_tree.specs.declared.delimited.Delimited.TheFolds.{fold-Delimited, fold-Item, fold-Atom, fold-Expr, fold-FlatPart, fold-Generator, fold-Head, fold-Postfix, fold-RunPart, fold-Variable, fold-Also, fold-BlockItem, fold-CaseClause, fold-Catch, fold-Elif, fold-ElseBlock, fold-ElseClause, fold-Finally, fold-NextGenerator, fold-TypeClause, fold-ExprList, fold-Flat, fold-NextExpr, fold-Operand, fold-Run}
-use Rattle.fort_tree.specs.Measured.{Measured, Joined, Listed, Row}
+use Rattle.fort_tree.specs.declared.grouped.Row.{Row}
+use Rattle.fort_tree.specs.Measured.{Measured, Joined, Listed}
 use Rattle.std.specs.Prelude.{map}
 use Rattle.fort_tree.specs.Measures.{row, measure_delimited, measure_item, measure_atom, measure_expr, measure_flat_part, measure_generator, measure_head, measure_postfix, measure_run_part, measure_variable, measure_also, measure_block_item, measure_case_clause, measure_catch, measure_elif, measure_else_block, measure_else_clause, measure_finally, measure_next_generator, measure_type_clause, measure_expr_list, measure_flat, measure_next_expr, measure_operand, measure_run}
 

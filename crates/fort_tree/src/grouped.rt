@@ -1,6 +1,24 @@
-//! The groupings of flat expressions.
-use fort_base::{Boxed, List, Place};
+//! Flat expressions as rows of units, and their groupings.
+use crate::spot::Sign;
+use fort_base::{Boxed, Gap, List, Place};
 use fort_ops::Op;
+
+/// How a unit of a flat expression stands to the one before it.
+#[derive(Clone, Copy, Debug, PartialEq, Eq)]
+pub enum Joint {
+    /// Beside it, without an operator.
+    Beside,
+    /// Behind an infix operator, with the gap between that and the unit.
+    Behind(Sign, Gap),
+}
+
+/// What the grouping of a flat expression depends on: the place of its first token, and how each unit but the
+/// first stands to the one before it.
+#[derive(Drop)]
+pub struct Row {
+    pub place: Place,
+    pub joints: List<Joint>,
+}
 
 /// A grouping of a flat expression, or of a part of it; its numbers are places of units, counted from 0.
 #[derive(Drop)]

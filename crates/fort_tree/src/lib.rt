@@ -23,6 +23,6 @@ pub use expr::{
     AssignSign, Atom, Big, Expr, ExprList, Flat, FlatPart, Generator, Head, NextExpr, Operand,
     Postfix, Prefix, Run, RunPart,
 };
-pub use grouped::{FlatGrouping, Grouped, Groups};
+pub use grouped::{FlatGrouping, Grouped, Groups, Joint, Row};
 pub use spot::{Name, NextName, Sign, Spot};
 pub use types::{NextType, SimpleType, TypeList, TypeTree};

@@ -20,4 +20,4 @@ of_chain-loop-part-preserved t c =
 
 pub spacing_of-returns-in-Chain : goal.spacing_of-returns-in-Chain
 spacing_of-returns-in-Chain t c =
-    c.of_chain.ensures ∙ sym (chain_law _ _ _) ∙ ap (spaced c.args.links.now) (sym c.in-Chain.is)
+    c.of_chain.ensures ∙ sym (chain_law _ _ _) ∙ ap (spaced c.args.joints.now) (sym c.in-Chain.is)

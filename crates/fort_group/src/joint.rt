@@ -1,34 +1,34 @@
 ghost use Rattle.std.specs.Prelude.{◌≡◌, ◌<◌, length, Some};
 ghost use Rattle.fort_ops.specs.Precedence.{group_of, rank};
-ghost use Rattle.fort_group.specs.Links.{between, strength};
+ghost use Rattle.fort_group.specs.Joints.{operator_of, between, strength};
 
-use fort_base::Place;
 use fort_ops::Op;
+use fort_tree::Joint;
 
-/// What stands between a unit and the next: an infix operator, or `Op::Juxt` where they stand side
-/// by side; whether a gap stands before it and after it; and its place.
-#[derive(Clone, Copy, Debug)]
-pub struct Link {
-    pub op: Op,
-    pub before: bool,
-    pub after: bool,
-    pub place: Place,
+/// The operator of a joint.
+fn operator(joint: &Joint) -> Op
+    ensures { result ≡ operator_of joint.now }
+{
+    match joint {
+        Joint::Beside => Op::Juxt,
+        Joint::Behind(sign, _) => sign.op,
+    }
 }
 
 /// The operator between the unit at a place and the next one.
-pub fn operator_at(links: &[Link], at: usize) -> Op
-    requires { at < length links.now }
-    ensures { between links.now at ≡ Some result }
+pub fn operator_at(joints: &[Joint], at: usize) -> Op
+    requires { at < length joints.now }
+    ensures { between joints.now at ≡ Some result }
 {
-    links[at].op
+    operator(&joints[at])
 }
 
 /// The rank of the operator between the unit at a place and the next one.
-pub fn strength_at(links: &[Link], at: usize) -> u8
-    requires { at < length links.now }
-    ensures { result ≡ strength links.now at }
+pub fn strength_at(joints: &[Joint], at: usize) -> u8
+    requires { at < length joints.now }
+    ensures { result ≡ strength joints.now at }
 {
-    own_rank(operator_at(links, at))
+    own_rank(operator_at(joints, at))
 }
 
 /// A number that is larger at an operator than at each that it stands over.
