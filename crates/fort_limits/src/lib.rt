@@ -1,0 +1,11 @@
+//! The limits of a component: how deep its tokens stand, and what there is too much of.
+#![tactic(auto)]
+
+mod blocks;
+mod exprs;
+mod openers;
+mod places;
+mod types;
+mod walk;
+
+pub use openers::first_deep;
