@@ -1,5 +1,5 @@
 -- The chapter "Grammar", limits: what a walk over each form of an expression finds.
-use Rattle.std.proofs.Common.{◌≡◌, ℕ, ◌+◌, ◌++◌, List, Option, Some, ap, ◌∙◌, length}
+use Rattle.std.proofs.Common.{◌≡◌, ℕ, ◌+◌, ◌++◌, List, Option, ap, length}
 use Rattle.std.specs.Prelude.{map, option_map}
 use Rattle.std.proofs.lemmas.List.{length-map}
 use Rattle.std.proofs.lemmas.Simd.{map-map}
@@ -8,7 +8,6 @@ use Rattle.fort_tree.specs.declared.spot.Spot.{Spot}
 use Rattle.fort_tree.specs.declared.spot.Name.{Name}
 use Rattle.fort_tree.specs.declared.spot.Sign.{Sign}
 use Rattle.fort_tree.specs.declared.expr.Prefix.{Prefix}
-use Rattle.fort_tree.specs.declared.expr.Prefix.TheVariants as a_prefix
 use Rattle.fort_tree.specs.declared.expr.Big.{Big}
 use Rattle.fort_tree.specs.declared.expr.AssignSign.{AssignSign}
 use Rattle.fort_tree.specs.declared.declarations.Parameters.{Parameters}
@@ -178,10 +177,3 @@ next_expr_walks found x = simp next_expr_measures
 -- how many expressions a list has
 pub expr_list_count : (x : ExprList) → length (measured_expr_list x).parts ≡ 1 + length (out-ExprList x).others
 expr_list_count x = simp (expr_list_measures, length-map) (one_and (length (out-ExprList x).others))
-
--- where a unit begins that has a prefix operator
-pub behind_minus : (x : Operand) (s : Spot) → (out-Operand x).prefix ≡ Some (a_prefix.Minus s) → (measured_operand x).spot.place ≡ s.place
-behind_minus x s e = rw operand_measures (rw e)
-
-pub behind_not : (x : Operand) (s : Spot) → (out-Operand x).prefix ≡ Some (a_prefix.Not s) → (measured_operand x).spot.place ≡ s.place
-behind_not x s e = rw operand_measures (rw e)

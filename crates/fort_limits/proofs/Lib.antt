@@ -3,3 +3,6 @@ pub mod TypeWalks
 pub mod ExprWalks
 pub mod BlockWalks
 pub mod Deep
+pub mod Least
+pub mod CensusLaws
+pub mod DeclarationWalks

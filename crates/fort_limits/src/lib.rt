@@ -2,10 +2,14 @@
 #![tactic(auto)]
 
 mod blocks;
+mod census;
+mod crowded;
+mod declarations;
 mod exprs;
 mod openers;
 mod places;
 mod types;
 mod walk;
 
+pub use crowded::first_crowded;
 pub use openers::first_deep;

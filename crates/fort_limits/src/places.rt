@@ -1,8 +1,9 @@
 //! Where a tree begins.
-ghost use Rattle.std.specs.Prelude.{◌≡◌};
+ghost use Rattle.std.specs.Prelude.{◌≡◌, Some};
+ghost use Rattle.fort_tree.specs.declared.spot.Spot.{Spot};
 ghost use Rattle.fort_tree.specs.Flats.{big_first};
 ghost use Rattle.fort_tree.specs.Declarations.{name_first};
-ghost use Rattle.fort_tree.specs.Measures.{spot_of};
+ghost use Rattle.fort_tree.specs.Measures.{prefix_spot, spot_of};
 ghost use Rattle.fort_tree.specs.Measuring.{measured_delimited, measured_atom, measured_run, measured_operand, measured_flat, measured_head, measured_expr, measured_variable, measured_item};
 
 use fort_base::Place;
@@ -54,9 +55,17 @@ pub(crate) fn place_of_operand(operand: &Operand) -> Place
     ensures { result ≡ (measured_operand operand.now).spot.place }
 {
     match operand.prefix {
-        Some(Prefix::Minus(spot)) => spot.place,
-        Some(Prefix::Not(spot)) => spot.place,
+        Some(prefix) => place_of_prefix(prefix),
         None => place_of_run(&operand.run),
+    }
+}
+
+fn place_of_prefix(prefix: Prefix) -> Place
+    ensures { (at : Spot) → result ≡ (prefix_spot (Some prefix) at).place }
+{
+    match prefix {
+        Prefix::Minus(spot) => spot.place,
+        Prefix::Not(spot) => spot.place,
     }
 }
 

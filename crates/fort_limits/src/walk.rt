@@ -1,5 +1,6 @@
 //! The earliest place of what has too many parts.
 ghost use Rattle.std.specs.Prelude.{◌≡◌, [], ◌∷◌};
+ghost use Rattle.std.specs.Option.{option_to_list};
 ghost use Rattle.fort_tree.specs.Measured.{over};
 ghost use Rattle.fort_limits.specs.Earliest.{earliest, is_before};
 
@@ -24,6 +25,17 @@ impl Walk {
                 }
             }
             None => self.earliest = Some(at),
+        }
+    }
+
+    /// Takes a place into account that may be wanting.
+    #[tactic(auto, using(crate::proofs::EarliestLaws::earliest_none))]
+    pub(crate) fn see_late(&mut self, late: Option<Place>)
+        ensures { self.new.earliest ≡ earliest self.old.earliest (option_to_list late) }
+    {
+        match late {
+            Some(at) => self.see(at),
+            None => {}
         }
     }
 
