@@ -1,5 +1,5 @@
 -- The chapter "Grammar", limits: counts of two lists of places, one after the other.
-use Rattle.std.proofs.Common.{◌≡◌, ℕ, ◌+◌, ◌-◌, ◌<◌, List, [], ◌∷◌, ◌++◌, Option, Some, None, get_or, take, drop, length, zero, suc, refl, sym, ap, ◌∙◌, arith, length-append}
+use Rattle.std.proofs.Common.{◌≡◌, ℕ, ◌+◌, ◌-◌, ◌<◌, ◌≤◌, List, [], ◌∷◌, ◌++◌, Option, Some, None, get_or, take, drop, length, zero, suc, refl, subst, sym, ap, ◌∙◌, arith, length-append}
 use Rattle.std.specs.Prelude.{map}
 use Rattle.std.specs.List.{slice_get, flat_map}
 use Rattle.std.specs.Option.{option_to_list}
@@ -19,7 +19,7 @@ use Rattle.fort_limits.specs.declared.census.Count.{Count}
 use Rattle.fort_limits.specs.Census.{or_else, counted}
 
 get-append : (n : ℕ) (xs ys : List Place) → slice_get (xs ++ ys) n ≡ or_else (slice_get xs n) (slice_get ys (n - length xs))
-get-append n [] ys = refl
+get-append n [] ys = let e : n ≡ n - length {A = Place} [] = omega arith in ap (slice_get ys) e
 get-append zero (x ∷ xs) ys = refl
 get-append (suc n) (x ∷ xs) ys = let e : suc n - length (x ∷ xs) ≡ n - length xs = omega arith in rw e (get-append n xs ys)
 
@@ -27,12 +27,22 @@ or_else-assoc : (a b c : Option Place) → or_else (or_else a b) c ≡ or_else a
 or_else-assoc None b c = refl
 or_else-assoc (Some a) b c = refl
 
+or_else-none : (a : Option Place) → or_else a None ≡ a
+or_else-none None = refl
+or_else-none (Some a) = refl
+
+-- a count, by its parts
+abbrev count_of : ℕ → Option Place → Count
+count_of left late = record { left = left; late = late }
+
+same_count : (a b : ℕ) (x y : Option Place) → a ≡ b → x ≡ y → count_of a x ≡ count_of b y
+same_count a b x y e f = ap (λ n. count_of n x) e ∙ ap (count_of b) f
+
 pub counted_none : (count : Count) → counted count [] ≡ count
 unfolding counted
-counted_none count = simp or_else-none where
-  or_else-none : (a : Option Place) → or_else a None ≡ a
-  or_else-none None = refl
-  or_else-none (Some a) = refl
+counted_none count =
+    let e : count.left - length {A = Place} [] ≡ count.left = omega arith in
+    same_count (count.left - length {A = Place} []) count.left (or_else count.late None) count.late e (or_else-none count.late)
 
 pub counted_append : (count : Count) (xs ys : List Place) → counted count (xs ++ ys) ≡ counted (counted count xs) ys
 unfolding counted
@@ -40,7 +50,8 @@ counted_append count xs ys =
     let e : count.left - length (xs ++ ys) ≡ count.left - length xs - length ys = omega (arith, length-append xs ys) in
     let f : or_else count.late (slice_get (xs ++ ys) count.left) ≡ or_else (or_else count.late (slice_get xs count.left)) (slice_get ys (count.left - length xs)) =
       ap (or_else count.late) (get-append count.left xs ys) ∙ sym (or_else-assoc count.late (slice_get xs count.left) (slice_get ys (count.left - length xs))) in
-    cc
+    same_count (count.left - length (xs ++ ys)) (count.left - length xs - length ys) (or_else count.late (slice_get (xs ++ ys) count.left))
+      (or_else (or_else count.late (slice_get xs count.left)) (slice_get ys (count.left - length xs))) e f
 
 -- the places behind so many, as a count finds the first of them
 pub late_places : (most : ℕ) (places : List Place) → first_behind most places ≡ option_to_list (slice_get places most)
@@ -73,13 +84,21 @@ within (suc n) (Some p) at h = refl
 pub seen_within : (count : Count) (at : Place) → 0 < count.left → record { left = count.left - 1; late = count.late } ≡ counted count (at ∷ [])
 seen_within count at h = within count.left count.late at h
 
-pub seen_late : (count : Count) (at p : Place) → count.left ≤ 0 → count.late ≡ Some p → count ≡ counted count (at ∷ [])
+over-late : (left : ℕ) (at p : Place) → left ≡ 0 → count_of left (Some p) ≡ counted (count_of left (Some p)) (at ∷ [])
 unfolding counted
-seen_late count at p h e = let z : count.left ≡ 0 = omega arith in rw (e, z) (cc)
+over-late zero at p e = refl
+over-late (suc left) at p e = absurd (omega arith)
+
+pub seen_late : (count : Count) (at p : Place) → count.left ≤ 0 → count.late ≡ Some p → count ≡ counted count (at ∷ [])
+seen_late count at p h e = let z : count.left ≡ 0 = omega arith in subst (λ (late : Option Place). count_of count.left late ≡ counted (count_of count.left late) (at ∷ [])) (sym e) (over-late count.left at p z)
+
+over-first : (left : ℕ) (at : Place) → left ≡ 0 → count_of left (Some at) ≡ counted (count_of left None) (at ∷ [])
+unfolding counted
+over-first zero at e = refl
+over-first (suc left) at e = absurd (omega arith)
 
 pub seen_first : (count : Count) (at : Place) → count.left ≤ 0 → count.late ≡ None → record { left = count.left; late = Some at } ≡ counted count (at ∷ [])
-unfolding counted
-seen_first count at h e = let z : count.left ≡ 0 = omega arith in rw (e, z) (cc)
+seen_first count at h e = let z : count.left ≡ 0 = omega arith in subst (λ (late : Option Place). count_of count.left (Some at) ≡ counted (count_of count.left late) (at ∷ [])) (sym e) (over-first count.left at z)
 
 -- a declaration is counted, and then its members
 module _ (count : Count) (d : Declared) where
