@@ -11,5 +11,13 @@ mod places;
 mod types;
 mod walk;
 
+use fort_base::Rule;
+
 pub use crowded::first_crowded;
 pub use openers::first_deep;
+
+/// A token stands inside more than 100 openers.
+pub const TOO_DEEP: Rule = Rule(202);
+
+/// A count passes its limit.
+pub const TOO_MANY: Rule = Rule(203);

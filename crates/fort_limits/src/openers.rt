@@ -96,13 +96,13 @@ fn round(change: Change, depth: u32) -> u32
 }
 
 /// How many openers are open behind a token.
-fn behind(change: Change, depth: u32) -> u32
-    requires { depth < 1000 }
-    ensures { result ≡ turned (meaning_of change) depth }
+fn behind(change: Change, open: u32) -> u32
+    requires { open < 1000 }
+    ensures { result ≡ turned (meaning_of change) open }
 {
     match change {
-        Change::Opens => depth + 1,
-        Change::Closes => depth.saturating_sub(1),
-        Change::Stays => depth,
+        Change::Opens => open + 1,
+        Change::Closes => open.saturating_sub(1),
+        Change::Stays => open,
     }
 }
