@@ -1,5 +1,5 @@
 -- The chapter "Grammar", limits: what a walk over each form that ends with `end`, and each part of one, finds.
-use Rattle.std.proofs.Common.{◌≡◌, ℕ, ◌+◌, List, [], ◌∷◌, Option, Some, None, length, ap, ◌∙◌}
+use Rattle.std.proofs.Common.{◌≡◌, ◌+◌, List, [], ◌∷◌, Option, Some, None, length, ap, ◌∙◌}
 use Rattle.std.specs.List.{slice_get}
 use Rattle.std.specs.Prelude.{map, option_map}
 use Rattle.std.proofs.lemmas.List.{length-map, append-nil}
@@ -7,25 +7,22 @@ use Rattle.fort_base.specs.declared.refusal.Place.{Place}
 use Rattle.fort_tree.specs.declared.spot.Spot.{Spot}
 use Rattle.fort_tree.specs.declared.spot.Name.{Name}
 use Rattle.fort_tree.specs.declared.spot.NextName.{NextName}
-use Rattle.fort_tree.specs.declared.declarations.InitialSign.{InitialSign}
 use Rattle.fort_tree.specs.declared.types.TypeTree.{TypeTree}
-use Rattle.fort_tree.specs.declared.delimited.Delimited.{the_lemmas}
 use Rattle.fort_tree.specs.declared.delimited.Delimited.TheVariants as a_delimited
-use Rattle.fort_tree.specs.declared.delimited.Item.{Item}
 use Rattle.fort_tree.specs.declared.delimited.Item.TheVariants as an_item
 use Rattle.fort_tree.specs.declared.expr.Expr.{Expr}
 use Rattle.fort_tree.specs.declared.expr.Generator.{Generator}
-use Rattle.fort_tree.specs.declared.declarations.Variable.{Variable, out-Variable, roll-Variable}
-use Rattle.fort_tree.specs.declared.delimited.Also.{Also, out-Also, roll-Also}
-use Rattle.fort_tree.specs.declared.delimited.BlockItem.{BlockItem, out-BlockItem, roll-BlockItem}
-use Rattle.fort_tree.specs.declared.delimited.CaseClause.{CaseClause, out-CaseClause, roll-CaseClause}
-use Rattle.fort_tree.specs.declared.delimited.Catch.{Catch, out-Catch, roll-Catch}
-use Rattle.fort_tree.specs.declared.delimited.Elif.{Elif, out-Elif, roll-Elif}
-use Rattle.fort_tree.specs.declared.delimited.ElseBlock.{ElseBlock, out-ElseBlock, roll-ElseBlock}
-use Rattle.fort_tree.specs.declared.delimited.ElseClause.{ElseClause, out-ElseClause, roll-ElseClause}
-use Rattle.fort_tree.specs.declared.delimited.Finally.{Finally, out-Finally, roll-Finally}
-use Rattle.fort_tree.specs.declared.delimited.NextGenerator.{NextGenerator, out-NextGenerator, roll-NextGenerator}
-use Rattle.fort_tree.specs.declared.delimited.TypeClause.{TypeClause, out-TypeClause, roll-TypeClause}
+use Rattle.fort_tree.specs.declared.declarations.Variable.{Variable, out-Variable}
+use Rattle.fort_tree.specs.declared.delimited.Also.{Also, out-Also}
+use Rattle.fort_tree.specs.declared.delimited.BlockItem.{BlockItem, out-BlockItem}
+use Rattle.fort_tree.specs.declared.delimited.CaseClause.{CaseClause, out-CaseClause}
+use Rattle.fort_tree.specs.declared.delimited.Catch.{Catch, out-Catch}
+use Rattle.fort_tree.specs.declared.delimited.Elif.{Elif, out-Elif}
+use Rattle.fort_tree.specs.declared.delimited.ElseBlock.{ElseBlock, out-ElseBlock}
+use Rattle.fort_tree.specs.declared.delimited.ElseClause.{ElseClause, out-ElseClause}
+use Rattle.fort_tree.specs.declared.delimited.Finally.{Finally, out-Finally}
+use Rattle.fort_tree.specs.declared.delimited.NextGenerator.{NextGenerator, out-NextGenerator}
+use Rattle.fort_tree.specs.declared.delimited.TypeClause.{TypeClause, out-TypeClause}
 use Rattle.fort_tree.specs.declared.expr.Flat.{Flat}
 use Rattle.fort_tree.specs.Measuring.{measured_delimited, measured_item, measured_expr, measured_generator, measured_variable, measured_also, measured_block_item, measured_case_clause, measured_catch, measured_elif, measured_else_block, measured_else_clause, measured_finally, measured_next_generator, measured_type_clause, measured_flat}
 use Rattle.fort_tree.specs.Measured.{Measured, all_crowded, block_measured, listed_parts, maybe_measured, most_generators, most_items, most_also_blocks, most_clauses, over}

@@ -1,5 +1,5 @@
 -- The chapter "Grammar", limits: counts of two lists of places, one after the other.
-use Rattle.std.proofs.Common.{◌≡◌, ℕ, ◌+◌, ◌-◌, ◌<◌, ◌≤◌, List, [], ◌∷◌, ◌++◌, Option, Some, None, get_or, take, drop, length, zero, suc, refl, subst, sym, ap, ◌∙◌, arith, length-append}
+use Rattle.std.proofs.Common.{◌≡◌, ℕ, ◌+◌, ◌-◌, ◌<◌, ◌≤◌, List, [], ◌∷◌, ◌++◌, Option, Some, None, get_or, take, length, zero, suc, refl, subst, sym, ap, ◌∙◌, arith, length-append}
 use Rattle.std.specs.Prelude.{map}
 use Rattle.std.specs.List.{slice_get, flat_map}
 use Rattle.std.specs.Option.{option_to_list}
@@ -7,7 +7,6 @@ use Rattle.std.proofs.lemmas.List.{take_more, map-append, append-nil}
 use Rattle.std.proofs.lemmas.Grind.{flat_map-append}
 use Rattle.fort_base.specs.declared.refusal.Place.{Place}
 use Rattle.std.proofs.lemmas.Simd.{map-map}
-use Rattle.fort_tree.specs.declared.declarations.Component.{Component}
 use Rattle.fort_tree.specs.declared.declarations.Declaration.TheVariants as declaration
 use Rattle.fort_tree.specs.declared.declarations.Declared.{Declared}
 use Rattle.fort_tree.specs.declared.declarations.Function.{Function}

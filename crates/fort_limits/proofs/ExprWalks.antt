@@ -1,5 +1,5 @@
 -- The chapter "Grammar", limits: what a walk over each form of an expression finds.
-use Rattle.std.proofs.Common.{◌≡◌, ℕ, ◌+◌, ◌++◌, List, Option, ap, length}
+use Rattle.std.proofs.Common.{◌≡◌, ℕ, ◌+◌, ◌++◌, Option, ap, length}
 use Rattle.std.specs.Prelude.{map, option_map}
 use Rattle.std.proofs.lemmas.List.{length-map}
 use Rattle.std.proofs.lemmas.Simd.{map-map}
@@ -7,17 +7,15 @@ use Rattle.fort_base.specs.declared.refusal.Place.{Place}
 use Rattle.fort_tree.specs.declared.spot.Spot.{Spot}
 use Rattle.fort_tree.specs.declared.spot.Name.{Name}
 use Rattle.fort_tree.specs.declared.spot.Sign.{Sign}
-use Rattle.fort_tree.specs.declared.expr.Prefix.{Prefix}
 use Rattle.fort_tree.specs.declared.expr.Big.{Big}
 use Rattle.fort_tree.specs.declared.expr.AssignSign.{AssignSign}
 use Rattle.fort_tree.specs.declared.declarations.Parameters.{Parameters}
 use Rattle.fort_tree.specs.declared.types.TypeTree.{TypeTree}
-use Rattle.fort_tree.specs.declared.delimited.Delimited.{Delimited, the_lemmas}
+use Rattle.fort_tree.specs.declared.delimited.Delimited.{Delimited}
 use Rattle.fort_tree.specs.declared.expr.Atom.{Atom}
 use Rattle.fort_tree.specs.declared.expr.Atom.TheVariants as an_atom
 use Rattle.fort_tree.specs.declared.expr.Expr.{Expr}
 use Rattle.fort_tree.specs.declared.expr.Expr.TheVariants as an_expr
-use Rattle.fort_tree.specs.declared.expr.FlatPart.{FlatPart}
 use Rattle.fort_tree.specs.declared.expr.FlatPart.TheVariants as a_flat_part
 use Rattle.fort_tree.specs.declared.expr.Generator.{Generator}
 use Rattle.fort_tree.specs.declared.expr.Generator.TheVariants as a_generator
@@ -25,13 +23,12 @@ use Rattle.fort_tree.specs.declared.expr.Head.{Head}
 use Rattle.fort_tree.specs.declared.expr.Head.TheVariants as a_head
 use Rattle.fort_tree.specs.declared.expr.Postfix.{Postfix}
 use Rattle.fort_tree.specs.declared.expr.Postfix.TheVariants as a_postfix
-use Rattle.fort_tree.specs.declared.expr.RunPart.{RunPart}
 use Rattle.fort_tree.specs.declared.expr.RunPart.TheVariants as a_run_part
-use Rattle.fort_tree.specs.declared.expr.ExprList.{ExprList, out-ExprList, roll-ExprList}
-use Rattle.fort_tree.specs.declared.expr.Flat.{Flat, out-Flat, roll-Flat}
-use Rattle.fort_tree.specs.declared.expr.NextExpr.{NextExpr, out-NextExpr, roll-NextExpr}
-use Rattle.fort_tree.specs.declared.expr.Operand.{Operand, out-Operand, roll-Operand}
-use Rattle.fort_tree.specs.declared.expr.Run.{Run, out-Run, roll-Run}
+use Rattle.fort_tree.specs.declared.expr.ExprList.{ExprList, out-ExprList}
+use Rattle.fort_tree.specs.declared.expr.Flat.{Flat, out-Flat}
+use Rattle.fort_tree.specs.declared.expr.NextExpr.{NextExpr, out-NextExpr}
+use Rattle.fort_tree.specs.declared.expr.Operand.{Operand, out-Operand}
+use Rattle.fort_tree.specs.declared.expr.Run.{Run, out-Run}
 use Rattle.fort_tree.specs.Measuring.{measured_delimited, measured_atom, measured_expr, measured_flat_part, measured_generator, measured_head, measured_postfix, measured_run_part, measured_expr_list, measured_flat, measured_next_expr, measured_operand, measured_run}
 use Rattle.fort_tree.specs.Types.{parameter_count}
 use Rattle.fort_tree.specs.Measured.{all_crowded, listed_parts, maybe_measured, most_parameters, most_tuple_parts, most_units, most_elements, over}

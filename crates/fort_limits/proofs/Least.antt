@@ -1,6 +1,6 @@
 -- The chapter "Grammar", limits: the earliest of some places is one of them, and none of them stands before it.
-use Rattle.std.proofs.Common.{◌≡◌, ℕ, ◌+◌, ◌<◌, Bool, true, false, cond, List, [], ◌∷◌, ◌++◌, Option, Some, None, ◌⊎◌, inl, inr, ⊎_elim, zero, suc, length, refl, sym, ap, ◌∙◌, subst, arith, rules}
-use Rattle.std.specs.Prelude.{nat_lt, nat_eq, MatchOption}
+use Rattle.std.proofs.Common.{◌≡◌, Bool, true, false, cond, List, [], ◌∷◌, ◌++◌, Option, Some, None, ◌⊎◌, inl, inr, ⊎_elim, refl, sym, ap, ◌∙◌, subst, arith}
+use Rattle.std.specs.Prelude.{MatchOption}
 use Rattle.std.specs.List.{Contains, flat_map}
 use Rattle.std.proofs.lemmas.List.Elements.{Contains-push, Contains-append_right, Contains-push_cases, Contains-append_cases}
 use Rattle.std.proofs.lemmas.Bool.Decides.{nat_tests}

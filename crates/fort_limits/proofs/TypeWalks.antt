@@ -1,5 +1,5 @@
 -- The chapter "Grammar", limits: what a walk over each form of a type finds.
-use Rattle.std.proofs.Common.{◌≡◌, ℕ, ◌+◌, ◌++◌, List, Option, ap, length}
+use Rattle.std.proofs.Common.{◌≡◌, ◌+◌, ◌++◌, Option, ap, length}
 use Rattle.std.specs.Prelude.{map, option_map}
 use Rattle.std.proofs.lemmas.List.{length-map}
 use Rattle.fort_base.specs.declared.refusal.Place.{Place}
@@ -9,7 +9,6 @@ use Rattle.fort_tree.specs.declared.types.SimpleType.{SimpleType}
 use Rattle.fort_tree.specs.declared.types.SimpleType.TheVariants as a_simple_type
 use Rattle.fort_tree.specs.declared.types.TypeTree.{TypeTree}
 use Rattle.fort_tree.specs.declared.types.TypeTree.TheVariants as a_type_tree
-use Rattle.fort_tree.specs.declared.types.NextType.{NextType}
 use Rattle.fort_tree.specs.declared.types.TypeList.{TypeList, out-TypeList}
 use Rattle.fort_tree.specs.Measured.{all_crowded, listed_parts, most_tuple_parts, over}
 use Rattle.fort_tree.specs.Measures.{measured_type, measured_simple_type, measured_next_type, measured_type_list}

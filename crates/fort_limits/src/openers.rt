@@ -96,13 +96,13 @@ fn round(change: Change, depth: u32) -> u32
 }
 
 /// How many openers are open behind a token.
-fn behind(change: Change, open: u32) -> u32
-    requires { open < 1000 }
-    ensures { result ≡ turned (meaning_of change) open }
+fn behind(change: Change, so_far: u32) -> u32
+    requires { so_far < 1000 }
+    ensures { result ≡ turned (meaning_of change) so_far }
 {
     match change {
-        Change::Opens => open + 1,
-        Change::Closes => open.saturating_sub(1),
-        Change::Stays => open,
+        Change::Opens => so_far + 1,
+        Change::Closes => so_far.saturating_sub(1),
+        Change::Stays => so_far,
     }
 }

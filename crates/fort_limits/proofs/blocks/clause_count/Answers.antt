@@ -1,4 +1,3 @@
-use Rattle.std.proofs.Common.{◌≡◌, length}
 use Rattle.std.proofs.lemmas.List.{length-map}
 use Rattle.fort_tree.proofs.MeasuresBlocks.{catch_measures}
 use Rattle.fort_limits.proofs.blocks.clause_count.Goals as goal

@@ -1,4 +1,4 @@
-use Rattle.std.proofs.Common.{◌≡◌, ap, ◌∙◌}
+use Rattle.std.proofs.Common.{ap, ◌∙◌}
 use Rattle.std.specs.Option.{option_to_list}
 use Rattle.fort_limits.proofs.CensusLaws.{late_is}
 use Rattle.fort_limits.proofs.Least.{answers_all}

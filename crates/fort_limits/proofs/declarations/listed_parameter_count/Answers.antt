@@ -1,4 +1,4 @@
-use Rattle.std.proofs.Common.{◌≡◌, length, sym}
+use Rattle.std.proofs.Common.{sym}
 use Rattle.std.proofs.lemmas.List.{length-map}
 use Rattle.fort_limits.proofs.EarliestLaws.{one_and}
 use Rattle.fort_limits.proofs.declarations.listed_parameter_count.Goals as goal

@@ -1,4 +1,3 @@
-use Rattle.std.proofs.Common.{◌≡◌, length}
 use Rattle.fort_limits.proofs.ExprWalks.{expr_list_count}
 use Rattle.fort_limits.proofs.exprs.expr_count.Goals as goal
 

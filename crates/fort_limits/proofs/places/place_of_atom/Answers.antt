@@ -1,4 +1,3 @@
-use Rattle.std.proofs.Common.{◌≡◌}
 use Rattle.fort_tree.proofs.MeasuresFlats.{measures-ArrayFill, measures-Delimited, measures-False, measures-Name, measures-Number, measures-Parens, measures-Self_, measures-Text, measures-True}
 use Rattle.fort_limits.proofs.places.place_of_atom.Goals as goal
 

@@ -1,4 +1,3 @@
-use Rattle.std.proofs.Common.{◌≡◌}
 use Rattle.fort_tree.proofs.MeasuresBlocks.{measures-Case, measures-Do, measures-For, measures-If, measures-Try, measures-Typecase, measures-While}
 use Rattle.fort_limits.proofs.places.place_of_delimited.Goals as goal
 

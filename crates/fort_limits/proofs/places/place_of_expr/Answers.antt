@@ -1,4 +1,3 @@
-use Rattle.std.proofs.Common.{◌≡◌}
 use Rattle.fort_tree.proofs.MeasuresFlats.{measures-Assign, measures-Flat, measures-Open, measures-OpenAssign}
 use Rattle.fort_limits.proofs.places.place_of_expr.Goals as goal
 

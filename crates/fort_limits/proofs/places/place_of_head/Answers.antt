@@ -1,4 +1,3 @@
-use Rattle.std.proofs.Common.{◌≡◌}
 use Rattle.fort_tree.proofs.MeasuresFlats.{measures-Atomic, measures-Big, measures-Fn, measures-Throw, measures-Tryatomic}
 use Rattle.fort_limits.proofs.places.place_of_head.Goals as goal
 

@@ -1,4 +1,3 @@
-use Rattle.std.proofs.Common.{◌≡◌}
 use Rattle.fort_tree.proofs.MeasuresBlocks.{measures-Expr, measures-Names, measures-Variable}
 use Rattle.fort_limits.proofs.places.place_of_item.Goals as goal
 

@@ -1,4 +1,3 @@
-use Rattle.std.proofs.Common.{◌≡◌}
 use Rattle.fort_tree.proofs.MeasuresFlats.{operand_measures}
 use Rattle.fort_limits.proofs.places.place_of_operand.Goals as goal
 

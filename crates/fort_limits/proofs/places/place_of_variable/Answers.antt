@@ -1,4 +1,3 @@
-use Rattle.std.proofs.Common.{◌≡◌}
 use Rattle.fort_tree.proofs.MeasuresBlocks.{variable_measures}
 use Rattle.fort_limits.proofs.places.place_of_variable.Goals as goal
 

@@ -1,4 +1,3 @@
-use Rattle.std.proofs.Common.{◌≡◌}
 use Rattle.fort_limits.proofs.CensusLaws.{of_variable, of_function, of_trait, of_object}
 use Rattle.fort_limits.proofs.census.Count.declaration.Goals as goal
 

@@ -1,4 +1,4 @@
-use Rattle.std.proofs.Common.{◌≡◌, sym}
+use Rattle.std.proofs.Common.{sym}
 use Rattle.fort_tree.specs.Limits.{measured_object_member}
 use Rattle.fort_limits.proofs.CensusLaws.{counted_none, one_more_place}
 use Rattle.fort_limits.proofs.census.Count.object_members.Goals as goal

@@ -1,4 +1,3 @@
-use Rattle.std.proofs.Common.{◌≡◌}
 use Rattle.fort_limits.proofs.CensusLaws.{seen_within, seen_late, seen_first}
 use Rattle.fort_limits.proofs.census.Count.see.Goals as goal
 

@@ -1,4 +1,3 @@
-use Rattle.std.proofs.Common.{◌≡◌}
 use Rattle.fort_limits.proofs.CensusLaws.{counted_none}
 use Rattle.fort_limits.proofs.census.Count.type_.Goals as goal
 

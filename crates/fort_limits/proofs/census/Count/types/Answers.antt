@@ -1,4 +1,4 @@
-use Rattle.std.proofs.Common.{◌≡◌, sym}
+use Rattle.std.proofs.Common.{sym}
 use Rattle.fort_tree.specs.Limits.{type_places}
 use Rattle.fort_limits.proofs.CensusLaws.{counted_none, one_more_of_all}
 use Rattle.fort_limits.proofs.census.Count.types.Goals as goal

@@ -1,4 +1,4 @@
-use Rattle.std.proofs.Common.{◌≡◌, sym}
+use Rattle.std.proofs.Common.{sym}
 use Rattle.fort_tree.specs.Limits.{measured_declaration}
 use Rattle.fort_limits.proofs.EarliestLaws.{earliest_none, one_more}
 use Rattle.fort_limits.proofs.walk.Walk.declarations.Goals as goal

@@ -1,4 +1,3 @@
-use Rattle.std.proofs.Common.{◌≡◌}
 use Rattle.fort_limits.proofs.DeclarationWalks.{function_walks}
 use Rattle.fort_limits.proofs.walk.Walk.function.Goals as goal
 

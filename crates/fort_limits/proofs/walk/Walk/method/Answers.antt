@@ -1,4 +1,3 @@
-use Rattle.std.proofs.Common.{◌≡◌}
 use Rattle.fort_limits.proofs.DeclarationWalks.{method_walks}
 use Rattle.fort_limits.proofs.walk.Walk.method.Goals as goal
 

@@ -1,4 +1,3 @@
-use Rattle.std.proofs.Common.{◌≡◌}
 use Rattle.std.proofs.lemmas.List.{append-nil}
 use Rattle.fort_limits.proofs.EarliestLaws.{earliest_none}
 use Rattle.fort_limits.proofs.walk.Walk.method_parameter.Goals as goal

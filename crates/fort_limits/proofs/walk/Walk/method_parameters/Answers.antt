@@ -1,4 +1,3 @@
-use Rattle.std.proofs.Common.{◌≡◌}
 use Rattle.fort_limits.proofs.EarliestLaws.{all_crowded-append, earliest_append, earliest_none}
 use Rattle.fort_limits.proofs.walk.Walk.method_parameters.Goals as goal
 

@@ -1,4 +1,4 @@
-use Rattle.std.proofs.Common.{◌≡◌, sym}
+use Rattle.std.proofs.Common.{sym}
 use Rattle.fort_tree.specs.Limits.{measured_method_parameter}
 use Rattle.fort_limits.proofs.EarliestLaws.{earliest_none}
 use Rattle.fort_limits.proofs.DeclarationWalks.{one_more_of_all}

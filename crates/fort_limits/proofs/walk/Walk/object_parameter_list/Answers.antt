@@ -1,4 +1,3 @@
-use Rattle.std.proofs.Common.{◌≡◌}
 use Rattle.fort_limits.proofs.EarliestLaws.{earliest_append, earliest_none}
 use Rattle.fort_limits.proofs.walk.Walk.object_parameter_list.Goals as goal
 

@@ -1,4 +1,3 @@
-use Rattle.std.proofs.Common.{◌≡◌}
 use Rattle.fort_limits.proofs.EarliestLaws.{earliest_none}
 use Rattle.fort_limits.proofs.walk.Walk.object_parameters.Goals as goal
 

@@ -1,4 +1,3 @@
-use Rattle.std.proofs.Common.{◌≡◌}
 use Rattle.fort_limits.proofs.DeclarationWalks.{trait_walks}
 use Rattle.fort_limits.proofs.walk.Walk.trait_.Goals as goal
 

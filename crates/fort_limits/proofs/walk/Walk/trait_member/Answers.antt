@@ -1,4 +1,3 @@
-use Rattle.std.proofs.Common.{◌≡◌}
 use Rattle.fort_limits.proofs.DeclarationWalks.{field_walks}
 use Rattle.fort_limits.proofs.walk.Walk.trait_member.Goals as goal
 

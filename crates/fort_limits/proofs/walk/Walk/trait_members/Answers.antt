@@ -1,4 +1,4 @@
-use Rattle.std.proofs.Common.{◌≡◌, sym}
+use Rattle.std.proofs.Common.{sym}
 use Rattle.fort_tree.specs.Limits.{measured_trait_member}
 use Rattle.fort_limits.proofs.EarliestLaws.{earliest_none, one_more}
 use Rattle.fort_limits.proofs.walk.Walk.trait_members.Goals as goal
