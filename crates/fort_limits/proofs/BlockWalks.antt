@@ -127,9 +127,9 @@ block_first found (x ∷ xs) first e =
     let same : x ≡ first = cc in
     let all : List Place = all_crowded (map measured_block_item (x ∷ xs)) in
     block_walks found (measured_block_item x) (map measured_block_item xs)
-      ∙ ap (λ n. earliest (earliest found (over most_items n (measured_block_item x).spot.place)) all) (length-map (x ∷ xs) measured_block_item)
-      ∙ ap (λ (m : Measured). earliest (earliest found (over most_items (length (x ∷ xs)) m.spot.place)) all) (block_item_measures x)
-      ∙ ap (λ (y : BlockItem). earliest (earliest found (over most_items (length (x ∷ xs)) (measured_item (out-BlockItem y).item).spot.place)) all) same
+    ∙ ap (λ n. earliest (earliest found (over most_items n (measured_block_item x).spot.place)) all) (length-map (x ∷ xs) measured_block_item)
+    ∙ ap (λ (m : Measured). earliest (earliest found (over most_items (length (x ∷ xs)) m.spot.place)) all) (block_item_measures x)
+    ∙ ap (λ (y : BlockItem). earliest (earliest found (over most_items (length (x ∷ xs)) (measured_item (out-BlockItem y).item).spot.place)) all) same
 
 pub block_empty : (found : Option Place) (block : List BlockItem) → None ≡ slice_get block 0 → earliest found (all_crowded (block_measured (map measured_block_item block))) ≡ found
 block_empty found [] e = earliest_none found

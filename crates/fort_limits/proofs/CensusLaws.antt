@@ -48,9 +48,9 @@ unfolding counted
 counted_append count xs ys =
     let e : count.left - length (xs ++ ys) ≡ count.left - length xs - length ys = omega (arith, length-append xs ys) in
     let f : or_else count.late (slice_get (xs ++ ys) count.left) ≡ or_else (or_else count.late (slice_get xs count.left)) (slice_get ys (count.left - length xs)) =
-      ap (or_else count.late) (get-append count.left xs ys) ∙ sym (or_else-assoc count.late (slice_get xs count.left) (slice_get ys (count.left - length xs))) in
+    ap (or_else count.late) (get-append count.left xs ys) ∙ sym (or_else-assoc count.late (slice_get xs count.left) (slice_get ys (count.left - length xs))) in
     same_count (count.left - length (xs ++ ys)) (count.left - length xs - length ys) (or_else count.late (slice_get (xs ++ ys) count.left))
-      (or_else (or_else count.late (slice_get xs count.left)) (slice_get ys (count.left - length xs))) e f
+    (or_else (or_else count.late (slice_get xs count.left)) (slice_get ys (count.left - length xs))) e f
 
 -- the places behind so many, as a count finds the first of them
 pub late_places : (most : ℕ) (places : List Place) → first_behind most places ≡ option_to_list (slice_get places most)

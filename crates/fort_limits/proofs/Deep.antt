@@ -30,7 +30,7 @@ open_more : (ts : List Token) (i : ℕ) (d : Token) → i < length ts
     → open_behind false 0 (take (i + 1) ts) ≡ turned (turn (ends_with_also (take i ts)) (get_or ts i d).kind) (open_behind false 0 (take i ts))
 open_more ts i d lt =
     ap (open_behind false 0) (take_more ts i d lt) ∙ open-push false 0 (take i ts) (get_or ts i d)
-      ∙ ap (λ b. turned (turn b (get_or ts i d).kind) (open_behind false 0 (take i ts))) (sym (ends-also (take i ts)))
+    ∙ ap (λ b. turned (turn b (get_or ts i d).kind) (open_behind false 0 (take i ts))) (sym (ends-also (take i ts)))
 
 -- how many openers are open behind one more token, as the code counts them
 pub depth_more : (ts : List Token) (i : ℕ) (d : Token) (depth : ℕ) (behind : Bool) (does : Turn) (next : ℕ) → i < length ts → depth ≡ open_behind false 0 (take i ts) → behind ≡ ends_with_also (take i ts)

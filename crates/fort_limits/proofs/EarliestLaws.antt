@@ -43,4 +43,4 @@ pub one_more : {A : Type 0} (of : A → Measured) (xs : List A) (i : ℕ) (x : A
 one_more of xs i x found at new lt is so_far step =
     let more : map of (take (i + 1) xs) ≡ map of (take i xs) ++ of x ∷ [] = ap (map of) (take_more xs i x lt ∙ ap (λ y. take i xs ++ y ∷ []) (sym is)) ∙ map-append of (take i xs) (x ∷ []) in
     step ∙ ap (λ (u : Option Place). earliest u (of x).crowded) so_far
-      ∙ sym (ap (λ ms. earliest found (all_crowded ms)) more ∙ simp (all_crowded-append, earliest_append, earliest_none))
+    ∙ sym (ap (λ ms. earliest found (all_crowded ms)) more ∙ simp (all_crowded-append, earliest_append, earliest_none))

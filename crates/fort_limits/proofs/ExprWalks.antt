@@ -85,7 +85,7 @@ pub flat_walks : (found : Option Place) (x : Flat)
     → earliest found (measured_flat x).crowded ≡ earliest (earliest (earliest found (over most_units (1 + length (out-Flat x).rest) (measured_operand (out-Flat x).first).spot.place)) (measured_operand (out-Flat x).first).crowded) (all_crowded (map (λ part. (measured_flat_part part).unit) (out-Flat x).rest))
 flat_walks found x =
     simp (flat_measures, length-map, map-map, earliest_append)
-      (ap (λ n. earliest (earliest (earliest found (over most_units n (measured_operand (out-Flat x).first).spot.place)) (measured_operand (out-Flat x).first).crowded) (all_crowded (map (λ part. (measured_flat_part part).unit) (out-Flat x).rest))) (one_and (length (out-Flat x).rest)))
+    (ap (λ n. earliest (earliest (earliest found (over most_units n (measured_operand (out-Flat x).first).spot.place)) (measured_operand (out-Flat x).first).crowded) (all_crowded (map (λ part. (measured_flat_part part).unit) (out-Flat x).rest))) (one_and (length (out-Flat x).rest)))
 
 pub walks-Run : (found : Option Place) (run : Run)
     → earliest found (measured_flat_part (a_flat_part.Run run)).unit.crowded ≡ earliest found (measured_run run).crowded

@@ -33,6 +33,7 @@ in_cons : (p : Place) (ps : List Place) (o : Place) → Contains (p ∷ ps) o �
 in_cons p ps o h = ⊎_elim (λ k. inl (only k)) inr (Contains-append_cases (p ∷ []) ps o h) where
   none : Contains [] o → ⊥
   none n = omega arith
+
   only : Contains (p ∷ []) o → p ≡ o
   only k = ⊎_elim (λ n. absurd (none n)) (λ e. e) (Contains-push_cases [] p o k)
 
@@ -77,5 +78,5 @@ module _ (c : Component) where
       → found ≡ earliest (earliest (earliest None declarations) types) (all_crowded (measured_declarations c)) → MatchOption found (KeepsLimits c) (λ at. BreaksLimit c at)
   answers_all declarations types found are of_types is =
       answers found (is ∙ sym (earliest_append (earliest None declarations) types (all_crowded (measured_declarations c))) ∙ sym (earliest_append None declarations (types ++ all_crowded (measured_declarations c)))
-        ∙ ap (λ ds. earliest None (ds ++ (types ++ all_crowded (measured_declarations c)))) are
-        ∙ ap (λ ts. earliest None (first_behind most_declarations (flat_map declaration_places c.declarations) ++ (ts ++ all_crowded (measured_declarations c)))) of_types)
+      ∙ ap (λ ds. earliest None (ds ++ (types ++ all_crowded (measured_declarations c)))) are
+      ∙ ap (λ ts. earliest None (first_behind most_declarations (flat_map declaration_places c.declarations) ++ (ts ++ all_crowded (measured_declarations c)))) of_types)

@@ -36,7 +36,7 @@ walks-Parts found left parts right = simp measures-Parts
 
 pub type_list_walks : (found : Option Place) (left : Place) (x : TypeList)
     → earliest found (over most_tuple_parts (length (measured_type_list x).parts) left ++ all_crowded (measured_type_list x).parts)
-      ≡ earliest (earliest (earliest found (over most_tuple_parts (1 + length (out-TypeList x).others) left)) (measured_type (out-TypeList x).first).crowded) (all_crowded (map measured_next_type (out-TypeList x).others))
+    ≡ earliest (earliest (earliest found (over most_tuple_parts (1 + length (out-TypeList x).others) left)) (measured_type (out-TypeList x).first).crowded) (all_crowded (map measured_next_type (out-TypeList x).others))
 type_list_walks found left x =
     simp (type_list_measures, length-map, earliest_append)
-      (ap (λ n. earliest (earliest (earliest found (over most_tuple_parts n left)) (measured_type (out-TypeList x).first).crowded) (all_crowded (map measured_next_type (out-TypeList x).others))) (one_and (length (out-TypeList x).others)))
+    (ap (λ n. earliest (earliest (earliest found (over most_tuple_parts n left)) (measured_type (out-TypeList x).first).crowded) (all_crowded (map measured_next_type (out-TypeList x).others))) (one_and (length (out-TypeList x).others)))

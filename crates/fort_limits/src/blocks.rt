@@ -31,7 +31,10 @@ impl Walk {
     {
         match form {
             Delimited::Do {
-                do_, block, others, ..
+                do_,
+                block,
+                others,
+                ..
             } => {
                 self.count(MOST_ALSO_BLOCKS, 1 + others.as_slice().len(), do_.place);
                 self.block(block);
@@ -50,7 +53,9 @@ impl Walk {
                 self.else_block(otherwise);
             }
             Delimited::While {
-                condition, block, ..
+                condition,
+                block,
+                ..
             } => {
                 self.flat(condition);
                 self.block(block);

@@ -9,8 +9,8 @@ use crate::types::{MOST_PARAMETERS, MOST_TUPLE_PARTS, parameter_count};
 use crate::walk::Walk;
 use fort_base::{Boxed, List};
 use fort_tree::{
-    Atom, Expr, ExprList, Flat, FlatPart, Generator, Head, NextExpr, Operand, Postfix, Run, RunPart,
-    Spot,
+    Atom, Expr, ExprList, Flat, FlatPart, Generator, Head, NextExpr, Operand, Postfix, Run,
+    RunPart, Spot,
 };
 
 /// How many units a flat expression may have.
@@ -75,7 +75,9 @@ impl Walk {
             Head::Tryatomic(_) => {}
             Head::Throw(_) => {}
             Head::Fn {
-                fn_, parameters, ..
+                fn_,
+                parameters,
+                ..
             } => {
                 self.count(MOST_PARAMETERS, parameter_count(parameters), fn_.place);
                 self.parameters(parameters);

@@ -11,9 +11,8 @@ mod places;
 mod types;
 mod walk;
 
-use fort_base::Rule;
-
 pub use crowded::first_crowded;
+use fort_base::Rule;
 pub use openers::first_deep;
 
 /// A token stands inside more than 100 openers.

@@ -47,7 +47,11 @@ impl Walk {
     {
         match parts {
             Some(list) => {
-                self.count(MOST_TUPLE_PARTS, 1 + list.others.as_slice().len(), left.place);
+                self.count(
+                    MOST_TUPLE_PARTS,
+                    1 + list.others.as_slice().len(),
+                    left.place,
+                );
                 self.type_tree(list.first.get());
                 self.next_types(&list.others);
             }
