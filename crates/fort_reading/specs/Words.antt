@@ -74,7 +74,7 @@ tight take t = if is_empty t.gap then take t else None
 
 -- ---- tokens that say more than where they stand
 
-abbrev name_in : Spot → Kind → Option Name
+abbrev pub name_in : Spot → Kind → Option Name
 name_in s (kind.Name id) = Some (record { id = id; spot = s })
 name_in s _ = None
 
@@ -86,7 +86,7 @@ name_of t = name_in (spot_of t) t.kind
 unfoldable pub is_called : List ℕ → Spellings → Name → Bool
 is_called word names name = pointwise nat_eq (get_or names name.id.0 []) word
 
-abbrev called_if : List ℕ → Spellings → Option Name → Option Name
+abbrev pub called_if : List ℕ → Spellings → Option Name → Option Name
 called_if word names None = None
 called_if word names (Some name) = if is_called word names name then Some name else None
 
@@ -94,10 +94,10 @@ called_if word names (Some name) = if is_called word names name then Some name e
 unfoldable pub called_of : List ℕ → Spellings → Token → Option Name
 called_of word names t = called_if word names (name_of t)
 
-abbrev sign_if : Spot → Op → Option Sign
+abbrev pub sign_if : Spot → Op → Option Sign
 sign_if s o = if is_infix o then Some (record { op = o; spot = s }) else None
 
-abbrev sign_in : Spot → Kind → Option Sign
+abbrev pub sign_in : Spot → Kind → Option Sign
 sign_in s (kind.Op o) = sign_if s o
 sign_in s _ = None
 
@@ -105,12 +105,12 @@ sign_in s _ = None
 unfoldable pub sign_of : Token → Option Sign
 sign_of t = sign_in (spot_of t) t.kind
 
-abbrev prefix_op : Spot → Op → Option Prefix
+abbrev pub prefix_op : Spot → Op → Option Prefix
 prefix_op s op.Minus = Some (a_prefix.Minus s)
 prefix_op s op.Not = Some (a_prefix.Not s)
 prefix_op s _ = None
 
-abbrev prefix_in : Spot → Kind → Option Prefix
+abbrev pub prefix_in : Spot → Kind → Option Prefix
 prefix_in s (kind.Op o) = prefix_op s o
 prefix_in s _ = None
 
@@ -118,13 +118,13 @@ prefix_in s _ = None
 unfoldable pub prefix_of : Token → Option Prefix
 prefix_of t = prefix_in (spot_of t) t.kind
 
-abbrev assign_mark : Spot → Mark → Option AssignSign
+abbrev pub assign_mark : Spot → Mark → Option AssignSign
 assign_mark s mark.Becomes = Some (assign_sign.Becomes s)
 assign_mark s mark.AddBecomes = Some (assign_sign.AddBecomes s)
 assign_mark s mark.SubtractBecomes = Some (assign_sign.SubtractBecomes s)
 assign_mark s _ = None
 
-abbrev assign_in : Spot → Kind → Option AssignSign
+abbrev pub assign_in : Spot → Kind → Option AssignSign
 assign_in s (kind.Mark m) = assign_mark s m
 assign_in s _ = None
 
@@ -132,15 +132,15 @@ assign_in s _ = None
 unfoldable pub assign_of : Token → Option AssignSign
 assign_of t = assign_in (spot_of t) t.kind
 
-abbrev initial_op : Spot → Op → Option InitialSign
+abbrev pub initial_op : Spot → Op → Option InitialSign
 initial_op s op.Eq = Some (initial_sign.Equals s)
 initial_op s _ = None
 
-abbrev initial_mark : Spot → Mark → Option InitialSign
+abbrev pub initial_mark : Spot → Mark → Option InitialSign
 initial_mark s mark.Becomes = Some (initial_sign.Becomes s)
 initial_mark s _ = None
 
-abbrev initial_in : Spot → Kind → Option InitialSign
+abbrev pub initial_in : Spot → Kind → Option InitialSign
 initial_in s (kind.Op o) = initial_op s o
 initial_in s (kind.Mark m) = initial_mark s m
 initial_in s _ = None
@@ -149,14 +149,14 @@ initial_in s _ = None
 unfoldable pub initial_of : Token → Option InitialSign
 initial_of t = initial_in (spot_of t) t.kind
 
-abbrev big_op : Spot → Spot → Op → Option Big
+abbrev pub big_op : Spot → Spot → Op → Option Big
 big_op big s op.Max = Some (big_word.Max big s)
 big_op big s op.Min = Some (big_word.Min big s)
 big_op big s op.And = Some (big_word.And big s)
 big_op big s op.Or = Some (big_word.Or big s)
 big_op big s _ = None
 
-abbrev big_in : Spot → Spot → Kind → Option Big
+abbrev pub big_in : Spot → Spot → Kind → Option Big
 big_in big s (kind.Op o) = big_op big s o
 big_in big s _ = None
 
