@@ -1,0 +1,2 @@
+//! Reading types and parameters, over what is left of a row of tokens.
+#![tactic(auto)]
