@@ -1,5 +1,5 @@
 -- What is read, and that it is read.
-use Rattle.std.proofs.Common.{◌≡◌, ℕ, zero, suc, Bool, true, false, cond, List, [], ◌∷◌, ◌++◌, Option, Some, None, refl, sym, ap, subst, ◌∙◌, arith}
+use Rattle.std.proofs.Common.{◌≡◌, ℕ, zero, suc, Bool, true, false, cond, List, [], ◌∷◌, Option, Some, None, refl, ap, subst, ◌∙◌}
 use Rattle.fort_token.specs.declared.token.Token.{Token}
 use Rattle.fort_reading.specs.declared.fault.Fault.{Fault}
 use Rattle.fort_reading.specs.declared.fault.Fault.TheVariants.{TooDeep}

@@ -1,6 +1,5 @@
 -- The tokens that are taken one by one: what is taken is that token, and that token is taken.
-use Rattle.std.proofs.Common.{◌≡◌, ℕ, Bool, true, false, cond, List, [], ◌∷◌, Option, Some, None, refl, sym, ap, subst, ◌∙◌, rules}
-use Rattle.std.specs.Prelude.{◌&&◌, not}
+use Rattle.std.proofs.Common.{◌≡◌, ℕ, Bool, true, false, cond, List, [], ◌∷◌, Option, Some, None, refl, sym, ap, ◌∙◌, rules}
 use denote.Enum.Bare.{same_true}
 use Rattle.fort_ops.specs.declared.op.Op.{Op}
 use Rattle.fort_ops.specs.declared.op.Op.TheVariants as op
@@ -27,8 +26,8 @@ use Rattle.fort_tree.specs.declared.declarations.InitialSign.TheVariants as init
 use Rattle.fort_tree.specs.Tokens.{Spellings, token, word, marked, operator, named, signed, colon, equals, is_empty, is_infix}
 use Rattle.fort_tree.specs.Flats.{assign_token, big_first, big_more}
 use Rattle.fort_tree.specs.Blocks.{initial_token}
-use Rattle.fort_reading.specs.Parser.{Row, accept_run, next_of}
-use Rattle.fort_reading.specs.Words.{same_mark, same_word, is_mark, is_word, is_range, is_eq, is_power, spot_of, spot_if, tight, name_of, is_called, name_in, called_of, called_if, sign_of, sign_in, sign_if, prefix_of, prefix_in, prefix_op, assign_of, assign_in, assign_mark, initial_of, initial_in, initial_op, initial_mark, big_of, big_in, big_op, sees, sees_tight}
+use Rattle.fort_reading.specs.Parser.{Row, accept_run}
+use Rattle.fort_reading.specs.Words.{same_mark, same_word, is_mark, is_word, is_range, is_eq, is_power, spot_of, spot_if, tight, name_of, is_called, name_in, called_of, called_if, sign_of, sign_in, sign_if, prefix_of, prefix_in, prefix_op, assign_of, assign_in, assign_mark, initial_of, initial_in, initial_op, initial_mark, big_of, big_in, big_op}
 use Rattle.fort_reading.proofs.Laws.{Only, only_token, only_accept, Gets, gets_accept}
 
 -- ---- kinds

@@ -2,7 +2,7 @@
 -- that it leaves, and it gives up for its budget only where at least that many tokens are left. Nothing here says what the
 -- language is: the crates above prove that their parsers read exactly the trees of the chapter "Grammar".
 use Rattle.std.specs.Prelude.{◌≡◌, ℕ, zero, suc, ◌≤◌, ◌<◌, if◌then◌else◌, Bool, true, false, List, [], ◌∷◌, ◌++◌, length, Option, Some, None, Result, Ok, Err, ◌≢◌, refl}
-use Rattle.std.proofs.Common.{sym, ◌∙◌, ap, subst, append_assoc, arith, length-append}
+use Rattle.std.proofs.Common.{sym, ◌∙◌, ap, append_assoc, arith, length-append}
 use Rattle.fort_token.specs.declared.token.Token.{Token}
 use Rattle.fort_reading.specs.declared.fault.Fault.{Fault}
 use Rattle.fort_reading.specs.declared.fault.Fault.TheVariants.{Syntax, TooDeep, Memory}
