@@ -50,7 +50,7 @@ use Rattle.fort_reading.specs.Parser.{Row, Outcome, Read, Failed, and_then, acce
 use Rattle.fort_reading.specs.Words.{is_mark, is_word, sees}
 use Rattle.fort_reading.proofs.Laws.{Only, only_read, only_failed, only_then, only_if, only_many, only_more}
 use Rattle.fort_reading.proofs.Taking.{prefix_token, only_prefix, only_sign, only_name, only_mark, only_word, only_assign, only_big}
-use Rattle.fort_reading.proofs.Yields.{Yields, YieldsAll, YieldsMaybe, both, left_true, right_true, one_more, no_more, only_list, left_out, stands_there, all_after}
+use Rattle.fort_reading.proofs.Yields.{Yields, YieldsAll, YieldsMaybe, both, left_true, right_true, true_right, only_list, left_out, stands_there, all_after}
 use Rattle.fort_parse_types.proofs.Sound.{sound_maybe_parameters}
 use Rattle.fort_parse.specs.Beginnings.{is_prefix, is_infix_kind, begins_flat_part, begins_head, assigns}
 use Rattle.fort_parse.specs.Flats.{prefixed, operand, infix_part, flat_part, flat_parts, flat, sequential, parallel, generator, reduction, big_reduction, function, word_head, head_for, head, open_assign, opened, assigned, assign, flat_more, expr_from, expr, next_expr, next_exprs, expr_list, maybe_list}
@@ -105,19 +105,20 @@ more_parts names lines blocks x xs ts mid rest h k = record {
   obeys = λ wider e. both _ _ (h.obeys wider e) (k.obeys wider e);
 }
 
+appended : (xs ys : List FlatPart) (rest : Row) → all_tokens (map said_flat_part (xs ++ ys)) ++ rest ≡ all_tokens (map said_flat_part xs) ++ (all_tokens (map said_flat_part ys) ++ rest)
+appended [] ys rest = refl
+appended (x ∷ xs) ys rest = all_after (said_flat_part x) (map said_flat_part (xs ++ ys)) rest ∙ ap (λ (u : Row). tokens_of (said_flat_part x) ++ u) (appended xs ys rest) ∙ sym (all_after (said_flat_part x) (map said_flat_part xs) (all_tokens (map said_flat_part ys) ++ rest))
+
+append_obeys : (names : Spellings) (allowed : Allowed) (xs ys : List FlatPart) → all_obey names allowed (map said_flat_part xs) ≡ true → all_obey names allowed (map said_flat_part ys) ≡ true → all_obey names allowed (map said_flat_part (xs ++ ys)) ≡ true
+append_obeys names allowed [] ys h k = k
+append_obeys names allowed (x ∷ xs) ys h k = both _ _ (left_true _ _ h) (append_obeys names allowed xs ys (right_true _ _ h) k)
+
 -- parts on one line, and then parts where new lines may stand
 join_parts : (names : Spellings) (lines blocks : Bool) (xs ys : List FlatPart) (ts mid rest : Row) → YieldsParts names xs false blocks ts mid → YieldsParts names ys lines blocks mid rest
     → (ts ≡ all_tokens (map said_flat_part (xs ++ ys)) ++ rest) × (all_obey names (allowing lines blocks) (map said_flat_part (xs ++ ys)) ≡ true)
-join_parts names lines blocks [] ys ts mid rest h k = (h.tokens ∙ k.tokens, k.obeys lines (narrow lines))
-join_parts names true blocks (x ∷ xs) ys ts mid rest h k =
-    let own = h.obeys true refl in
-    let tail = join_parts names true blocks xs ys (all_tokens (map said_flat_part xs) ++ mid) mid rest (record { tokens = refl; obeys = λ wider e. all_right names blocks x xs (h.obeys wider e) }) k in
-    (h.tokens ∙ all_after (said_flat_part x) (map said_flat_part xs) mid ∙ ap (λ (u : Row). tokens_of (said_flat_part x) ++ u) tail.0 ∙ sym (all_after (said_flat_part x) (map said_flat_part (xs ++ ys)) rest),
-    both _ _ (left_true _ _ own) tail.1)
-  where
-    all_right : (names : Spellings) (blocks : Bool) (x : FlatPart) (xs : List FlatPart) {wider : Bool} → all_obey names (allowing wider blocks) (map said_flat_part (x ∷ xs)) ≡ true → all_obey names (allowing wider blocks) (map said_flat_part xs) ≡ true
-    all_right names blocks x xs e = right_true _ _ e
-join_parts names false blocks (x ∷ xs) ys ts mid rest h k = absurd cc
+join_parts names lines blocks xs ys ts mid rest h k = (
+  h.tokens ∙ ap (λ (u : Row). all_tokens (map said_flat_part xs) ++ u) k.tokens ∙ sym (appended xs ys rest),
+  append_obeys names (allowing lines blocks) xs ys (h.obeys lines (true_right lines)) (k.obeys lines (narrow lines)))
 
 module _ (names : Spellings) {n : ℕ} (run : Bool → Eater Run n) (laws : RunLaws names run) where
   sound_prefixed : (blocks : Bool) (ts : Row) → Only Operand ((prefixed names run blocks).parser.run ts) (λ o rest. YieldsUnit names (said_operand o) blocks ts rest)
