@@ -105,7 +105,7 @@ more_parts names lines blocks x xs ts mid rest h k = record {
   obeys = λ wider e. both _ _ (h.obeys wider e) (k.obeys wider e);
 }
 
-appended : (xs ys : List FlatPart) (rest : Row) → all_tokens (map said_flat_part (xs ++ ys)) ++ rest ≡ all_tokens (map said_flat_part xs) ++ (all_tokens (map said_flat_part ys) ++ rest)
+pub appended : (xs ys : List FlatPart) (rest : Row) → all_tokens (map said_flat_part (xs ++ ys)) ++ rest ≡ all_tokens (map said_flat_part xs) ++ (all_tokens (map said_flat_part ys) ++ rest)
 appended [] ys rest = refl
 appended (x ∷ xs) ys rest = all_after (said_flat_part x) (map said_flat_part (xs ++ ys)) rest ∙ ap (λ (u : Row). tokens_of (said_flat_part x) ++ u) (appended xs ys rest) ∙ sym (all_after (said_flat_part x) (map said_flat_part xs) (all_tokens (map said_flat_part ys) ++ rest))
 

@@ -1,3 +1,6 @@
 pub mod Statements
 pub mod Firsts
 pub mod FlatSound
+pub mod AnyLines
+pub mod Stops
+pub mod FlatComplete
