@@ -48,7 +48,7 @@ use Rattle.fort_tree.proofs.CasesFlats.{cases_atom, cases_expr, cases_head, case
 use Rattle.fort_tree.proofs.CasesBlocks.{cases_delimited}
 use Rattle.fort_tree.proofs.SaysFlats.{says-Flat, says-Assign, says-Open, says-OpenAssign, says-Atomic, says-Tryatomic, says-Throw, says-Fn, says-Big, flat_says, says-Run, says-Infix, says_operand, operand_says, run_says, says-Atom, says-Postfix, says-Subscript, says-Power, says-Field, says-Call, says-Name, says-Number, says-Text, says-True, says-False, says-Self_, says-Parens, says-Delimited, says-ArrayFill}
 use Rattle.fort_tree.proofs.SaysBlocks.{says-Do, says-If, says-While, says-For, says-Case, says-Typecase, says-Try}
-use Rattle.fort_reading.proofs.Yields.{both, left_true, right_true}
+use Rattle.fort_reading.proofs.Yields.{both, left_true, right_true, true_right}
 use Rattle.fort_parse.specs.Beginnings.{word_begins_atom, begins_atom, begins_postfix, is_prefix, op_is_prefix, begins_unit, is_infix_kind, word_begins_head, begins_head, mark_assigns, assigns, begins_expr}
 use Rattle.fort_parse.proofs.Statements.{allowing}
 
@@ -105,7 +105,27 @@ head_begins = cases_head (λ h. begins_head (said_head h).first.kind ≡ true)
     (λ s left p right arrow. rw (says-Fn s left p right arrow) refl)
     (λ b left g right. rw (says-Big b left g right) (big_begins b))
 
+-- a unit begins an expression, and so does a head
+unit_is_expr : (k : Kind) → begins_unit true k ≡ true → begins_expr k ≡ true
+unfolding begins_expr
+unit_is_expr k e = rw e refl
+
+head_is_expr : (k : Kind) → begins_head k ≡ true → begins_expr k ≡ true
+unfolding begins_expr
+head_is_expr k e = rw e (true_right (begins_unit true k))
+
+pub expr_begins : (names : Spellings) (lines : Bool) (e : Expr) → (said_expr e).obeys names (allowing lines true) ≡ true → begins_expr (said_expr e).first.kind ≡ true
+expr_begins names lines = cases_expr (λ e. (said_expr e).obeys names (allowing lines true) ≡ true → begins_expr (said_expr e).first.kind ≡ true)
+    (λ f ob. let own = rw (says-Flat f) at ob in rw (says-Flat f) (unit_is_expr _ (flat_begins names (allowing lines true) f own)))
+    (λ t s h v ob. let own = rw (says-Assign t s h v) at ob in rw (says-Assign t s h v) (unit_is_expr _ (flat_begins names (allowing false true) t (left_true _ _ own))))
+    (λ h b ob. rw (says-Open h b) (head_is_expr _ (head_begins h)))
+    (λ h t s v ob. rw (says-OpenAssign h t s v) (head_is_expr _ (head_begins h)))
+
 -- ---- what they can't begin with
+
+pub close_no_expr : begins_expr (kind.Mark mark.CloseParen) ≡ false
+unfolding begins_expr begins_unit begins_atom is_prefix begins_head
+close_no_expr = refl
 
 word_not_head : (blocks : Bool) (w : Reserved) → (word_begins_atom blocks w || false) ≡ true → word_begins_head w ≡ false
 word_not_head blocks reserved.Atomic e = absurd cc

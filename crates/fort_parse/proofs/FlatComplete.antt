@@ -51,13 +51,13 @@ use Rattle.fort_tree.proofs.SaysFlats.{says-Flat, says-Assign, says-Open, says-O
 use Rattle.fort_reading.specs.Parser.{Row, Outcome, Read, Failed, and_then, accept_run, next_of, many_run, Eater, Parser}
 use Rattle.fort_reading.specs.Words.{is_mark, is_word, sees, same_mark, same_word}
 use Rattle.fort_reading.proofs.Laws.{Gets, reads, ends, gets_then}
-use Rattle.fort_reading.proofs.Taking.{prefix_token, gets_prefix, gets_sign, gets_name, gets_mark, gets_word, gets_assign, gets_max, gets_min, gets_and, gets_or, is_word_at, not_mark, not_word}
+use Rattle.fort_reading.proofs.Taking.{prefix_token, gets_prefix, gets_sign, gets_name, gets_mark, gets_word, gets_assign, gets_max, gets_min, gets_and, gets_or, is_word_at, is_mark_at, not_mark, not_word}
 use Rattle.fort_reading.proofs.Yields.{both, left_true, right_true, true_right, false_right, is_not, gets_list, next_stops}
 use Rattle.fort_parse_types.proofs.Complete.{complete_maybe_parameters}
-use Rattle.fort_parse.specs.Beginnings.{is_prefix, is_infix_kind, begins_atom, begins_postfix, begins_unit, begins_run_part, begins_flat_part, begins_head, assigns}
+use Rattle.fort_parse.specs.Beginnings.{is_prefix, is_infix_kind, begins_atom, begins_postfix, begins_unit, begins_run_part, begins_flat_part, begins_head, begins_expr, assigns}
 use Rattle.fort_parse.specs.Flats.{prefixed, operand, infix_part, flat_part, flat_parts, flat, sequential, parallel, generator, reduction, big_reduction, function, word_head, head_for, head, open_assign, opened, assigned, assign, flat_more, expr_from, expr, next_expr, next_exprs, expr_list, maybe_list}
-use Rattle.fort_parse.proofs.Statements.{allowing, flat_stops, expr_stops, RunLaws, FlatLaws}
-use Rattle.fort_parse.proofs.Firsts.{run_begins, operand_begins, flat_begins, head_begins, flat_not_head, unit_not_head, atom_not_prefix, atom_not_infix, atom_not_assigns, infix_not_assigns}
+use Rattle.fort_parse.proofs.Statements.{allowing, flat_stops, expr_stops, UnitExpr, HeadExpr, RunLaws, FlatLaws}
+use Rattle.fort_parse.proofs.Firsts.{run_begins, operand_begins, flat_begins, head_begins, expr_begins, close_no_expr, flat_not_head, unit_not_head, atom_not_prefix, atom_not_infix, atom_not_assigns, infix_not_assigns}
 use Rattle.fort_parse.proofs.AnyLines.{run_same, operand_same}
 use Rattle.fort_parse.proofs.Stops.{stops_run, stops_part, stops_flat, stops_assigns, mark_ends_flat, mark_ends_expr, assign_ends_flat, assign_assigns, fewer_parts}
 use Rattle.fort_parse.proofs.FlatSound.{sound_operand, sound_flat, sound_generator, sound_head, sound_opened, sound_expr_from, sound_expr, sound_maybe_list, appended}
@@ -303,3 +303,132 @@ module _ (names : Spellings) {n : ℕ} (run : Bool → Eater Run n) (laws : RunL
   unfolding opened open_assign
   gets_open_assign h target sign value rest ot ov st =
       gets_then _ (complete_flat true target _ ot (assign_ends_flat false sign)) (rw (assign_assigns sign) (gets_then _ (gets_assign sign _) (gets_then _ (complete_flat true value rest ov st) reads)))
+
+  unit_of_flat : (lines : Bool) (f : Flat) (rest : Row) → (said_flat f).obeys names (allowing lines true) ≡ true → expr_stops lines (next_of rest) ≡ true → UnitExpr names run lines (an_expr.Flat f) rest
+  unit_of_flat lines f rest = cases_flat (λ f. (said_flat f).obeys names (allowing lines true) ≡ true → expr_stops lines (next_of rest) ≡ true → UnitExpr names run lines (an_expr.Flat f) rest)
+      (λ first parts ob st. let own = rw (says_flat first parts) at ob in
+      let whole = roll-Flat (record { first = first; rest = parts }) in
+      let mid : Row = all_tokens (map said_flat_part parts) ++ rest in
+      let is : tokens_of (said_expr (an_expr.Flat whole)) ++ rest ≡ tokens_of (said_operand first) ++ mid = rw (says-Flat whole, says_flat first parts) (simp append_assoc refl) in
+      record {
+        unit = first; mid = mid; tokens = is;
+        reads_unit = rw is (complete_operand lines true first mid (left_true _ _ own) (next_run_stops lines true parts rest (right_true _ _ own) (stops_run lines true (next_of rest) (stops_flat lines (next_of rest) st))));
+        goes_on = flat_goes_on lines first parts rest (right_true _ _ own) st;
+      }) f
+
+  unit_of_assign : (lines : Bool) (target : Flat) (sign : AssignSign) (h : Option Head) (value : Flat) (rest : Row) → (said_flat target).obeys names elsewhere ≡ true
+      → maybe_obeys names elsewhere (option_map said_head h) ≡ true → (said_flat value).obeys names elsewhere ≡ true → flat_stops false true (next_of rest) ≡ true → UnitExpr names run lines (an_expr.Assign target sign h value) rest
+  unit_of_assign lines target sign h value rest = cases_flat (λ target. (said_flat target).obeys names elsewhere ≡ true
+      → maybe_obeys names elsewhere (option_map said_head h) ≡ true → (said_flat value).obeys names elsewhere ≡ true → flat_stops false true (next_of rest) ≡ true → UnitExpr names run lines (an_expr.Assign target sign h value) rest)
+      (λ first parts ot oh ov st. let own = rw (says_flat first parts) at ot in
+      let whole = roll-Flat (record { first = first; rest = parts }) in
+      let mid : Row = all_tokens (map said_flat_part parts) ++ assign_token sign ∷ (maybe_tokens (option_map said_head h) ++ (tokens_of (said_flat value) ++ rest)) in
+      let is : tokens_of (said_expr (an_expr.Assign whole sign h value)) ++ rest ≡ tokens_of (said_operand first) ++ mid = rw (says-Assign whole sign h value, says_flat first parts) (simp append_assoc refl) in
+      let stop = stops_run false true (Some (assign_token sign)) (assign_ends_flat false sign) in
+      record {
+        unit = first; mid = mid; tokens = is;
+        reads_unit = rw is (complete_operand false true first mid (left_true _ _ own) (next_run_stops false true parts _ (right_true _ _ own) stop));
+        goes_on = assign_goes_on lines first parts sign h value rest (right_true _ _ own) oh ov st;
+      }) target
+
+  no_head : (h : Head) → begins_head (said_head h).first.kind ≡ false → ⊥
+  no_head h e = let is = head_begins h in cc
+
+  pub complete_unit_expr : (lines : Bool) (e : Expr) (rest : Row) → (said_expr e).obeys names (allowing lines true) ≡ true → expr_stops lines (next_of rest) ≡ true → begins_head (said_expr e).first.kind ≡ false → UnitExpr names run lines e rest
+  complete_unit_expr lines e rest = cases_expr (λ e. (said_expr e).obeys names (allowing lines true) ≡ true → expr_stops lines (next_of rest) ≡ true → begins_head (said_expr e).first.kind ≡ false → UnitExpr names run lines e rest)
+      (λ f ob st b. unit_of_flat lines f rest (rw (says-Flat f) at ob) st)
+      (λ target sign h value ob st b. let own = rw (says-Assign target sign h value) at ob in
+      unit_of_assign lines target sign h value rest (left_true _ _ own) (left_true _ _ (right_true _ _ own)) (right_true _ _ (right_true _ _ own)) (flat_ends lines (next_of rest) (stops_flat lines (next_of rest) st)))
+      (λ h body ob st b. absurd (no_head h (rw (says-Open h body) at b)))
+      (λ h target sign value ob st b. absurd (no_head h (rw (says-OpenAssign h target sign value) at b))) e
+
+  some_head : (names : Spellings) (allowed : Allowed) (f : Flat) → (said_flat f).obeys names allowed ≡ true → begins_head (said_flat f).first.kind ≡ true → ⊥
+  some_head names allowed f ob e = let is = flat_not_head names allowed f ob in cc
+
+  pub complete_head_expr : (lines : Bool) (e : Expr) (rest : Row) → (said_expr e).obeys names (allowing lines true) ≡ true → expr_stops lines (next_of rest) ≡ true → begins_head (said_expr e).first.kind ≡ true → HeadExpr names run e rest
+  complete_head_expr lines e rest = cases_expr (λ e. (said_expr e).obeys names (allowing lines true) ≡ true → expr_stops lines (next_of rest) ≡ true → begins_head (said_expr e).first.kind ≡ true → HeadExpr names run e rest)
+      (λ f ob st b. absurd (some_head names (allowing lines true) f (rw (says-Flat f) at ob) (rw (says-Flat f) at b)))
+      (λ target sign h value ob st b. absurd (some_head names elsewhere target (left_true _ _ (rw (says-Assign target sign h value) at ob)) (rw (says-Assign target sign h value) at b)))
+      (λ h body ob st b. let own = rw (says-Open h body) at ob in
+      let mid : Row = tokens_of (said_flat body) ++ rest in
+      let is : tokens_of (said_expr (an_expr.Open h body)) ++ rest ≡ tokens_of (said_head h) ++ mid = rw (says-Open h body) (simp append_assoc refl) in
+      record { start = h; mid = mid; reads_head = rw is (complete_head h mid (left_true _ _ own)); goes_on = gets_open h body lines rest (right_true _ _ own) st })
+      (λ h target sign value ob st b. let own = rw (says-OpenAssign h target sign value) at ob in
+      let mid : Row = tokens_of (said_flat target) ++ assign_token sign ∷ (tokens_of (said_flat value) ++ rest) in
+      let is : tokens_of (said_expr (an_expr.OpenAssign h target sign value)) ++ rest ≡ tokens_of (said_head h) ++ mid = rw (says-OpenAssign h target sign value) (simp append_assoc refl) in
+      record {
+        start = h; mid = mid; reads_head = rw is (complete_head h mid (left_true _ _ own));
+        goes_on = gets_open_assign h target sign value rest (left_true _ _ (right_true _ _ own)) (right_true _ _ (right_true _ _ own)) (flat_ends lines (next_of rest) (stops_flat lines (next_of rest) st));
+      }) e
+
+  pub complete_expr : (lines : Bool) (e : Expr) (rest : Row) → (said_expr e).obeys names (allowing lines true) ≡ true → expr_stops lines (next_of rest) ≡ true
+      → Gets Expr ((expr names run lines).parser.run (tokens_of (said_expr e) ++ rest)) e rest
+  unfolding expr
+  complete_expr lines e rest ob st = bool_cases (begins_head (said_expr e).first.kind) _
+      (λ b. let h = complete_head_expr lines e rest ob st b in rw (sees_first begins_head (said_expr e).first true b) (gets_then _ h.reads_head h.goes_on))
+      (λ b. let u = complete_unit_expr lines e rest ob st b in rw (sees_first begins_head (said_expr e).first false b) (gets_then _ u.reads_unit u.goes_on))
+
+  -- ---- lists of expressions
+
+  complete_next_expr : (x : NextExpr) (rest : Row) → (said_next_expr x).obeys names in_brackets ≡ true → expr_stops true (next_of rest) ≡ true → Gets NextExpr ((next_expr names run).parser.run (tokens_of (said_next_expr x) ++ rest)) x rest
+  unfolding next_expr
+  complete_next_expr x rest = cases_next_expr (λ x. (said_next_expr x).obeys names in_brackets ≡ true → expr_stops true (next_of rest) ≡ true → Gets NextExpr ((next_expr names run).parser.run (tokens_of (said_next_expr x) ++ rest)) x rest)
+      (λ comma e ob st. let own = rw (says_next_expr comma e) at ob in
+      rw (says_next_expr comma e) (gets_then _ (gets_mark mark.Comma comma _) (gets_then _ (complete_expr true e rest own st) reads))) x
+
+  comma_stops : (s : Spot) → expr_stops true (Some (marked mark.Comma s)) ≡ true
+  comma_stops s = mark_ends_expr true mark.Comma s refl refl refl
+
+  close_stops : (s : Spot) → expr_stops true (Some (marked mark.CloseParen s)) ≡ true
+  close_stops s = mark_ends_expr true mark.CloseParen s refl refl refl
+
+  next_expr_begins : (x : NextExpr) → sees (is_mark mark.Comma) (Some (said_next_expr x).first) ≡ true
+  next_expr_begins x = rw (next_expr_says x) (sees_first (is_mark mark.Comma) (marked mark.Comma (out-NextExpr x).comma) true (is_mark_at mark.Comma))
+
+  next_expr_stops : (x : NextExpr) → expr_stops true (Some (said_next_expr x).first) ≡ true
+  next_expr_stops x = rw (next_expr_says x) (comma_stops (out-NextExpr x).comma)
+
+  no_comma : (right : Spot) → sees (is_mark mark.Comma) (Some (marked mark.CloseParen right)) ≡ false
+  unfolding sees is_mark same_mark
+  no_comma right = refl
+
+  complete_list : (l : ExprList) (right : Spot) (rest : Row) → (said_expr_list l).obeys names in_brackets ≡ true
+      → Gets ExprList ((expr_list names run).parser.run (tokens_of (said_expr_list l) ++ marked mark.CloseParen right ∷ rest)) l (marked mark.CloseParen right ∷ rest)
+  unfolding expr_list next_exprs
+  complete_list l right rest = cases_expr_list (λ l. (said_expr_list l).obeys names in_brackets ≡ true → Gets ExprList ((expr_list names run).parser.run (tokens_of (said_expr_list l) ++ marked mark.CloseParen right ∷ rest)) l (marked mark.CloseParen right ∷ rest))
+      (λ first others ob. let own = rw (says_expr_list first others) at ob in
+      let st : expr_stops true (next_of (marked mark.CloseParen right ∷ rest)) ≡ true = close_stops right in
+      rw (says_expr_list first others) (simp append_assoc
+      (gets_then _ (complete_expr true first _ (left_true _ _ own) (next_stops names in_brackets said_next_expr (λ next. expr_stops true next ≡ true) (λ x o. next_expr_stops x) others (marked mark.CloseParen right ∷ rest) (right_true _ _ own) st))
+      (gets_then _ (gets_list names in_brackets said_next_expr (sees (is_mark mark.Comma)) (next_expr names run) (λ next. expr_stops true next ≡ true) complete_next_expr (λ x o. next_expr_begins x) (λ x o. next_expr_stops x) n others (marked mark.CloseParen right ∷ rest) (right_true _ _ own) st (no_comma right)) reads)))) l
+
+  list_no_close : (l : ExprList) → (said_expr_list l).obeys names in_brackets ≡ true → is_mark mark.CloseParen (said_expr_list l).first.kind ≡ false
+  list_no_close l ob = let own = rw (expr_list_says l) at ob in
+      rw (expr_list_says l) (not_mark begins_expr mark.CloseParen close_no_expr (said_expr (out-ExprList l).first).first.kind (expr_begins names true (out-ExprList l).first (left_true _ _ own)))
+
+  pub complete_maybe_list : (l : Option ExprList) (right : Spot) (rest : Row) → maybe_obeys names in_brackets (option_map said_expr_list l) ≡ true
+      → Gets (Option ExprList) ((maybe_list names run).run (maybe_tokens (option_map said_expr_list l) ++ marked mark.CloseParen right ∷ rest)) l (marked mark.CloseParen right ∷ rest)
+  unfolding maybe_list
+  complete_maybe_list None right rest ob = rw (sees_first (is_mark mark.CloseParen) (marked mark.CloseParen right) true (is_mark_at mark.CloseParen)) reads
+  complete_maybe_list (Some l) right rest ob = rw (sees_first (is_mark mark.CloseParen) (said_expr_list l).first false (list_no_close l ob)) (gets_then _ (complete_list l right rest ob) reads)
+
+-- a parser of runs that keeps its laws makes parsers of expressions that keep theirs
+pub flat_laws : (names : Spellings) {n : ℕ} (run : Bool → Eater Run n) → RunLaws names run → FlatLaws names run
+flat_laws names run laws = record {
+  sound_operand = sound_operand names run laws;
+  sound_flat = sound_flat names run laws;
+  sound_generator = sound_generator names run laws;
+  sound_head = sound_head names run laws;
+  sound_opened = sound_opened names run laws;
+  sound_expr_from = sound_expr_from names run laws;
+  sound_expr = sound_expr names run laws;
+  sound_maybe_list = sound_maybe_list names run laws;
+  complete_operand = complete_operand names run laws;
+  complete_flat = complete_flat names run laws;
+  complete_generator = complete_generator names run laws;
+  complete_head = complete_head names run laws;
+  complete_expr = complete_expr names run laws;
+  complete_unit_expr = complete_unit_expr names run laws;
+  complete_head_expr = complete_head_expr names run laws;
+  complete_maybe_list = complete_maybe_list names run laws;
+}
