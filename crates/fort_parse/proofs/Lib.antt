@@ -4,3 +4,5 @@ pub mod FlatSound
 pub mod AnyLines
 pub mod Stops
 pub mod FlatComplete
+pub mod RunSound
+pub mod RunComplete
