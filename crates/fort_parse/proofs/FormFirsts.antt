@@ -124,7 +124,7 @@ word_begins_item reserved.Prod e = refl
 word_begins_item reserved.Big e = refl
 word_begins_item _ e = absurd cc
 
-expr_is_item : (k : Kind) → begins_expr k ≡ true → begins_item_kind k ≡ true
+pub expr_is_item : (k : Kind) → begins_expr k ≡ true → begins_item_kind k ≡ true
 unfolding begins_item_kind
 expr_is_item (kind.Word w) e = word_begins_item w e
 expr_is_item (kind.Name v) e = e
@@ -133,7 +133,7 @@ expr_is_item (kind.Text v) e = e
 expr_is_item (kind.Op v) e = e
 expr_is_item (kind.Mark v) e = e
 
-unit_is_item : (k : Kind) → begins_unit true k ≡ true → begins_item_kind k ≡ true
+pub unit_is_item : (k : Kind) → begins_unit true k ≡ true → begins_item_kind k ≡ true
 unit_is_item k e = expr_is_item k (unit_is_expr k e)
 
 mark_type_item : (m : Mark) → mark_begins_type m ≡ true → begins_item_kind (kind.Mark m) ≡ true
@@ -141,7 +141,7 @@ unfolding begins_item_kind begins_expr begins_unit begins_atom
 mark_type_item mark.OpenParen e = refl
 mark_type_item _ e = absurd cc
 
-type_is_item : (k : Kind) → begins_type k ≡ true → begins_item_kind k ≡ true
+pub type_is_item : (k : Kind) → begins_type k ≡ true → begins_item_kind k ≡ true
 unfolding begins_type begins_item_kind begins_expr begins_unit begins_atom
 type_is_item (kind.Word w) e = absurd cc
 type_is_item (kind.Name v) e = refl
@@ -168,3 +168,126 @@ item_begins = cases_item (λ i. begins_item_kind (said_item i).first.kind ≡ tr
     (λ v. rw (says-Variable v, variable_says v) (variable_at (out-Variable v).var _ (name_is_item _)))
     (λ a b c d e f g h. rw (says-Names a b c d e f g h) paren_is_item)
     (λ e. rw (says-Expr e) (expr_is_item (said_expr e).first.kind (expr_begins e)))
+
+-- ---- what ends an expression
+
+line_empty : (g : Gap) → is_line g ≡ true → is_empty g ≡ false
+line_empty gap.Empty e = absurd cc
+line_empty gap.Space e = refl
+line_empty gap.Line e = refl
+
+-- a new line ends a flat expression
+pub line_stops : (blocks : Bool) (t : Token) → is_line t.gap ≡ true → flat_stops false blocks (Some t) ≡ true
+unfolding begins_run_part begins_flat_part
+line_stops blocks t e = rw (line_empty t.gap e, e) refl
+
+-- so does a token that is no part of one
+pub kind_stops : (lines blocks : Bool) (t : Token) → begins_atom blocks t.kind ≡ false → begins_postfix t.kind ≡ false → is_infix_kind t.kind ≡ false → flat_stops lines blocks (Some t) ≡ true
+unfolding begins_run_part begins_flat_part
+kind_stops lines blocks t a p i = rw (a, p, i, false_right (is_empty t.gap), false_right (not (is_empty t.gap)), false_right (lines || not (is_line t.gap))) refl
+
+-- what follows an item or a clause without a `;`
+pub record Stops (next : Option Token) : Type 0 where
+  pub expr : expr_stops false next ≡ true
+  pub colon : sees is_range next ≡ false
+  pub semicolon : sees (is_mark mark.Semicolon) next ≡ false
+
+mark_assigns_not : (m : Mark) → begins_item_kind (kind.Mark m) ≡ true → mark_assigns m ≡ false
+unfolding begins_item_kind begins_expr begins_unit begins_atom is_prefix begins_head
+mark_assigns_not mark.OpenParen e = refl
+mark_assigns_not _ e = absurd cc
+
+assigns_not : (k : Kind) → begins_item_kind k ≡ true → assigns k ≡ false
+unfolding assigns
+assigns_not (kind.Word w) e = refl
+assigns_not (kind.Name v) e = refl
+assigns_not (kind.Number v) e = refl
+assigns_not (kind.Text v) e = refl
+assigns_not (kind.Op v) e = refl
+assigns_not (kind.Mark m) e = mark_assigns_not m e
+
+colon_not : (k : Kind) → begins_item_kind k ≡ true → is_range k ≡ false
+unfolding begins_item_kind begins_expr begins_unit begins_atom is_prefix begins_head
+colon_not k e = not_this begins_item_kind is_range (kind.Op op.Range) is_range_is refl k e
+
+semicolon_not : (k : Kind) → begins_item_kind k ≡ true → is_mark mark.Semicolon k ≡ false
+unfolding begins_item_kind begins_expr begins_unit begins_atom is_prefix begins_head
+semicolon_not k e = not_mark begins_item_kind mark.Semicolon refl k e
+
+-- a token on a new line that may begin an item ends the one before
+pub new_line : (t : Token) → is_line t.gap ≡ true → begins_item_kind t.kind ≡ true → Stops (Some t)
+unfolding sees
+new_line t e f = record { expr = rw (line_stops true t e, assigns_not t.kind f) refl; colon = colon_not t.kind f; semicolon = semicolon_not t.kind f }
+
+pub semicolon_stops : (s : Spot) → expr_stops false (Some (marked mark.Semicolon s)) ≡ true
+unfolding sees assigns begins_atom begins_postfix is_infix_kind
+semicolon_stops s = rw (kind_stops false true (marked mark.Semicolon s) refl refl refl) refl
+
+-- ---- what ends a block
+
+-- whether a reserved word ends a block
+abbrev pub word_ends : Reserved → Bool
+word_ends reserved.End = true
+word_ends reserved.Also = true
+word_ends reserved.Elif = true
+word_ends reserved.Else = true
+word_ends reserved.Catch = true
+word_ends reserved.Finally = true
+word_ends _ = false
+
+-- What ends a block or clauses: a word that begins no item.
+pub record Ends (next : Option Token) : Type 0 where
+  pub stops : Stops next
+  pub item : (ready : Bool) → begins_apart_of begins_item_kind ready next ≡ false
+  pub clause : (ready : Bool) → begins_apart_of (begins_unit true) ready next ≡ false
+  pub types : (ready : Bool) → begins_apart_of begins_type ready next ≡ false
+
+ends_all : (w : Reserved) (s : Spot) → begins_atom true (kind.Word w) ≡ false → begins_item_kind (kind.Word w) ≡ false → Ends (Some (word w s))
+unfolding begins_apart_of begins_unit is_prefix begins_type sees is_range is_mark assigns begins_postfix is_infix_kind
+ends_all w s e f = record {
+  stops = record { expr = rw (kind_stops false true (word w s) e refl refl) refl; colon = refl; semicolon = refl };
+  item = λ ready. rw f (false_right (ready || is_line s.gap));
+  clause = λ ready. rw e (false_right (ready || is_line s.gap));
+  types = λ ready. false_right (ready || is_line s.gap);
+}
+
+-- a word that ends a block does
+pub ends_with : (w : Reserved) (s : Spot) → word_ends w ≡ true → Ends (Some (word w s))
+unfolding begins_atom begins_item_kind
+ends_with reserved.End s e = ends_all reserved.End s refl refl
+ends_with reserved.Also s e = ends_all reserved.Also s refl refl
+ends_with reserved.Elif s e = ends_all reserved.Elif s refl refl
+ends_with reserved.Else s e = ends_all reserved.Else s refl refl
+ends_with reserved.Catch s e = ends_all reserved.Catch s refl refl
+ends_with reserved.Finally s e = ends_all reserved.Finally s refl refl
+ends_with _ s e = absurd cc
+
+-- the words before a block and behind a subject end a flat expression
+pub word_stops : (w : Reserved) (s : Spot) (blocks : Bool) → begins_atom blocks (kind.Word w) ≡ false → flat_stops false blocks (Some (word w s)) ≡ true
+unfolding begins_postfix is_infix_kind
+word_stops w s blocks e = kind_stops false blocks (word w s) e refl refl
+
+pub then_stops : (s : Spot) → flat_stops false true (Some (word reserved.Then s)) ≡ true
+unfolding begins_atom
+then_stops s = word_stops reserved.Then s true refl
+
+pub of_stops : (s : Spot) → flat_stops false true (Some (word reserved.Of s)) ≡ true
+unfolding begins_atom
+of_stops s = word_stops reserved.Of s true refl
+
+pub do_stops : (s : Spot) → flat_stops false false (Some (word reserved.Do s)) ≡ true
+unfolding begins_atom
+do_stops s = word_stops reserved.Do s false refl
+
+pub comma_stops : (s : Spot) (blocks : Bool) → flat_stops false blocks (Some (marked mark.Comma s)) ≡ true
+unfolding begins_atom begins_postfix is_infix_kind
+comma_stops s blocks = kind_stops false blocks (marked mark.Comma s) refl refl refl
+
+pub arrow_stops : (s : Spot) → flat_stops false true (Some (marked mark.DoubleArrow s)) ≡ true
+unfolding begins_atom begins_postfix is_infix_kind
+arrow_stops s = kind_stops false true (marked mark.DoubleArrow s) refl refl refl
+
+-- a `:` goes on with no run
+pub colon_parts : (s : Spot) → begins_run_part true (Some (colon s)) ≡ false
+unfolding begins_run_part begins_atom begins_postfix
+colon_parts s = false_right (is_empty s.gap)
