@@ -1,3 +1,4 @@
 pub mod Statements
 pub mod FormFirsts
 pub mod FormEntries
+pub mod FormPlain
