@@ -2,3 +2,4 @@ pub mod Statements
 pub mod FormFirsts
 pub mod FormEntries
 pub mod FormPlain
+pub mod FormDeclares
