@@ -3,3 +3,4 @@ pub mod FormFirsts
 pub mod FormEntries
 pub mod FormPlain
 pub mod FormDeclares
+pub mod FormSound

@@ -1,0 +1,209 @@
+-- What each item, block, clause and form that ends with `end` is read from is its tokens, and the rules on gaps and names hold in it.
+use Rattle.std.proofs.Common.{◌≡◌, ℕ, Bool, true, false, cond, List, [], ◌∷◌, ◌++◌, append_assoc, Option, Some, None, refl, sym, ap, subst, ◌∙◌}
+use Rattle.std.specs.Prelude.{map, option_map, ◌&&◌, ◌||◌, not}
+use Rattle.fort_base.specs.declared.refusal.Gap.{Gap}
+use Rattle.fort_token.specs.declared.token.Kind.{Kind}
+use Rattle.fort_token.specs.declared.token.Token.{Token}
+use Rattle.fort_token.specs.declared.marks.Mark.{Mark}
+use Rattle.fort_token.specs.declared.marks.Mark.TheVariants as mark
+use Rattle.fort_token.specs.declared.reserved.Reserved.{Reserved}
+use Rattle.fort_token.specs.declared.reserved.Reserved.TheVariants as reserved
+use Rattle.fort_tree.specs.declared.spot.Spot.{Spot}
+use Rattle.fort_tree.specs.declared.spot.Name.{Name}
+use Rattle.fort_tree.specs.declared.declarations.InitialSign.{InitialSign}
+use Rattle.fort_tree.specs.declared.declarations.Variable.{Variable, roll-Variable}
+use Rattle.fort_tree.specs.declared.types.TypeTree.{TypeTree}
+use Rattle.fort_tree.specs.declared.delimited.Also.{Also}
+use Rattle.fort_tree.specs.declared.delimited.BlockItem.{BlockItem, out-BlockItem}
+use Rattle.fort_tree.specs.declared.delimited.CaseClause.{CaseClause, out-CaseClause}
+use Rattle.fort_tree.specs.declared.delimited.Catch.{Catch}
+use Rattle.fort_tree.specs.declared.delimited.Delimited.{Delimited}
+use Rattle.fort_tree.specs.declared.delimited.Delimited.TheVariants as a_delimited
+use Rattle.fort_tree.specs.declared.delimited.Elif.{Elif}
+use Rattle.fort_tree.specs.declared.delimited.ElseBlock.{ElseBlock}
+use Rattle.fort_tree.specs.declared.delimited.ElseClause.{ElseClause}
+use Rattle.fort_tree.specs.declared.delimited.Finally.{Finally}
+use Rattle.fort_tree.specs.declared.delimited.Item.{Item}
+use Rattle.fort_tree.specs.declared.delimited.Item.TheVariants as an_item
+use Rattle.fort_tree.specs.declared.delimited.NextGenerator.{NextGenerator}
+use Rattle.fort_tree.specs.declared.delimited.TypeClause.{TypeClause, out-TypeClause}
+use Rattle.fort_tree.specs.declared.expr.Expr.{Expr}
+use Rattle.fort_tree.specs.declared.expr.Flat.{Flat}
+use Rattle.fort_tree.specs.declared.expr.Generator.{Generator}
+use Rattle.fort_tree.specs.declared.expr.Head.{Head}
+use Rattle.fort_tree.specs.declared.expr.Operand.{Operand}
+use Rattle.fort_tree.specs.declared.expr.Run.{Run}
+use Rattle.fort_tree.specs.Tokens.{Spellings, word, named, marked, colon, equals, is_line, begins_declaration}
+use Rattle.fort_tree.specs.Said.{Said, SaidEntry, SaidElse, Allowed, elsewhere, before_do, tokens_of, gap_of, all_tokens, all_obey, maybe_tokens, maybe_obeys, is_there, semicolon_tokens, entries_tokens, entries_obey, has_entry, last_semicolon, else_tokens, else_apart, else_obeys}
+use Rattle.fort_tree.specs.Types.{said_type}
+use Rattle.fort_tree.specs.Blocks.{initial_token, after_var, next_names_tokens, has_next_name}
+use Rattle.fort_tree.specs.Yield.{said_run, said_operand, said_flat, said_generator, said_head, said_expr, said_variable, said_item, said_delimited, said_also, said_block_item, said_case_clause, said_catch, said_elif, said_else_block, said_else_clause, said_finally, said_next_generator, said_type_clause}
+use Rattle.fort_tree.proofs.SaysBlocks.{says-Do, says-If, says-While, says-For, says-Case, says-Typecase, says-Try, says_also, says_elif, says_else_block, says_next_generator, says_case_clause, says_type_clause, says_else_clause, says_catch, says_finally, says_block_item, says-Variable, says-Names, says-Expr, says_variable, block_item_says, case_clause_says, type_clause_says}
+use Rattle.fort_reading.specs.Parser.{Row, Outcome, Read, Failed, and_then, accept_run, next_of, many_run, Eater, Parser}
+use Rattle.fort_reading.specs.Words.{is_range, is_eq, is_mark, is_word, spot_if, name_of, initial_of, sees}
+use Rattle.fort_reading.proofs.Laws.{Only, only_read, only_failed, only_then, only_if, only_more}
+use Rattle.fort_reading.proofs.Taking.{only_mark, only_word, only_name, only_colon, only_equals, only_initial}
+use Rattle.fort_reading.proofs.Yields.{Yields, YieldsAll, YieldsMaybe, both, left_true, right_true, not_true, only_list}
+use Rattle.fort_parse_types.specs.Types.{type_tree}
+use Rattle.fort_parse_types.proofs.Sound.{sound_type_tree}
+use Rattle.fort_parse.specs.declared.plain.PlainNames.{PlainNames}
+use Rattle.fort_parse.specs.Beginnings.{begins_head, begins_item, begins_item_kind, begins_case_clause, begins_type_clause, begins_else, begins_apart_of, begins_unit}
+use Rattle.fort_parse_types.specs.Types.{begins_type}
+use Rattle.fort_parse.specs.Flats.{operand, flat, generator, head, opened, expr_from, expr}
+use Rattle.fort_parse.specs.Plain.{plain_name, plain_names}
+use Rattle.fort_parse.specs.Blocks.{is_ended, last_ended, some_of, sees_second, semicolon, initialised, variable_from, var_item, names_from, flat_item, by_names, by_name, declared, item_from, head_item, item, block_item, block, case_clause, case_list, case_clauses, type_clause, type_clause_list, type_clauses, else_from, second_else, else_clause, also_block, also_blocks, elif, elifs, else_block, catch_from, catch, no_finally, finally, next_generator, next_generators}
+use Rattle.fort_parse.proofs.FormDeclares.{Ahead, ahead_of, ahead_more, head_declares_not, declares}
+use Rattle.fort_parse.proofs.FormEntries.{YieldsEntry, YieldsEntries, begun, only_entries, last_is}
+use Rattle.fort_parse.proofs.FormPlain.{plain_name_says, plain_names_say}
+use Rattle.fort_parse.proofs.Statements.{FlatLaws, YieldsUnit, YieldsVariable, allowing, var_tokens}
+
+-- ---- declarations of locals
+
+after_var_tokens : (var : Option Spot) (part : Said) → tokens_of (after_var var part) ≡ var_tokens var ++ tokens_of part
+after_var_tokens None part = refl
+after_var_tokens (Some s) part = refl
+
+after_var_obeys : (var : Option Spot) (part : Said) (names : Spellings) (allowed : Allowed) → (after_var var part).obeys names allowed ≡ part.obeys names allowed
+after_var_obeys None part names allowed = refl
+after_var_obeys (Some s) part names allowed = refl
+
+-- the tokens of a declaration of a variable, and then rest
+pub variable_tokens : (var : Option Spot) (name : Name) (at_colon : Spot) (ty : TypeTree) (sign : InitialSign) (value : Expr) (rest : Row)
+    → tokens_of (said_variable (roll-Variable (record { var = var; name = name; colon = at_colon; ty = ty; sign = sign; value = value }))) ++ rest
+    ≡ var_tokens var ++ named name ∷ colon at_colon ∷ (tokens_of (said_type ty) ++ initial_token sign ∷ (tokens_of (said_expr value) ++ rest))
+variable_tokens None name at_colon ty sign value rest = rw (says_variable None name at_colon ty sign value) (simp append_assoc refl)
+variable_tokens (Some s) name at_colon ty sign value rest = rw (says_variable (Some s) name at_colon ty sign value) (simp append_assoc refl)
+
+pub variable_obeys : (names : Spellings) (var : Option Spot) (name : Name) (at_colon : Spot) (ty : TypeTree) (sign : InitialSign) (value : Expr) (allowed : Allowed)
+    → (said_variable (roll-Variable (record { var = var; name = name; colon = at_colon; ty = ty; sign = sign; value = value }))).obeys names allowed ≡ ((said_type ty).obeys names elsewhere && (said_expr value).obeys names elsewhere)
+variable_obeys names None name at_colon ty sign value allowed = rw (says_variable None name at_colon ty sign value) refl
+variable_obeys names (Some s) name at_colon ty sign value allowed = rw (says_variable (Some s) name at_colon ty sign value) refl
+
+module _ (names : Spellings) {n : ℕ} (run : Bool → Eater Run n) (laws : FlatLaws names run) where
+  sound_semicolon : (ts : Row) → Only (Option Spot) ((semicolon names run).run ts) (λ s rest. ts ≡ semicolon_tokens s ++ rest)
+  unfolding semicolon
+  sound_semicolon ts =
+      only_if (sees (is_mark mark.Semicolon) (next_of ts)) _ _ _
+      (λ e. only_then _ _ _ _ (only_mark mark.Semicolon ts) (λ s rest h. only_read _ (Some s) rest h))
+      (λ e. only_read _ None ts refl)
+
+  sound_initialised : (var : Option Spot) (name : Name) (at_colon : Spot) (ty : TypeTree) (ts mid : Row) → ts ≡ colon at_colon ∷ (tokens_of (said_type ty) ++ mid) → (said_type ty).obeys names elsewhere ≡ true
+      → Only Variable ((initialised names run var name at_colon ty).run mid) (λ v rest. YieldsVariable names var name v ts rest)
+  unfolding initialised
+  sound_initialised var name at_colon ty ts mid is ob =
+      only_then _ _ _ _ (only_initial mid) (λ sign mid1 h.
+      only_then _ _ _ _ (laws.sound_expr false mid1) (λ value rest k.
+      only_read _ _ rest (record {
+        tokens = ap (λ (u : Row). var_tokens var ++ named name ∷ u) (is ∙ ap (λ (u : Row). colon at_colon ∷ (tokens_of (said_type ty) ++ u)) (h ∙ ap (λ (u : Row). initial_token sign ∷ u) k.tokens)) ∙ sym (variable_tokens var name at_colon ty sign value rest);
+        obeys = variable_obeys names var name at_colon ty sign value elsewhere ∙ both _ _ ob k.obeys;
+      })))
+
+  pub sound_variable_from : (var : Option Spot) (name : Name) (ts : Row) → Only Variable ((variable_from names run var name).run ts) (λ v rest. YieldsVariable names var name v ts rest)
+  unfolding variable_from
+  sound_variable_from var name ts =
+      only_then _ _ _ _ (only_colon ts) (λ at_colon mid h.
+      only_then _ _ _ _ (sound_type_tree names n mid) (λ ty mid1 k.
+      sound_initialised var name at_colon ty ts mid1 (h ∙ ap (λ (u : Row). colon at_colon ∷ u) k.tokens) k.obeys))
+
+  -- ---- items
+
+  sound_var_item : (ts : Row) → Only Item ((var_item names run).parser.run ts) (λ i rest. Yields names (said_item i) elsewhere ts rest)
+  unfolding var_item
+  sound_var_item ts =
+      only_then _ _ _ _ (only_word reserved.Var ts) (λ var mid h.
+      only_then _ _ _ _ (only_name mid) (λ name mid1 k.
+      only_then _ _ _ _ (sound_variable_from (Some var) name mid1) (λ v rest l.
+      only_read _ _ rest (rw (says-Variable v) (record { tokens = h ∙ ap (λ (u : Row). word reserved.Var var ∷ u) k ∙ l.tokens; obeys = l.obeys })))))
+
+  -- behind the name of a declaration
+  sound_named : (first : Operand) (name : Name) (ts mid : Row) → plain_name first ≡ Some name → ts ≡ tokens_of (said_operand first) ++ mid
+      → Only Item ((by_name names run first (Some name)).run mid) (λ i rest. Yields names (said_item i) elsewhere ts rest)
+  sound_named first name ts mid is h =
+      only_then _ _ _ _ (sound_variable_from None name mid) (λ v rest l.
+      only_read _ _ rest (rw (says-Variable v) (record { tokens = h ∙ ap (λ (u : Row). u ++ mid) (plain_name_says first name is) ∙ l.tokens; obeys = l.obeys })))
+
+  -- the tokens of a declaration of names
+  sound_names : (first : Operand) (p : PlainNames) (ts mid : Row) → plain_names first ≡ Some p → ts ≡ tokens_of (said_operand first) ++ mid
+      → Only Item ((names_from names run p).run mid) (λ i rest. Yields names (said_item i) elsewhere ts rest)
+  unfolding names_from
+  sound_names first p ts mid is h =
+      let says = plain_names_say first p is in
+      only_then _ _ _ _ (only_colon mid) (λ at_colon mid1 h1.
+      only_then _ _ _ _ (sound_type_tree names n mid1) (λ ty mid2 h2.
+      only_then _ _ _ _ (only_equals mid2) (λ at_equals mid3 h3.
+      only_then _ _ _ _ (laws.sound_expr false mid3) (λ value rest k.
+      let after : mid ≡ colon at_colon ∷ (tokens_of (said_type ty) ++ equals at_equals ∷ (tokens_of (said_expr value) ++ rest)) =
+      h1 ∙ ap (λ (u : Row). colon at_colon ∷ u) (h2.tokens ∙ ap (λ (u : Row). tokens_of (said_type ty) ++ u) (h3 ∙ ap (λ (u : Row). equals at_equals ∷ u) k.tokens)) in
+      let whole = h ∙ ap (λ (u : Row). u ++ mid) says.0 ∙ ap (λ (u : Row). (marked mark.OpenParen p.left ∷ named p.first ∷ (next_names_tokens p.others ++ marked mark.CloseParen p.right ∷ [])) ++ u) after in
+      only_read _ _ rest (rw (says-Names p.left p.first p.others p.right at_colon ty at_equals value) (record { tokens = whole ∙ simp append_assoc refl; obeys = both _ _ says.1 (both _ _ h2.obeys k.obeys) }))))))
+
+  -- an expression from tokens that don't begin as a declaration
+  plain_item : (e : Expr) (ts rest : Row) → (Ahead ts → ⊥) → Yields names (said_expr e) elsewhere ts rest → Yields names (said_item (an_item.Expr e)) elsewhere ts rest
+  plain_item e ts rest none h =
+      let not_so : begins_declaration (tokens_of (said_expr e)) ≡ false = not_true _ (λ k. none (rw (h.tokens) (ahead_more _ rest (ahead_of (tokens_of (said_expr e)) k)))) in
+      rw (says-Expr e) (record { tokens = h.tokens; obeys = rw (not_so, h.obeys) refl })
+
+  sound_flat_item : (first : Operand) (ts mid : Row) → (Ahead ts → ⊥) → YieldsUnit names (said_operand first) true ts mid → Only Item ((flat_item names run first).run mid) (λ i rest. Yields names (said_item i) elsewhere ts rest)
+  unfolding flat_item
+  sound_flat_item first ts mid none h =
+      only_then _ _ _ _ (laws.sound_expr_from false first ts mid h) (λ e rest k.
+      only_read _ _ rest (plain_item e ts rest none k))
+
+  sound_by_names : (first : Operand) (p : Option PlainNames) (ts mid : Row) → plain_names first ≡ p → (plain_names first ≡ None → Ahead ts → ⊥) → YieldsUnit names (said_operand first) true ts mid
+      → Only Item ((by_names names run first p).run mid) (λ i rest. Yields names (said_item i) elsewhere ts rest)
+  sound_by_names first (Some p) ts mid is none h = sound_names first p ts mid is h.tokens
+  sound_by_names first None ts mid is none h = sound_flat_item first ts mid (none is) h
+
+  sound_by_name : (first : Operand) (name : Option Name) (ts mid : Row) → plain_name first ≡ name → (plain_name first ≡ None → plain_names first ≡ None → Ahead ts → ⊥) → YieldsUnit names (said_operand first) true ts mid
+      → Only Item ((by_name names run first name).run mid) (λ i rest. Yields names (said_item i) elsewhere ts rest)
+  sound_by_name first (Some name) ts mid is none h = sound_named first name ts mid is h.tokens
+  sound_by_name first None ts mid is none h = sound_by_names first (plain_names first) ts mid refl (none is) h
+
+  sound_item_from : (first : Operand) (ts mid : Row) → (operand names run true).parser.run ts ≡ Read first mid → Only Item ((item_from names run first).run mid) (λ i rest. Yields names (said_item i) elsewhere ts rest)
+  unfolding item_from declared
+  sound_item_from first ts mid e =
+      let h = (laws.sound_operand true ts).holds first mid e in
+      only_if (sees is_range (next_of mid)) _ _ _
+      (λ is. sound_by_name first (plain_name first) ts mid refl (λ none no a. (declares names run laws ts a first mid e).plain none no) h)
+      (λ is. sound_flat_item first ts mid (λ a. let c = (declares names run laws ts a first mid e).colon_next in absurd cc) h)
+
+  head_ahead : (ts : Row) (e : Expr) (rest : Row) → sees begins_head (next_of ts) ≡ true → ts ≡ tokens_of (said_expr e) ++ rest → begins_declaration (tokens_of (said_expr e)) ≡ false
+  unfolding sees
+  head_ahead ts e rest b is = head_declares_not (said_expr e).first (said_expr e).more (rw is at b)
+
+  sound_head_item : (ts : Row) → sees begins_head (next_of ts) ≡ true → Only Item ((head_item names run).parser.run ts) (λ i rest. Yields names (said_item i) elsewhere ts rest)
+  unfolding head_item
+  sound_head_item ts b =
+      only_then _ _ _ _ (laws.sound_head ts) (λ h mid k.
+      only_then _ _ _ _ (laws.sound_opened h ts mid k false) (λ e rest l.
+      only_read _ _ rest (rw (says-Expr e) (record { tokens = l.tokens; obeys = rw (head_ahead ts e rest b l.tokens, l.obeys) refl }))))
+
+  -- what is read, with that it is
+  only_kept : {A B : Type 0} (o : Outcome A) (f : A → Row → Outcome B) (Q : B → Row → Type 0) → ((x : A) (mid : Row) → o ≡ Read x mid → Only B (f x mid) Q) → Only B (and_then o f) Q
+  only_kept (Read x mid) f Q h = h x mid refl
+  only_kept (Failed e rest) f Q h = only_failed Q e rest
+
+  pub sound_item : (ts : Row) → Only Item ((item names run).parser.run ts) (λ i rest. Yields names (said_item i) elsewhere ts rest)
+  unfolding item
+  sound_item ts =
+      only_if (sees (is_word reserved.Var) (next_of ts)) _ _ _ (λ v. sound_var_item ts)
+      (λ v. only_if (sees begins_head (next_of ts)) _ _ _ (λ b. sound_head_item ts b)
+      (λ b. only_kept ((operand names run true).parser.run ts) _ _ (λ first mid e. sound_item_from first ts mid e)))
+
+  sound_block_item : (ready : Bool) (ts : Row) → begins_apart_of begins_item_kind ready (next_of ts) ≡ true → Only BlockItem ((block_item names run).parser.run ts) (λ e rest. YieldsEntry names ready (said_block_item e) ts rest)
+  unfolding block_item
+  sound_block_item ready ts b =
+      only_then _ _ _ _ (sound_item ts) (λ i mid h.
+      only_then _ _ _ _ (sound_semicolon mid) (λ s rest k.
+      only_read _ _ rest (rw (says_block_item i s) (record {
+        tokens = h.tokens ∙ ap (λ (u : Row). tokens_of (said_item i) ++ u) k;
+        obeys = h.obeys;
+        apart = begun begins_item_kind ready ts mid (said_item i) b h.tokens;
+      }))))
+
+  block_ended : (x : BlockItem) → is_ended (out-BlockItem x).semicolon ≡ is_ended (said_block_item x).semicolon
+  block_ended x = rw (block_item_says x) refl
+
+  pub sound_block : (ts : Row) → Only (List BlockItem) ((block names run).run ts) (λ xs rest. YieldsEntries names true (map said_block_item xs) ts rest)
+  unfolding block begins_item
+  sound_block ts = only_entries names said_block_item (λ x. is_ended (out-BlockItem x).semicolon) begins_item_kind (block_item names run) block_ended sound_block_item n ts
