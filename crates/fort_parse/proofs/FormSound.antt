@@ -36,14 +36,14 @@ use Rattle.fort_tree.specs.declared.expr.Run.{Run}
 use Rattle.fort_tree.specs.Tokens.{Spellings, word, named, marked, colon, equals, is_line, begins_declaration}
 use Rattle.fort_tree.specs.Said.{Said, SaidEntry, SaidElse, Allowed, elsewhere, before_do, tokens_of, gap_of, all_tokens, all_obey, maybe_tokens, maybe_obeys, is_there, semicolon_tokens, entries_tokens, entries_obey, has_entry, last_semicolon, else_tokens, else_apart, else_obeys}
 use Rattle.fort_tree.specs.Types.{said_type}
-use Rattle.fort_tree.specs.Blocks.{initial_token, after_var, next_names_tokens, has_next_name}
+use Rattle.fort_tree.specs.Blocks.{initial_token, after_var, clause, next_names_tokens, has_next_name}
 use Rattle.fort_tree.specs.Yield.{said_run, said_operand, said_flat, said_generator, said_head, said_expr, said_variable, said_item, said_delimited, said_also, said_block_item, said_case_clause, said_catch, said_elif, said_else_block, said_else_clause, said_finally, said_next_generator, said_type_clause}
 use Rattle.fort_tree.proofs.SaysBlocks.{says-Do, says-If, says-While, says-For, says-Case, says-Typecase, says-Try, says_also, says_elif, says_else_block, says_next_generator, says_case_clause, says_type_clause, says_else_clause, says_catch, says_finally, says_block_item, says-Variable, says-Names, says-Expr, says_variable, block_item_says, case_clause_says, type_clause_says}
 use Rattle.fort_reading.specs.Parser.{Row, Outcome, Read, Failed, and_then, accept_run, next_of, many_run, Eater, Parser}
 use Rattle.fort_reading.specs.Words.{is_range, is_eq, is_mark, is_word, spot_if, name_of, initial_of, sees}
 use Rattle.fort_reading.proofs.Laws.{Only, only_read, only_failed, only_then, only_if, only_more}
 use Rattle.fort_reading.proofs.Taking.{only_mark, only_word, only_name, only_colon, only_equals, only_initial}
-use Rattle.fort_reading.proofs.Yields.{Yields, YieldsAll, YieldsMaybe, both, left_true, right_true, not_true, only_list}
+use Rattle.fort_reading.proofs.Yields.{Yields, YieldsAll, YieldsMaybe, both, left_true, right_true, not_true, true_right, only_list}
 use Rattle.fort_parse_types.specs.Types.{type_tree}
 use Rattle.fort_parse_types.proofs.Sound.{sound_type_tree}
 use Rattle.fort_parse.specs.declared.plain.PlainNames.{PlainNames}
@@ -78,6 +78,11 @@ pub variable_obeys : (names : Spellings) (var : Option Spot) (name : Name) (at_c
     → (said_variable (roll-Variable (record { var = var; name = name; colon = at_colon; ty = ty; sign = sign; value = value }))).obeys names allowed ≡ ((said_type ty).obeys names elsewhere && (said_expr value).obeys names elsewhere)
 variable_obeys names None name at_colon ty sign value allowed = rw (says_variable None name at_colon ty sign value) refl
 variable_obeys names (Some s) name at_colon ty sign value allowed = rw (says_variable (Some s) name at_colon ty sign value) refl
+
+-- ts is the tokens of the `else` behind these clauses, where there is one, and then rest, and the rules hold in it
+pub record YieldsElse (names : Spellings) (es : List SaidEntry) (e : Option SaidElse) (ts rest : List Token) : Type 0 where
+  pub tokens : ts ≡ else_tokens e ++ rest
+  pub obeys : else_obeys names es e ≡ true
 
 module _ (names : Spellings) {n : ℕ} (run : Bool → Eater Run n) (laws : FlatLaws names run) where
   sound_semicolon : (ts : Row) → Only (Option Spot) ((semicolon names run).run ts) (λ s rest. ts ≡ semicolon_tokens s ++ rest)
@@ -207,3 +212,187 @@ module _ (names : Spellings) {n : ℕ} (run : Bool → Eater Run n) (laws : Flat
   pub sound_block : (ts : Row) → Only (List BlockItem) ((block names run).run ts) (λ xs rest. YieldsEntries names true (map said_block_item xs) ts rest)
   unfolding block begins_item
   sound_block ts = only_entries names said_block_item (λ x. is_ended (out-BlockItem x).semicolon) begins_item_kind (block_item names run) block_ended sound_block_item n ts
+
+  -- ---- clauses
+
+  -- the tokens of a clause, and then rest
+  clause_tokens : (subject : Said) (arrow : Spot) (value : Said) (rest : Row) → tokens_of (clause subject arrow value) ++ rest ≡ tokens_of subject ++ marked mark.DoubleArrow arrow ∷ (tokens_of value ++ rest)
+  clause_tokens subject arrow value rest = append_assoc (tokens_of subject) (marked mark.DoubleArrow arrow ∷ tokens_of value) rest
+
+  -- what a clause is read from
+  clause_whole : (subject : Said) (arrow : Spot) (value : Said) (s : Option Spot) (ts mid mid1 mid2 rest : Row) → ts ≡ tokens_of subject ++ mid → mid ≡ marked mark.DoubleArrow arrow ∷ mid1 → mid1 ≡ tokens_of value ++ mid2 → mid2 ≡ semicolon_tokens s ++ rest
+      → ts ≡ tokens_of (clause subject arrow value) ++ (semicolon_tokens s ++ rest)
+  clause_whole subject arrow value s ts mid mid1 mid2 rest e f g h =
+      e ∙ ap (λ (u : Row). tokens_of subject ++ u) (f ∙ ap (λ (u : Row). marked mark.DoubleArrow arrow ∷ u) (g ∙ ap (λ (u : Row). tokens_of value ++ u) h)) ∙ sym (clause_tokens subject arrow value (semicolon_tokens s ++ rest))
+
+  sound_case_clause : (ready : Bool) (ts : Row) → begins_apart_of (begins_unit true) ready (next_of ts) ≡ true → Only CaseClause ((case_clause names run).parser.run ts) (λ c rest. YieldsEntry names ready (said_case_clause c) ts rest)
+  unfolding case_clause
+  sound_case_clause ready ts b =
+      only_then _ _ _ _ (laws.sound_flat true ts) (λ subject mid h.
+      only_then _ _ _ _ (only_mark mark.DoubleArrow mid) (λ arrow mid1 k.
+      only_then _ _ _ _ (laws.sound_expr false mid1) (λ value mid2 l.
+      only_then _ _ _ _ (sound_semicolon mid2) (λ s rest m.
+      let whole = clause_whole (said_flat subject) arrow (said_expr value) s ts mid mid1 mid2 rest h.tokens k l.tokens m in
+      only_read _ _ rest (rw (says_case_clause subject arrow value s) (record {
+        tokens = whole;
+        obeys = both _ _ h.obeys l.obeys;
+        apart = begun (begins_unit true) ready ts mid (said_flat subject) b h.tokens;
+      }))))))
+
+  case_ended : (x : CaseClause) → is_ended (out-CaseClause x).semicolon ≡ is_ended (said_case_clause x).semicolon
+  case_ended x = rw (case_clause_says x) refl
+
+  sound_case_list : (ts : Row) → Only (List CaseClause) ((case_list names run).run ts) (λ xs rest. YieldsEntries names true (map said_case_clause xs) ts rest)
+  unfolding case_list begins_case_clause
+  sound_case_list ts = only_entries names said_case_clause (λ x. is_ended (out-CaseClause x).semicolon) (begins_unit true) (case_clause names run) case_ended sound_case_clause n ts
+
+  sound_type_clause : (ready : Bool) (ts : Row) → begins_apart_of begins_type ready (next_of ts) ≡ true → Only TypeClause ((type_clause names run).parser.run ts) (λ c rest. YieldsEntry names ready (said_type_clause c) ts rest)
+  unfolding type_clause
+  sound_type_clause ready ts b =
+      only_then _ _ _ _ (sound_type_tree names n ts) (λ ty mid h.
+      only_then _ _ _ _ (only_mark mark.DoubleArrow mid) (λ arrow mid1 k.
+      only_then _ _ _ _ (laws.sound_expr false mid1) (λ value mid2 l.
+      only_then _ _ _ _ (sound_semicolon mid2) (λ s rest m.
+      let whole = clause_whole (said_type ty) arrow (said_expr value) s ts mid mid1 mid2 rest h.tokens k l.tokens m in
+      only_read _ _ rest (rw (says_type_clause ty arrow value s) (record {
+        tokens = whole;
+        obeys = both _ _ h.obeys l.obeys;
+        apart = begun begins_type ready ts mid (said_type ty) b h.tokens;
+      }))))))
+
+  type_ended : (x : TypeClause) → is_ended (out-TypeClause x).semicolon ≡ is_ended (said_type_clause x).semicolon
+  type_ended x = rw (type_clause_says x) refl
+
+  sound_type_list : (ts : Row) → Only (List TypeClause) ((type_clause_list names run).run ts) (λ xs rest. YieldsEntries names true (map said_type_clause xs) ts rest)
+  unfolding type_clause_list begins_type_clause
+  sound_type_list ts = only_entries names said_type_clause (λ x. is_ended (out-TypeClause x).semicolon) begins_type (type_clause names run) type_ended sound_type_clause n ts
+
+  -- clauses, of which there is one at least
+  sound_some : {A : Type 0} (said : A → SaidEntry) (xs : List A) (ts mid : Row) → YieldsEntries names true (map said xs) ts mid
+      → Only (List A) ((some_of {n = n} xs).run mid) (λ ys rest. YieldsEntries names true (map said ys) ts rest × (has_entry (map said ys) ≡ true))
+  sound_some said [] ts mid h = only_failed _ _ mid
+  sound_some said (x ∷ xs) ts mid h = only_read _ (x ∷ xs) mid (h, refl)
+
+  sound_case_clauses : (ts : Row) → Only (List CaseClause) ((case_clauses names run).run ts) (λ xs rest. YieldsEntries names true (map said_case_clause xs) ts rest × (has_entry (map said_case_clause xs) ≡ true))
+  unfolding case_clauses
+  sound_case_clauses ts = only_then _ _ _ _ (sound_case_list ts) (λ xs mid h. sound_some said_case_clause xs ts mid h)
+
+  sound_type_clauses : (ts : Row) → Only (List TypeClause) ((type_clauses names run).run ts) (λ xs rest. YieldsEntries names true (map said_type_clause xs) ts rest × (has_entry (map said_type_clause xs) ≡ true))
+  unfolding type_clauses
+  sound_type_clauses ts = only_then _ _ _ _ (sound_type_list ts) (λ xs mid h. sound_some said_type_clause xs ts mid h)
+
+  -- ---- the `else` of clauses
+
+  else_whole : (second : Option Spot) (at_else arrow : Spot) (value : Expr) (ts start mid mid1 rest : Row) → ts ≡ semicolon_tokens second ++ start → start ≡ word reserved.Else at_else ∷ mid → mid ≡ marked mark.DoubleArrow arrow ∷ mid1 → mid1 ≡ tokens_of (said_expr value) ++ rest
+      → ts ≡ (semicolon_tokens second ++ (word reserved.Else at_else ∷ marked mark.DoubleArrow arrow ∷ tokens_of (said_expr value))) ++ rest
+  else_whole second at_else arrow value ts start mid mid1 rest e f g h =
+      e ∙ ap (λ (u : Row). semicolon_tokens second ++ u) (f ∙ ap (λ (u : Row). word reserved.Else at_else ∷ u) (g ∙ ap (λ (u : Row). marked mark.DoubleArrow arrow ∷ u) h))
+      ∙ sym (append_assoc (semicolon_tokens second) (word reserved.Else at_else ∷ marked mark.DoubleArrow arrow ∷ tokens_of (said_expr value)) rest)
+
+  sound_else_from : (second : Option Spot) (es : List SaidEntry) (ts start : Row) → ts ≡ semicolon_tokens second ++ start
+      → ((at_else : Spot) (mid : Row) → start ≡ word reserved.Else at_else ∷ mid → else_apart (last_semicolon es) second at_else.gap ≡ true)
+      → Only (Option ElseClause) ((else_from names run second).run start) (λ e rest. YieldsElse names es (option_map said_else_clause e) ts rest)
+  unfolding else_from
+  sound_else_from second es ts start is apart =
+      only_then _ _ _ _ (only_word reserved.Else start) (λ at_else mid h.
+      only_then _ _ _ _ (only_mark mark.DoubleArrow mid) (λ arrow mid1 k.
+      only_then _ _ _ _ (laws.sound_expr false mid1) (λ value rest l.
+      let whole = else_whole second at_else arrow value ts start mid mid1 rest is h k l.tokens in
+      let far = apart at_else mid h in
+      only_read _ _ rest (rw (says_else_clause second at_else arrow value) (record { tokens = whole; obeys = both _ _ far l.obeys })))))
+
+  apart_ended : (semicolon second : Option Spot) (gap : Gap) → is_ended semicolon ≡ true → else_apart semicolon second gap ≡ true
+  apart_ended None second gap e = absurd cc
+  apart_ended (Some s) second gap e = refl
+
+  apart_first : (semicolon : Option Spot) (gap : Gap) → (is_ended semicolon || is_line gap) ≡ true → else_apart semicolon None gap ≡ true
+  apart_first None gap e = e
+  apart_first (Some s) gap e = refl
+
+  else_begun : (ended : Bool) (ts : Row) (at_else : Spot) (mid : Row) → begins_else ended (next_of ts) ≡ true → ts ≡ word reserved.Else at_else ∷ mid → (ended || is_line at_else.gap) ≡ true
+  unfolding begins_else begins_apart_of
+  else_begun ended ts at_else mid e is = left_true _ _ (rw is at e)
+
+  sound_else_clause : (es : List SaidEntry) (ended : Bool) (ts : Row) → ended ≡ is_ended (last_semicolon es)
+      → Only (Option ElseClause) ((else_clause names run ended).run ts) (λ e rest. YieldsElse names es (option_map said_else_clause e) ts rest)
+  unfolding else_clause second_else
+  sound_else_clause es ended ts is =
+      only_if (sees_second ended (next_of ts)) _ _ _
+      (λ e. only_then _ _ _ _ (only_mark mark.Semicolon ts) (λ second mid h. sound_else_from (Some second) es ts mid h (λ at_else rest k. apart_ended (last_semicolon es) (Some second) at_else.gap (sym is ∙ left_true _ _ e))))
+      (λ e. only_if (begins_else ended (next_of ts)) _ _ _
+      (λ b. sound_else_from None es ts ts refl (λ at_else rest k. apart_first (last_semicolon es) at_else.gap (rw (sym is) (else_begun ended ts at_else rest b k))))
+      (λ b. only_read _ None ts (record { tokens = refl; obeys = refl })))
+
+  -- ---- parts of the forms
+
+  sound_also : (ts : Row) → Only Also ((also_block names run).parser.run ts) (λ a rest. Yields names (said_also a) elsewhere ts rest)
+  unfolding also_block
+  sound_also ts =
+      only_then _ _ _ _ (only_word reserved.Also ts) (λ also mid h.
+      only_then _ _ _ _ (only_word reserved.Do mid) (λ at_do mid1 k.
+      only_then _ _ _ _ (sound_block mid1) (λ b rest l.
+      only_read _ _ rest (rw (says_also also at_do b) (record { tokens = h ∙ ap (λ (u : Row). word reserved.Also also ∷ u) (k ∙ ap (λ (u : Row). word reserved.Do at_do ∷ u) l.tokens); obeys = l.obeys })))))
+
+  sound_alsos : (ts : Row) → Only (List Also) ((also_blocks names run).run ts) (λ xs rest. YieldsAll names (map said_also xs) elsewhere ts rest)
+  unfolding also_blocks
+  sound_alsos ts = only_list names elsewhere said_also (sees (is_word reserved.Also)) (also_block names run) (λ u e. sound_also u) n ts
+
+  sound_elif : (ts : Row) → Only Elif ((elif names run).parser.run ts) (λ x rest. Yields names (said_elif x) elsewhere ts rest)
+  unfolding elif
+  sound_elif ts =
+      only_then _ _ _ _ (only_word reserved.Elif ts) (λ at_elif mid h.
+      only_then _ _ _ _ (laws.sound_flat true mid) (λ condition mid1 k.
+      only_then _ _ _ _ (only_word reserved.Then mid1) (λ then mid2 l.
+      only_then _ _ _ _ (sound_block mid2) (λ b rest m.
+      let whole : ts ≡ word reserved.Elif at_elif ∷ (tokens_of (said_flat condition) ++ word reserved.Then then ∷ (entries_tokens (map said_block_item b) ++ rest)) =
+      h ∙ ap (λ (u : Row). word reserved.Elif at_elif ∷ u) (k.tokens ∙ ap (λ (u : Row). tokens_of (said_flat condition) ++ u) (l ∙ ap (λ (u : Row). word reserved.Then then ∷ u) m.tokens)) in
+      only_read _ _ rest (rw (says_elif at_elif condition then b) (record { tokens = whole ∙ simp append_assoc refl; obeys = both _ _ k.obeys m.obeys }))))))
+
+  sound_elifs : (ts : Row) → Only (List Elif) ((elifs names run).run ts) (λ xs rest. YieldsAll names (map said_elif xs) elsewhere ts rest)
+  unfolding elifs
+  sound_elifs ts = only_list names elsewhere said_elif (sees (is_word reserved.Elif)) (elif names run) (λ u e. sound_elif u) n ts
+
+  sound_else_block : (ts : Row) → Only (Option ElseBlock) ((else_block names run).run ts) (λ x rest. YieldsMaybe names (option_map said_else_block x) elsewhere ts rest)
+  unfolding else_block
+  sound_else_block ts =
+      only_if (sees (is_word reserved.Else) (next_of ts)) _ _ _
+      (λ e. only_then _ _ _ _ (only_word reserved.Else ts) (λ at_else mid h.
+      only_then _ _ _ _ (sound_block mid) (λ b rest k.
+      only_read _ _ rest (rw (says_else_block at_else b) (record { tokens = h ∙ ap (λ (u : Row). word reserved.Else at_else ∷ u) k.tokens; obeys = k.obeys })))))
+      (λ e. only_read _ None ts (record { tokens = refl; obeys = refl }))
+
+  sound_catch_from : (ts : Row) → Only (Option Catch) ((catch_from names run).run ts) (λ x rest. YieldsMaybe names (option_map said_catch x) elsewhere ts rest)
+  unfolding catch_from
+  sound_catch_from ts =
+      only_then _ _ _ _ (only_word reserved.Catch ts) (λ at_catch mid h.
+      only_then _ _ _ _ (only_name mid) (λ name mid1 k.
+      only_then _ _ _ _ (sound_type_clauses mid1) (λ clauses rest l.
+      only_read _ _ rest (rw (says_catch at_catch name clauses) (record { tokens = h ∙ ap (λ (u : Row). word reserved.Catch at_catch ∷ u) (k ∙ ap (λ (u : Row). named name ∷ u) l.0.tokens); obeys = both _ _ l.1 l.0.obeys })))))
+
+  sound_catch : (ts : Row) → Only (Option Catch) ((catch names run).run ts) (λ x rest. YieldsMaybe names (option_map said_catch x) elsewhere ts rest)
+  unfolding catch
+  sound_catch ts = only_if (sees (is_word reserved.Catch) (next_of ts)) _ _ _ (λ e. sound_catch_from ts) (λ e. only_read _ None ts (record { tokens = refl; obeys = refl }))
+
+  sound_no_finally : (optional : Bool) (ts : Row) → Only (Option Finally) ((no_finally names run optional).run ts) (λ x rest. YieldsMaybe names (option_map said_finally x) elsewhere ts rest × ((optional || is_there x) ≡ true))
+  sound_no_finally true ts = only_read _ None ts (record { tokens = refl; obeys = refl }, refl)
+  sound_no_finally false ts = only_failed _ _ ts
+
+  sound_finally : (optional : Bool) (ts : Row) → Only (Option Finally) ((finally names run optional).run ts) (λ x rest. YieldsMaybe names (option_map said_finally x) elsewhere ts rest × ((optional || is_there x) ≡ true))
+  unfolding finally
+  sound_finally optional ts =
+      only_if (sees (is_word reserved.Finally) (next_of ts)) _ _ _
+      (λ e. only_then _ _ _ _ (only_word reserved.Finally ts) (λ at_finally mid h.
+      only_then _ _ _ _ (sound_block mid) (λ b rest k.
+      only_read _ _ rest (rw (says_finally at_finally b) (record { tokens = h ∙ ap (λ (u : Row). word reserved.Finally at_finally ∷ u) k.tokens; obeys = k.obeys }, true_right optional)))))
+      (λ e. sound_no_finally optional ts)
+
+  sound_next_generator : (ts : Row) → Only NextGenerator ((next_generator names run).parser.run ts) (λ x rest. Yields names (said_next_generator x) before_do ts rest)
+  unfolding next_generator
+  sound_next_generator ts =
+      only_then _ _ _ _ (only_mark mark.Comma ts) (λ comma mid h.
+      only_then _ _ _ _ (laws.sound_generator false mid) (λ g rest k.
+      only_read _ _ rest (rw (says_next_generator comma g) (record { tokens = h ∙ ap (λ (u : Row). marked mark.Comma comma ∷ u) k.tokens; obeys = k.obeys }))))
+
+  sound_next_generators : (ts : Row) → Only (List NextGenerator) ((next_generators names run).run ts) (λ xs rest. YieldsAll names (map said_next_generator xs) before_do ts rest)
+  unfolding next_generators
+  sound_next_generators ts = only_list names before_do said_next_generator (sees (is_mark mark.Comma)) (next_generator names run) (λ u e. sound_next_generator u) n ts
