@@ -3,6 +3,7 @@ use Rattle.std.proofs.Common.{◌≡◌, ℕ, Bool, true, false, cond, List, [],
 use Rattle.std.specs.Prelude.{map, option_map, ◌&&◌, ◌||◌, not}
 use Rattle.fort_base.specs.declared.refusal.Gap.{Gap}
 use Rattle.fort_token.specs.declared.token.Kind.{Kind}
+use Rattle.fort_token.specs.declared.token.Kind.TheVariants as kind
 use Rattle.fort_token.specs.declared.token.Token.{Token}
 use Rattle.fort_token.specs.declared.marks.Mark.{Mark}
 use Rattle.fort_token.specs.declared.marks.Mark.TheVariants as mark
@@ -47,11 +48,12 @@ use Rattle.fort_reading.proofs.Yields.{Yields, YieldsAll, YieldsMaybe, both, lef
 use Rattle.fort_parse_types.specs.Types.{type_tree}
 use Rattle.fort_parse_types.proofs.Sound.{sound_type_tree}
 use Rattle.fort_parse.specs.declared.plain.PlainNames.{PlainNames}
-use Rattle.fort_parse.specs.Beginnings.{begins_head, begins_item, begins_item_kind, begins_case_clause, begins_type_clause, begins_else, begins_apart_of, begins_unit}
+use Rattle.fort_parse.specs.Beginnings.{begins_atom, begins_head, begins_item, begins_item_kind, begins_case_clause, begins_type_clause, begins_else, begins_apart_of, begins_unit}
 use Rattle.fort_parse_types.specs.Types.{begins_type}
 use Rattle.fort_parse.specs.Flats.{operand, flat, generator, head, opened, expr_from, expr}
 use Rattle.fort_parse.specs.Plain.{plain_name, plain_names}
 use Rattle.fort_parse.specs.Blocks.{is_ended, last_ended, some_of, sees_second, semicolon, initialised, variable_from, var_item, names_from, flat_item, by_names, by_name, declared, item_from, head_item, item, block_item, block, case_clause, case_list, case_clauses, type_clause, type_clause_list, type_clauses, else_from, second_else, else_clause, also_block, also_blocks, elif, elifs, else_block, catch_from, catch, no_finally, finally, next_generator, next_generators}
+use Rattle.fort_parse.specs.Runs.{do_form, if_rest, if_form, while_form, for_rest, for_form, case_rest, case_form, typecase_rest, typecase_form, try_form, word_form, form_for, delimited}
 use Rattle.fort_parse.proofs.FormDeclares.{Ahead, ahead_of, ahead_more, head_declares_not, declares}
 use Rattle.fort_parse.proofs.FormEntries.{YieldsEntry, YieldsEntries, begun, only_entries, last_is}
 use Rattle.fort_parse.proofs.FormPlain.{plain_name_says, plain_names_say}
@@ -78,6 +80,11 @@ pub variable_obeys : (names : Spellings) (var : Option Spot) (name : Name) (at_c
     → (said_variable (roll-Variable (record { var = var; name = name; colon = at_colon; ty = ty; sign = sign; value = value }))).obeys names allowed ≡ ((said_type ty).obeys names elsewhere && (said_expr value).obeys names elsewhere)
 variable_obeys names None name at_colon ty sign value allowed = rw (says_variable None name at_colon ty sign value) refl
 variable_obeys names (Some s) name at_colon ty sign value allowed = rw (says_variable (Some s) name at_colon ty sign value) refl
+
+there : {A B : Type 0} (x : Option A) (y : Option B) → (is_there x || is_there y) ≡ true → {A' B' : Type 0} (f : A → A') (g : B → B') → (is_there (option_map f x) || is_there (option_map g y)) ≡ true
+there None None e f g = absurd cc
+there None (Some y) e f g = refl
+there (Some x) y e f g = refl
 
 -- ts is the tokens of the `else` behind these clauses, where there is one, and then rest, and the rules hold in it
 pub record YieldsElse (names : Spellings) (es : List SaidEntry) (e : Option SaidElse) (ts rest : List Token) : Type 0 where
@@ -396,3 +403,138 @@ module _ (names : Spellings) {n : ℕ} (run : Bool → Eater Run n) (laws : Flat
   sound_next_generators : (ts : Row) → Only (List NextGenerator) ((next_generators names run).run ts) (λ xs rest. YieldsAll names (map said_next_generator xs) before_do ts rest)
   unfolding next_generators
   sound_next_generators ts = only_list names before_do said_next_generator (sees (is_mark mark.Comma)) (next_generator names run) (λ u e. sound_next_generator u) n ts
+
+  -- ---- the forms
+
+  sound_do_form : (blocks : Bool) (at_do : Spot) (ts : Row) → blocks ≡ true → Only Delimited ((do_form names run at_do).run ts) (λ d rest. YieldsUnit names (said_delimited d) blocks (word reserved.Do at_do ∷ ts) rest)
+  unfolding do_form
+  sound_do_form blocks at_do ts is =
+      only_then _ _ _ _ (sound_block ts) (λ b mid h.
+      only_then _ _ _ _ (sound_alsos mid) (λ others mid1 k.
+      only_then _ _ _ _ (only_word reserved.End mid1) (λ end rest l.
+      let ht = h.tokens in let kt = k.tokens in
+      only_read _ _ rest (rw (says-Do at_do b others end) (record { tokens = simp append_assoc (cc); obeys = λ lines. both _ _ is (both _ _ h.obeys k.obeys) })))))
+
+  sound_if_rest : (blocks : Bool) (at_if : Spot) (condition : Flat) (then : Spot) (b : List BlockItem) (ts mid : Row) → ts ≡ tokens_of (said_flat condition) ++ word reserved.Then then ∷ (entries_tokens (map said_block_item b) ++ mid)
+      → (said_flat condition).obeys names elsewhere ≡ true → entries_obey names (map said_block_item b) ≡ true
+      → Only Delimited ((if_rest names run at_if condition then b).run mid) (λ d rest. YieldsUnit names (said_delimited d) blocks (word reserved.If at_if ∷ ts) rest)
+  unfolding if_rest
+  sound_if_rest blocks at_if condition then b ts mid is ob obs =
+      only_then _ _ _ _ (sound_elifs mid) (λ others mid1 h.
+      only_then _ _ _ _ (sound_else_block mid1) (λ otherwise mid2 k.
+      only_then _ _ _ _ (only_word reserved.End mid2) (λ end rest l.
+      let ht = h.tokens in let kt = k.tokens in
+      only_read _ _ rest (rw (says-If at_if condition then b others otherwise end) (record { tokens = simp append_assoc (cc); obeys = λ lines. both _ _ ob (both _ _ obs (both _ _ h.obeys k.obeys)) })))))
+
+  sound_if_form : (blocks : Bool) (at_if : Spot) (ts : Row) → Only Delimited ((if_form names run at_if).run ts) (λ d rest. YieldsUnit names (said_delimited d) blocks (word reserved.If at_if ∷ ts) rest)
+  unfolding if_form
+  sound_if_form blocks at_if ts =
+      only_then _ _ _ _ (laws.sound_flat true ts) (λ condition mid h.
+      only_then _ _ _ _ (only_word reserved.Then mid) (λ then mid1 k.
+      only_then _ _ _ _ (sound_block mid1) (λ b mid2 l.
+      sound_if_rest blocks at_if condition then b ts mid2 (h.tokens ∙ ap (λ (u : Row). tokens_of (said_flat condition) ++ u) (k ∙ ap (λ (u : Row). word reserved.Then then ∷ u) l.tokens)) h.obeys l.obeys)))
+
+  sound_while_form : (blocks : Bool) (at_while : Spot) (ts : Row) → Only Delimited ((while_form names run at_while).run ts) (λ d rest. YieldsUnit names (said_delimited d) blocks (word reserved.While at_while ∷ ts) rest)
+  unfolding while_form
+  sound_while_form blocks at_while ts =
+      only_then _ _ _ _ (laws.sound_flat false ts) (λ condition mid h.
+      only_then _ _ _ _ (only_word reserved.Do mid) (λ at_do mid1 k.
+      only_then _ _ _ _ (sound_block mid1) (λ b mid2 l.
+      only_then _ _ _ _ (only_word reserved.End mid2) (λ end rest m.
+      let ht = h.tokens in let lt = l.tokens in
+      only_read _ _ rest (rw (says-While at_while condition at_do b end) (record { tokens = simp append_assoc (cc); obeys = λ lines. both _ _ h.obeys l.obeys }))))))
+
+  sound_for_rest : (blocks : Bool) (at_for : Spot) (g : Generator) (others : List NextGenerator) (ts mid : Row) → ts ≡ tokens_of (said_generator g) ++ (all_tokens (map said_next_generator others) ++ mid)
+      → (said_generator g).obeys names before_do ≡ true → all_obey names before_do (map said_next_generator others) ≡ true
+      → Only Delimited ((for_rest names run at_for g others).run mid) (λ d rest. YieldsUnit names (said_delimited d) blocks (word reserved.For at_for ∷ ts) rest)
+  unfolding for_rest
+  sound_for_rest blocks at_for g others ts mid is ob obs =
+      only_then _ _ _ _ (only_word reserved.Do mid) (λ at_do mid1 h.
+      only_then _ _ _ _ (sound_block mid1) (λ b mid2 k.
+      only_then _ _ _ _ (only_word reserved.End mid2) (λ end rest l.
+      let kt = k.tokens in
+      only_read _ _ rest (rw (says-For at_for g others at_do b end) (record { tokens = simp append_assoc (cc); obeys = λ lines. both _ _ ob (both _ _ obs k.obeys) })))))
+
+  sound_for_form : (blocks : Bool) (at_for : Spot) (ts : Row) → Only Delimited ((for_form names run at_for).run ts) (λ d rest. YieldsUnit names (said_delimited d) blocks (word reserved.For at_for ∷ ts) rest)
+  unfolding for_form
+  sound_for_form blocks at_for ts =
+      only_then _ _ _ _ (laws.sound_generator false ts) (λ g mid h.
+      only_then _ _ _ _ (sound_next_generators mid) (λ others mid1 k.
+      sound_for_rest blocks at_for g others ts mid1 (h.tokens ∙ ap (λ (u : Row). tokens_of (said_generator g) ++ u) k.tokens) h.obeys k.obeys))
+
+  case_last : (xs : List CaseClause) → last_ended (λ c. (out-CaseClause c).semicolon) xs ≡ is_ended (last_semicolon (map said_case_clause xs))
+  case_last xs = last_is said_case_clause (λ c. (out-CaseClause c).semicolon) (λ c. rw (case_clause_says c) refl) xs
+
+  type_last : (xs : List TypeClause) → last_ended (λ c. (out-TypeClause c).semicolon) xs ≡ is_ended (last_semicolon (map said_type_clause xs))
+  type_last xs = last_is said_type_clause (λ c. (out-TypeClause c).semicolon) (λ c. rw (type_clause_says c) refl) xs
+
+  sound_case_rest : (blocks : Bool) (at_case : Spot) (subject : Flat) (of : Spot) (ts mid : Row) → ts ≡ tokens_of (said_flat subject) ++ word reserved.Of of ∷ mid → (said_flat subject).obeys names elsewhere ≡ true
+      → Only Delimited ((case_rest names run at_case subject of).run mid) (λ d rest. YieldsUnit names (said_delimited d) blocks (word reserved.Case at_case ∷ ts) rest)
+  unfolding case_rest
+  sound_case_rest blocks at_case subject of ts mid is ob =
+      only_then _ _ _ _ (sound_case_clauses mid) (λ clauses mid1 h.
+      only_then _ _ _ _ (sound_else_clause (map said_case_clause clauses) (last_ended (λ c. (out-CaseClause c).semicolon) clauses) mid1 (case_last clauses)) (λ otherwise mid2 k.
+      only_then _ _ _ _ (only_word reserved.End mid2) (λ end rest l.
+      let ht = h.0.tokens in let kt = k.tokens in
+      only_read _ _ rest (rw (says-Case at_case subject of clauses otherwise end) (record { tokens = simp append_assoc (cc); obeys = λ lines. both _ _ ob (both _ _ h.1 (both _ _ h.0.obeys k.obeys)) })))))
+
+  sound_case_form : (blocks : Bool) (at_case : Spot) (ts : Row) → Only Delimited ((case_form names run at_case).run ts) (λ d rest. YieldsUnit names (said_delimited d) blocks (word reserved.Case at_case ∷ ts) rest)
+  unfolding case_form
+  sound_case_form blocks at_case ts =
+      only_then _ _ _ _ (laws.sound_flat true ts) (λ subject mid h.
+      only_then _ _ _ _ (only_word reserved.Of mid) (λ of mid1 k.
+      sound_case_rest blocks at_case subject of ts mid1 (h.tokens ∙ ap (λ (u : Row). tokens_of (said_flat subject) ++ u) k) h.obeys))
+
+  sound_typecase_rest : (blocks : Bool) (at_typecase : Spot) (name : Name) (at_equals : Spot) (subject : Flat) (of : Spot) (ts mid : Row) → ts ≡ named name ∷ equals at_equals ∷ (tokens_of (said_flat subject) ++ word reserved.Of of ∷ mid) → (said_flat subject).obeys names elsewhere ≡ true
+      → Only Delimited ((typecase_rest names run at_typecase name at_equals subject of).run mid) (λ d rest. YieldsUnit names (said_delimited d) blocks (word reserved.Typecase at_typecase ∷ ts) rest)
+  unfolding typecase_rest
+  sound_typecase_rest blocks at_typecase name at_equals subject of ts mid is ob =
+      only_then _ _ _ _ (sound_type_clauses mid) (λ clauses mid1 h.
+      only_then _ _ _ _ (sound_else_clause (map said_type_clause clauses) (last_ended (λ c. (out-TypeClause c).semicolon) clauses) mid1 (type_last clauses)) (λ otherwise mid2 k.
+      only_then _ _ _ _ (only_word reserved.End mid2) (λ end rest l.
+      let ht = h.0.tokens in let kt = k.tokens in
+      only_read _ _ rest (rw (says-Typecase at_typecase name at_equals subject of clauses otherwise end) (record { tokens = simp append_assoc (cc); obeys = λ lines. both _ _ ob (both _ _ h.1 (both _ _ h.0.obeys k.obeys)) })))))
+
+  sound_typecase_form : (blocks : Bool) (at_typecase : Spot) (ts : Row) → Only Delimited ((typecase_form names run at_typecase).run ts) (λ d rest. YieldsUnit names (said_delimited d) blocks (word reserved.Typecase at_typecase ∷ ts) rest)
+  unfolding typecase_form
+  sound_typecase_form blocks at_typecase ts =
+      only_then _ _ _ _ (only_name ts) (λ name mid h.
+      only_then _ _ _ _ (only_equals mid) (λ at_equals mid1 k.
+      only_then _ _ _ _ (laws.sound_flat true mid1) (λ subject mid2 l.
+      only_then _ _ _ _ (only_word reserved.Of mid2) (λ of mid3 m.
+      sound_typecase_rest blocks at_typecase name at_equals subject of ts mid3
+      (h ∙ ap (λ (u : Row). named name ∷ u) (k ∙ ap (λ (u : Row). equals at_equals ∷ u) (l.tokens ∙ ap (λ (u : Row). tokens_of (said_flat subject) ++ u) m))) l.obeys))))
+
+  sound_try_form : (blocks : Bool) (at_try : Spot) (ts : Row) → Only Delimited ((try_form names run at_try).run ts) (λ d rest. YieldsUnit names (said_delimited d) blocks (word reserved.Try at_try ∷ ts) rest)
+  unfolding try_form
+  sound_try_form blocks at_try ts =
+      only_then _ _ _ _ (sound_block ts) (λ b mid h.
+      only_then _ _ _ _ (sound_catch mid) (λ c mid1 k.
+      only_then _ _ _ _ (sound_finally (is_there c) mid1) (λ f mid2 l.
+      only_then _ _ _ _ (only_word reserved.End mid2) (λ end rest m.
+      let ht = h.tokens in let kt = k.tokens in let lt = l.0.tokens in
+      only_read _ _ rest (rw (says-Try at_try b c f end) (record { tokens = simp append_assoc (cc); obeys = λ lines. both _ _ (there c f l.1 said_catch said_finally) (both _ _ h.obeys (both _ _ k.obeys l.0.obeys)) }))))))
+
+  sound_word_form : (w : Reserved) (blocks : Bool) (ts : Row) → begins_atom blocks (kind.Word w) ≡ true → Only Delimited ((word_form names run w).parser.run ts) (λ d rest. YieldsUnit names (said_delimited d) blocks ts rest)
+  unfolding begins_atom
+  sound_word_form reserved.Do blocks ts e = only_then _ _ _ _ (only_word reserved.Do ts) (λ s mid h. rw h (sound_do_form blocks s mid e))
+  sound_word_form reserved.If blocks ts e = only_then _ _ _ _ (only_word reserved.If ts) (λ s mid h. rw h (sound_if_form blocks s mid))
+  sound_word_form reserved.While blocks ts e = only_then _ _ _ _ (only_word reserved.While ts) (λ s mid h. rw h (sound_while_form blocks s mid))
+  sound_word_form reserved.For blocks ts e = only_then _ _ _ _ (only_word reserved.For ts) (λ s mid h. rw h (sound_for_form blocks s mid))
+  sound_word_form reserved.Case blocks ts e = only_then _ _ _ _ (only_word reserved.Case ts) (λ s mid h. rw h (sound_case_form blocks s mid))
+  sound_word_form reserved.Typecase blocks ts e = only_then _ _ _ _ (only_word reserved.Typecase ts) (λ s mid h. rw h (sound_typecase_form blocks s mid))
+  sound_word_form reserved.Try blocks ts e = only_then _ _ _ _ (only_word reserved.Try ts) (λ s mid h. rw h (sound_try_form blocks s mid))
+  sound_word_form _ blocks ts e = only_failed _ _ ts
+
+  sound_form_for : (k : Kind) (blocks : Bool) (ts : Row) → begins_atom blocks k ≡ true → Only Delimited ((form_for names run k).parser.run ts) (λ d rest. YieldsUnit names (said_delimited d) blocks ts rest)
+  sound_form_for (kind.Word w) blocks ts e = sound_word_form w blocks ts e
+  sound_form_for (kind.Name v) blocks ts e = only_failed _ _ ts
+  sound_form_for (kind.Number v) blocks ts e = only_failed _ _ ts
+  sound_form_for (kind.Text v) blocks ts e = only_failed _ _ ts
+  sound_form_for (kind.Op v) blocks ts e = only_failed _ _ ts
+  sound_form_for (kind.Mark v) blocks ts e = only_failed _ _ ts
+
+  pub sound_delimited : (blocks : Bool) (ts : Row) → sees (begins_atom blocks) (next_of ts) ≡ true → Only Delimited ((delimited names run).parser.run ts) (λ d rest. YieldsUnit names (said_delimited d) blocks ts rest)
+  unfolding delimited sees
+  sound_delimited blocks [] e = only_failed _ _ []
+  sound_delimited blocks (t ∷ ts) e = sound_form_for t.kind blocks (t ∷ ts) e
