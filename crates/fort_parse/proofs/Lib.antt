@@ -6,3 +6,8 @@ pub mod Stops
 pub mod FlatComplete
 pub mod RunSound
 pub mod RunComplete
+pub mod FormFirsts
+pub mod FormEntries
+pub mod FormPlain
+pub mod FormDeclares
+pub mod FormSound
