@@ -1,4 +1,9 @@
 pub mod Statements
+pub mod Firsts
+pub mod FlatSound
+pub mod AnyLines
+pub mod Stops
+pub mod FlatComplete
 pub mod FormFirsts
 pub mod FormEntries
 pub mod FormPlain
