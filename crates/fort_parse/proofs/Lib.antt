@@ -9,3 +9,4 @@ pub mod FormEntries
 pub mod FormPlain
 pub mod FormDeclares
 pub mod FormSound
+pub mod FormComplete
