@@ -56,7 +56,7 @@ use Rattle.fort_reading.proofs.Yields.{both, left_true, right_true, true_right, 
 use Rattle.fort_parse_types.proofs.Complete.{complete_maybe_parameters}
 use Rattle.fort_parse.specs.Beginnings.{is_prefix, is_infix_kind, begins_atom, begins_postfix, begins_unit, begins_run_part, begins_flat_part, begins_head, begins_expr, assigns}
 use Rattle.fort_parse.specs.Flats.{prefixed, operand, infix_part, flat_part, flat_parts, flat, sequential, parallel, generator, reduction, big_reduction, function, word_head, head_for, head, open_assign, opened, assigned, assign, flat_more, expr_from, expr, next_expr, next_exprs, expr_list, maybe_list}
-use Rattle.fort_parse.proofs.Statements.{allowing, flat_stops, expr_stops, UnitFirst, RunLaws, FlatLaws}
+use Rattle.fort_parse.proofs.Statements.{allowing, flat_stops, expr_stops, UnitExpr, HeadExpr, RunLaws, FlatLaws}
 use Rattle.fort_parse.proofs.Firsts.{run_begins, operand_begins, flat_begins, head_begins, expr_begins, close_no_expr, flat_not_head, unit_not_head, atom_not_prefix, atom_not_infix, atom_not_assigns, infix_not_assigns}
 use Rattle.fort_parse.proofs.AnyLines.{run_same, operand_same}
 use Rattle.fort_parse.proofs.Stops.{stops_run, stops_part, stops_flat, stops_assigns, mark_ends_flat, mark_ends_expr, assign_ends_flat, assign_assigns, fewer_parts}
@@ -108,13 +108,6 @@ or_cases false b P e f g = g e
 part_not_assigns : (lines blocks : Bool) (t : Token) → begins_flat_part (allowing lines blocks) (Some t) ≡ true → sees assigns (Some t) ≡ false
 unfolding begins_flat_part sees
 part_not_assigns lines blocks t e = or_cases (is_infix_kind t.kind) _ (assigns t.kind ≡ false) (right_true _ _ e) (infix_not_assigns t.kind) (λ h. atom_not_assigns blocks t.kind (right_true _ _ h))
-
--- an expression with a head is read as that and what goes on behind it
-record HeadExpr (names : Spellings) {n : ℕ} (run : Bool → Eater Run n) (e : Expr) (rest : Row) : Type 0 where
-  pub start : Head
-  pub mid : Row
-  pub reads_head : Gets Head ((head names run).parser.run (tokens_of (said_expr e) ++ rest)) start mid
-  pub goes_on : Gets Expr ((opened names run start).run mid) e rest
 
 -- a list of parts with a first stretch on one line
 record Split (names : Spellings) (lines : Bool) (xs : List FlatPart) (rest : Row) : Type 0 where
@@ -311,42 +304,40 @@ module _ (names : Spellings) {n : ℕ} (run : Bool → Eater Run n) (laws : RunL
   gets_open_assign h target sign value rest ot ov st =
       gets_then _ (complete_flat true target _ ot (assign_ends_flat false sign)) (rw (assign_assigns sign) (gets_then _ (gets_assign sign _) (gets_then _ (complete_flat true value rest ov st) reads)))
 
-  unit_of_flat : (lines : Bool) (f : Flat) (rest : Row) → (said_flat f).obeys names (allowing lines true) ≡ true → expr_stops lines (next_of rest) ≡ true → UnitFirst names run lines (an_expr.Flat f) rest
-  unit_of_flat lines f rest = cases_flat (λ f. (said_flat f).obeys names (allowing lines true) ≡ true → expr_stops lines (next_of rest) ≡ true → UnitFirst names run lines (an_expr.Flat f) rest)
+  unit_of_flat : (lines : Bool) (f : Flat) (rest : Row) → (said_flat f).obeys names (allowing lines true) ≡ true → expr_stops lines (next_of rest) ≡ true → UnitExpr names run lines (an_expr.Flat f) rest
+  unit_of_flat lines f rest = cases_flat (λ f. (said_flat f).obeys names (allowing lines true) ≡ true → expr_stops lines (next_of rest) ≡ true → UnitExpr names run lines (an_expr.Flat f) rest)
       (λ first parts ob st. let own = rw (says_flat first parts) at ob in
       let whole = roll-Flat (record { first = first; rest = parts }) in
-      let more : Row = all_tokens (map said_flat_part parts) in
-      let is : tokens_of (said_expr (an_expr.Flat whole)) ≡ tokens_of (said_operand first) ++ more = rw (says-Flat whole, says_flat first parts) refl in
-      let all : tokens_of (said_expr (an_expr.Flat whole)) ++ rest ≡ tokens_of (said_operand first) ++ (more ++ rest) = ap (λ (u : Row). u ++ rest) is ∙ append_assoc (tokens_of (said_operand first)) more rest in
+      let mid : Row = all_tokens (map said_flat_part parts) ++ rest in
+      let is : tokens_of (said_expr (an_expr.Flat whole)) ++ rest ≡ tokens_of (said_operand first) ++ mid = rw (says-Flat whole, says_flat first parts) (simp append_assoc refl) in
       record {
-        first = first; more = more; whole = is;
-        unit = rw all (complete_operand lines true first (more ++ rest) (left_true _ _ own) (next_run_stops lines true parts rest (right_true _ _ own) (stops_run lines true (next_of rest) (stops_flat lines (next_of rest) st))));
+        unit = first; mid = mid; tokens = is; more = all_tokens (map said_flat_part parts); behind = refl;
+        reads_unit = rw is (complete_operand lines true first mid (left_true _ _ own) (next_run_stops lines true parts rest (right_true _ _ own) (stops_run lines true (next_of rest) (stops_flat lines (next_of rest) st))));
         goes_on = flat_goes_on lines first parts rest (right_true _ _ own) st;
       }) f
 
   unit_of_assign : (lines : Bool) (target : Flat) (sign : AssignSign) (h : Option Head) (value : Flat) (rest : Row) → (said_flat target).obeys names elsewhere ≡ true
-      → maybe_obeys names elsewhere (option_map said_head h) ≡ true → (said_flat value).obeys names elsewhere ≡ true → flat_stops false true (next_of rest) ≡ true → UnitFirst names run lines (an_expr.Assign target sign h value) rest
+      → maybe_obeys names elsewhere (option_map said_head h) ≡ true → (said_flat value).obeys names elsewhere ≡ true → flat_stops false true (next_of rest) ≡ true → UnitExpr names run lines (an_expr.Assign target sign h value) rest
   unit_of_assign lines target sign h value rest = cases_flat (λ target. (said_flat target).obeys names elsewhere ≡ true
-      → maybe_obeys names elsewhere (option_map said_head h) ≡ true → (said_flat value).obeys names elsewhere ≡ true → flat_stops false true (next_of rest) ≡ true → UnitFirst names run lines (an_expr.Assign target sign h value) rest)
+      → maybe_obeys names elsewhere (option_map said_head h) ≡ true → (said_flat value).obeys names elsewhere ≡ true → flat_stops false true (next_of rest) ≡ true → UnitExpr names run lines (an_expr.Assign target sign h value) rest)
       (λ first parts ot oh ov st. let own = rw (says_flat first parts) at ot in
       let whole = roll-Flat (record { first = first; rest = parts }) in
-      let more : Row = all_tokens (map said_flat_part parts) ++ assign_token sign ∷ (maybe_tokens (option_map said_head h) ++ tokens_of (said_flat value)) in
-      let behind : Row = all_tokens (map said_flat_part parts) ++ assign_token sign ∷ (maybe_tokens (option_map said_head h) ++ (tokens_of (said_flat value) ++ rest)) in
-      let same : more ++ rest ≡ behind = simp append_assoc refl in
-      let is : tokens_of (said_expr (an_expr.Assign whole sign h value)) ≡ tokens_of (said_operand first) ++ more = rw (says-Assign whole sign h value, says_flat first parts) (simp append_assoc refl) in
-      let all : tokens_of (said_expr (an_expr.Assign whole sign h value)) ++ rest ≡ tokens_of (said_operand first) ++ (more ++ rest) = ap (λ (u : Row). u ++ rest) is ∙ append_assoc (tokens_of (said_operand first)) more rest in
+      let mid : Row = all_tokens (map said_flat_part parts) ++ assign_token sign ∷ (maybe_tokens (option_map said_head h) ++ (tokens_of (said_flat value) ++ rest)) in
+      let is : tokens_of (said_expr (an_expr.Assign whole sign h value)) ++ rest ≡ tokens_of (said_operand first) ++ mid = rw (says-Assign whole sign h value, says_flat first parts) (simp append_assoc refl) in
       let stop = stops_run false true (Some (assign_token sign)) (assign_ends_flat false sign) in
       record {
-        first = first; more = more; whole = is;
-        unit = rw all (rw same (complete_operand false true first behind (left_true _ _ own) (next_run_stops false true parts _ (right_true _ _ own) stop)));
-        goes_on = rw same (assign_goes_on lines first parts sign h value rest (right_true _ _ own) oh ov st);
+        unit = first; mid = mid; tokens = is;
+        more = all_tokens (map said_flat_part parts) ++ assign_token sign ∷ (maybe_tokens (option_map said_head h) ++ tokens_of (said_flat value));
+        behind = simp append_assoc refl;
+        reads_unit = rw is (complete_operand false true first mid (left_true _ _ own) (next_run_stops false true parts _ (right_true _ _ own) stop));
+        goes_on = assign_goes_on lines first parts sign h value rest (right_true _ _ own) oh ov st;
       }) target
 
   no_head : (h : Head) → begins_head (said_head h).first.kind ≡ false → ⊥
   no_head h e = let is = head_begins h in cc
 
-  pub complete_unit_first : (lines : Bool) (e : Expr) (rest : Row) → (said_expr e).obeys names (allowing lines true) ≡ true → expr_stops lines (next_of rest) ≡ true → begins_head (said_expr e).first.kind ≡ false → UnitFirst names run lines e rest
-  complete_unit_first lines e rest = cases_expr (λ e. (said_expr e).obeys names (allowing lines true) ≡ true → expr_stops lines (next_of rest) ≡ true → begins_head (said_expr e).first.kind ≡ false → UnitFirst names run lines e rest)
+  pub complete_unit_expr : (lines : Bool) (e : Expr) (rest : Row) → (said_expr e).obeys names (allowing lines true) ≡ true → expr_stops lines (next_of rest) ≡ true → begins_head (said_expr e).first.kind ≡ false → UnitExpr names run lines e rest
+  complete_unit_expr lines e rest = cases_expr (λ e. (said_expr e).obeys names (allowing lines true) ≡ true → expr_stops lines (next_of rest) ≡ true → begins_head (said_expr e).first.kind ≡ false → UnitExpr names run lines e rest)
       (λ f ob st b. unit_of_flat lines f rest (rw (says-Flat f) at ob) st)
       (λ target sign h value ob st b. let own = rw (says-Assign target sign h value) at ob in
       unit_of_assign lines target sign h value rest (left_true _ _ own) (left_true _ _ (right_true _ _ own)) (right_true _ _ (right_true _ _ own)) (flat_ends lines (next_of rest) (stops_flat lines (next_of rest) st)))
@@ -356,7 +347,7 @@ module _ (names : Spellings) {n : ℕ} (run : Bool → Eater Run n) (laws : RunL
   some_head : (names : Spellings) (allowed : Allowed) (f : Flat) → (said_flat f).obeys names allowed ≡ true → begins_head (said_flat f).first.kind ≡ true → ⊥
   some_head names allowed f ob e = let is = flat_not_head names allowed f ob in cc
 
-  complete_head_expr : (lines : Bool) (e : Expr) (rest : Row) → (said_expr e).obeys names (allowing lines true) ≡ true → expr_stops lines (next_of rest) ≡ true → begins_head (said_expr e).first.kind ≡ true → HeadExpr names run e rest
+  pub complete_head_expr : (lines : Bool) (e : Expr) (rest : Row) → (said_expr e).obeys names (allowing lines true) ≡ true → expr_stops lines (next_of rest) ≡ true → begins_head (said_expr e).first.kind ≡ true → HeadExpr names run e rest
   complete_head_expr lines e rest = cases_expr (λ e. (said_expr e).obeys names (allowing lines true) ≡ true → expr_stops lines (next_of rest) ≡ true → begins_head (said_expr e).first.kind ≡ true → HeadExpr names run e rest)
       (λ f ob st b. absurd (some_head names (allowing lines true) f (rw (says-Flat f) at ob) (rw (says-Flat f) at b)))
       (λ target sign h value ob st b. absurd (some_head names elsewhere target (left_true _ _ (rw (says-Assign target sign h value) at ob)) (rw (says-Assign target sign h value) at b)))
@@ -377,7 +368,7 @@ module _ (names : Spellings) {n : ℕ} (run : Bool → Eater Run n) (laws : RunL
   unfolding expr
   complete_expr lines e rest ob st = bool_cases (begins_head (said_expr e).first.kind) _
       (λ b. let h = complete_head_expr lines e rest ob st b in rw (sees_first begins_head (said_expr e).first true b) (gets_then _ h.reads_head h.goes_on))
-      (λ b. let u = complete_unit_first lines e rest ob st b in rw (sees_first begins_head (said_expr e).first false b) (gets_then _ u.unit u.goes_on))
+      (λ b. let u = complete_unit_expr lines e rest ob st b in rw (sees_first begins_head (said_expr e).first false b) (gets_then _ u.reads_unit u.goes_on))
 
   -- ---- lists of expressions
 
@@ -439,6 +430,7 @@ flat_laws names run laws = record {
   complete_generator = complete_generator names run laws;
   complete_head = complete_head names run laws;
   complete_expr = complete_expr names run laws;
-  complete_unit_first = complete_unit_first names run laws;
+  complete_unit_expr = complete_unit_expr names run laws;
+  complete_head_expr = complete_head_expr names run laws;
   complete_maybe_list = complete_maybe_list names run laws;
 }

@@ -4,10 +4,11 @@ pub mod FlatSound
 pub mod AnyLines
 pub mod Stops
 pub mod FlatComplete
-pub mod RunSound
-pub mod RunComplete
 pub mod FormFirsts
 pub mod FormEntries
 pub mod FormPlain
 pub mod FormDeclares
 pub mod FormSound
+pub mod FormComplete
+pub mod RunSound
+pub mod RunComplete

@@ -29,7 +29,7 @@ use Rattle.fort_reading.specs.Parser.{Row, Eater, Parser, next_of}
 use Rattle.fort_reading.specs.Words.{sees, is_mark}
 use Rattle.fort_reading.proofs.Laws.{Only, Gets}
 use Rattle.fort_reading.proofs.Yields.{Yields, YieldsAll, YieldsMaybe}
-use Rattle.fort_parse.specs.Beginnings.{begins_atom, begins_head, begins_run_part, begins_flat_part, assigns}
+use Rattle.fort_parse.specs.Beginnings.{begins_atom, begins_run_part, begins_flat_part, begins_head, assigns}
 use Rattle.fort_parse.specs.Flats.{operand, flat, generator, head, opened, expr_from, expr, maybe_list}
 use Rattle.fort_parse.specs.Blocks.{variable_from}
 use Rattle.fort_parse.specs.Runs.{delimited}
@@ -57,14 +57,23 @@ pub record RunLaws (names : Spellings) {n : ℕ} (run : Bool → Eater Run n) : 
   pub complete : (lines blocks : Bool) (r : Run) (rest : Row) → (said_run r).obeys names (allowing lines blocks) ≡ true → begins_run_part blocks (next_of rest) ≡ false
       → Gets Run ((run blocks).parser.run (tokens_of (said_run r) ++ rest)) r rest
 
--- The tokens of an expression without a head, and then rest, are read by its first unit, and the others by what goes on behind it.
-pub record UnitFirst (names : Spellings) {n : ℕ} (run : Bool → Eater Run n) (lines : Bool) (e : Expr) (rest : Row) : Type 0 where
-  pub first : Operand
+-- an expression without a head is read as its first unit and what goes on behind it
+pub record UnitExpr (names : Spellings) {n : ℕ} (run : Bool → Eater Run n) (lines : Bool) (e : Expr) (rest : Row) : Type 0 where
+  pub unit : Operand
+  pub mid : Row
+  pub reads_unit : Gets Operand ((operand names run true).parser.run (tokens_of (said_expr e) ++ rest)) unit mid
+  pub goes_on : Gets Expr ((expr_from names run lines unit).run mid) e rest
+  pub tokens : tokens_of (said_expr e) ++ rest ≡ tokens_of (said_operand unit) ++ mid
   -- the tokens of e behind its first unit
-  pub more : List Token
-  pub whole : tokens_of (said_expr e) ≡ tokens_of (said_operand first) ++ more
-  pub unit : Gets Operand ((operand names run true).parser.run (tokens_of (said_expr e) ++ rest)) first (more ++ rest)
-  pub goes_on : Gets Expr ((expr_from names run lines first).run (more ++ rest)) e rest
+  pub more : Row
+  pub behind : mid ≡ more ++ rest
+
+-- an expression with a head is read as that and what goes on behind it
+pub record HeadExpr (names : Spellings) {n : ℕ} (run : Bool → Eater Run n) (e : Expr) (rest : Row) : Type 0 where
+  pub start : Head
+  pub mid : Row
+  pub reads_head : Gets Head ((head names run).parser.run (tokens_of (said_expr e) ++ rest)) start mid
+  pub goes_on : Gets Expr ((opened names run start).run mid) e rest
 
 -- the same of units, flat expressions, generators, heads and expressions
 pub record FlatLaws (names : Spellings) {n : ℕ} (run : Bool → Eater Run n) : Type 0 where
@@ -88,9 +97,10 @@ pub record FlatLaws (names : Spellings) {n : ℕ} (run : Bool → Eater Run n) :
   pub complete_head : (h : Head) (rest : Row) → (said_head h).obeys names elsewhere ≡ true → Gets Head ((head names run).parser.run (tokens_of (said_head h) ++ rest)) h rest
   pub complete_expr : (lines : Bool) (e : Expr) (rest : Row) → (said_expr e).obeys names (allowing lines true) ≡ true → expr_stops lines (next_of rest) ≡ true
       → Gets Expr ((expr names run lines).parser.run (tokens_of (said_expr e) ++ rest)) e rest
-  -- an item of a block reads the first unit and looks whether a `:` follows it
-  pub complete_unit_first : (lines : Bool) (e : Expr) (rest : Row) → (said_expr e).obeys names (allowing lines true) ≡ true → expr_stops lines (next_of rest) ≡ true → begins_head (said_expr e).first.kind ≡ false
-      → UnitFirst names run lines e rest
+  pub complete_unit_expr : (lines : Bool) (e : Expr) (rest : Row) → (said_expr e).obeys names (allowing lines true) ≡ true → expr_stops lines (next_of rest) ≡ true → begins_head (said_expr e).first.kind ≡ false
+      → UnitExpr names run lines e rest
+  pub complete_head_expr : (lines : Bool) (e : Expr) (rest : Row) → (said_expr e).obeys names (allowing lines true) ≡ true → expr_stops lines (next_of rest) ≡ true → begins_head (said_expr e).first.kind ≡ true
+      → HeadExpr names run e rest
   pub complete_maybe_list : (l : Option ExprList) (right : Spot) (rest : Row) → maybe_obeys names in_brackets (option_map said_expr_list l) ≡ true
       → Gets (Option ExprList) ((maybe_list names run).run (maybe_tokens (option_map said_expr_list l) ++ marked mark.CloseParen right ∷ rest)) l (marked mark.CloseParen right ∷ rest)
 
