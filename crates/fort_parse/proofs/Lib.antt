@@ -4,6 +4,7 @@ pub mod FlatSound
 pub mod AnyLines
 pub mod Stops
 pub mod FlatComplete
+pub mod Entries
 pub mod FormFirsts
 pub mod FormEntries
 pub mod FormPlain

@@ -149,7 +149,7 @@ pub sound_parameter : (names : Spellings) (n : ℕ) (ts : Row) → Only Paramete
 unfolding parameter
 sound_parameter names n ts = only_then _ _ _ _ (only_name ts) (λ name mid h. rw h (sound_typed names n name mid))
 
-sound_next_parameter : (names : Spellings) (n : ℕ) (ts : Row) → Only NextParameter ((next_parameter names n).parser.run ts) (λ x rest. Yields names (said_next_parameter x) elsewhere ts rest)
+pub sound_next_parameter : (names : Spellings) (n : ℕ) (ts : Row) → Only NextParameter ((next_parameter names n).parser.run ts) (λ x rest. Yields names (said_next_parameter x) elsewhere ts rest)
 unfolding next_parameter
 sound_next_parameter names n ts =
     only_then _ _ _ _ (only_mark mark.Comma ts) (λ comma mid h.

@@ -1,0 +1,4 @@
+pub mod Parts
+pub mod NamesSound
+pub mod MethodsSound
+pub mod DeclarationsSound
