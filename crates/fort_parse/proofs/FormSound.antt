@@ -81,6 +81,10 @@ pub variable_obeys : (names : Spellings) (var : Option Spot) (name : Name) (at_c
 variable_obeys names None name at_colon ty sign value allowed = rw (says_variable None name at_colon ty sign value) refl
 variable_obeys names (Some s) name at_colon ty sign value allowed = rw (says_variable (Some s) name at_colon ty sign value) refl
 
+-- the tokens of a clause, and then rest
+pub clause_tokens : (subject : Said) (arrow : Spot) (value : Said) (rest : Row) → tokens_of (clause subject arrow value) ++ rest ≡ tokens_of subject ++ marked mark.DoubleArrow arrow ∷ (tokens_of value ++ rest)
+clause_tokens subject arrow value rest = append_assoc (tokens_of subject) (marked mark.DoubleArrow arrow ∷ tokens_of value) rest
+
 there : {A B : Type 0} (x : Option A) (y : Option B) → (is_there x || is_there y) ≡ true → {A' B' : Type 0} (f : A → A') (g : B → B') → (is_there (option_map f x) || is_there (option_map g y)) ≡ true
 there None None e f g = absurd cc
 there None (Some y) e f g = refl
@@ -221,10 +225,6 @@ module _ (names : Spellings) {n : ℕ} (run : Bool → Eater Run n) (laws : Flat
   sound_block ts = only_entries names said_block_item (λ x. is_ended (out-BlockItem x).semicolon) begins_item_kind (block_item names run) block_ended sound_block_item n ts
 
   -- ---- clauses
-
-  -- the tokens of a clause, and then rest
-  clause_tokens : (subject : Said) (arrow : Spot) (value : Said) (rest : Row) → tokens_of (clause subject arrow value) ++ rest ≡ tokens_of subject ++ marked mark.DoubleArrow arrow ∷ (tokens_of value ++ rest)
-  clause_tokens subject arrow value rest = append_assoc (tokens_of subject) (marked mark.DoubleArrow arrow ∷ tokens_of value) rest
 
   -- what a clause is read from
   clause_whole : (subject : Said) (arrow : Spot) (value : Said) (s : Option Spot) (ts mid mid1 mid2 rest : Row) → ts ≡ tokens_of subject ++ mid → mid ≡ marked mark.DoubleArrow arrow ∷ mid1 → mid1 ≡ tokens_of value ++ mid2 → mid2 ≡ semicolon_tokens s ++ rest
