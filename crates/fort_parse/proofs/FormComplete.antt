@@ -62,8 +62,8 @@ use Rattle.fort_parse.proofs.FormFirsts.{flat_begins, expr_begins, item_begins, 
 use Rattle.fort_parse.proofs.FormPlain.{unit_of, parens_of, names_tokens, name_unit_is, names_unit_is, parens_no_name, plain_name_says, plain_names_say}
 use Rattle.fort_parse.proofs.FormDeclares.{name_declares, names_declare, gets_name_unit, gets_names_unit}
 use Rattle.fort_parse.proofs.FormEntries.{StopsAfter, StopsLast, stops_last, ended_last, first_apart, gets_entries, last_is}
-use Rattle.fort_parse.proofs.FormSound.{variable_tokens, variable_obeys, clause_tokens}
-use Rattle.fort_parse.proofs.Statements.{FlatLaws, UnitExpr, HeadExpr, allowing, flat_stops, expr_stops, var_tokens}
+use Rattle.fort_parse.proofs.FormSound.{variable_tokens, variable_obeys, clause_tokens, sound_variable_from, sound_delimited}
+use Rattle.fort_parse.proofs.Statements.{FlatLaws, FormLaws, UnitExpr, HeadExpr, allowing, flat_stops, expr_stops, var_tokens}
 
 -- ---- the next token
 
@@ -115,6 +115,10 @@ sees_var s = refl
 sees_word : (w v : Reserved) (s : Spot) (b : Bool) → same_word v w ≡ b → sees (is_word w) (Some (word v s)) ≡ b
 unfolding sees is_word
 sees_word w v s b e = e
+
+is_there_of : {A B : Type 0} (f : A → B) (x : Option A) → is_there (option_map f x) ≡ is_there x
+is_there_of f None = refl
+is_there_of f (Some x) = refl
 
 sees_semicolon : (s : Spot) → sees (is_mark mark.Semicolon) (Some (marked mark.Semicolon s)) ≡ true
 unfolding sees is_mark same_mark
@@ -505,3 +509,111 @@ module _ (names : Spellings) {n : ℕ} (run : Bool → Eater Run n) (laws : Flat
   unfolding next_generators
   complete_next_generators xs at_do rest ob = gets_list names before_do said_next_generator (sees (is_mark mark.Comma)) (next_generator names run) (λ next. flat_stops false false next ≡ true) complete_next_generator (λ x own. next_generator_begins x) (λ x own. next_generator_stops x)
       n xs (word reserved.Do at_do ∷ rest) ob (do_stops at_do) (do_no_comma at_do)
+
+  -- ---- the forms
+
+  complete_do : (at_do : Spot) (b : List BlockItem) (others : List Also) (end : Spot) (rest : Row) → entries_obey names (map said_block_item b) ≡ true → all_obey names elsewhere (map said_also others) ≡ true
+      → Gets Delimited ((do_form names run at_do).run (entries_tokens (map said_block_item b) ++ (all_tokens (map said_also others) ++ word reserved.End end ∷ rest))) (a_delimited.Do at_do b others end) rest
+  unfolding do_form
+  complete_do at_do b others end rest ob obs =
+      gets_then _ (complete_block b _ ob (next_stops names elsewhere said_also Ends (λ x own. also_ends x) others (word reserved.End end ∷ rest) obs (ends_with reserved.End end refl)))
+      (gets_then _ (complete_alsos others end rest obs) (gets_then _ (gets_word reserved.End end rest) reads))
+
+  complete_if : (at_if : Spot) (condition : Flat) (then : Spot) (b : List BlockItem) (others : List Elif) (otherwise : Option ElseBlock) (end : Spot) (rest : Row) → (said_flat condition).obeys names elsewhere ≡ true
+      → entries_obey names (map said_block_item b) ≡ true → all_obey names elsewhere (map said_elif others) ≡ true → maybe_obeys names elsewhere (option_map said_else_block otherwise) ≡ true
+      → Gets Delimited ((if_form names run at_if).run (tokens_of (said_flat condition) ++ word reserved.Then then ∷ (entries_tokens (map said_block_item b) ++ (all_tokens (map said_elif others) ++ (maybe_tokens (option_map said_else_block otherwise) ++ word reserved.End end ∷ rest)))))
+      (a_delimited.If at_if condition then b others otherwise end) rest
+  unfolding if_form if_rest
+  complete_if at_if condition then b others otherwise end rest oc ob oo oe =
+      let next = else_next otherwise end rest in
+      gets_then _ (laws.complete_flat true condition _ oc (then_stops then)) (gets_then _ (gets_word reserved.Then then _)
+      (gets_then _ (complete_block b _ ob (next_stops names elsewhere said_elif Ends (λ x own. elif_ends x) others _ oo next.0))
+      (gets_then _ (complete_elifs others _ oo next.0 next.1) (gets_then _ (complete_else_block otherwise end rest oe) (gets_then _ (gets_word reserved.End end rest) reads)))))
+
+  complete_while : (at_while : Spot) (condition : Flat) (at_do : Spot) (b : List BlockItem) (end : Spot) (rest : Row) → (said_flat condition).obeys names before_do ≡ true → entries_obey names (map said_block_item b) ≡ true
+      → Gets Delimited ((while_form names run at_while).run (tokens_of (said_flat condition) ++ word reserved.Do at_do ∷ (entries_tokens (map said_block_item b) ++ word reserved.End end ∷ rest))) (a_delimited.While at_while condition at_do b end) rest
+  unfolding while_form
+  complete_while at_while condition at_do b end rest oc ob =
+      gets_then _ (laws.complete_flat false condition _ oc (do_stops at_do)) (gets_then _ (gets_word reserved.Do at_do _)
+      (gets_then _ (complete_block b _ ob (ends_with reserved.End end refl)) (gets_then _ (gets_word reserved.End end rest) reads)))
+
+  complete_for : (at_for : Spot) (g : Generator) (others : List NextGenerator) (at_do : Spot) (b : List BlockItem) (end : Spot) (rest : Row) → (said_generator g).obeys names before_do ≡ true
+      → all_obey names before_do (map said_next_generator others) ≡ true → entries_obey names (map said_block_item b) ≡ true
+      → Gets Delimited ((for_form names run at_for).run (tokens_of (said_generator g) ++ (all_tokens (map said_next_generator others) ++ word reserved.Do at_do ∷ (entries_tokens (map said_block_item b) ++ word reserved.End end ∷ rest))))
+      (a_delimited.For at_for g others at_do b end) rest
+  unfolding for_form for_rest
+  complete_for at_for g others at_do b end rest og oo ob =
+      gets_then _ (laws.complete_generator false g _ og (next_stops names before_do said_next_generator (λ next. flat_stops false false next ≡ true) (λ x own. next_generator_stops x) others _ oo (do_stops at_do)))
+      (gets_then _ (complete_next_generators others at_do _ oo) (gets_then _ (gets_word reserved.Do at_do _)
+      (gets_then _ (complete_block b _ ob (ends_with reserved.End end refl)) (gets_then _ (gets_word reserved.End end rest) reads))))
+
+  case_last : (xs : List CaseClause) → last_ended (λ c. (out-CaseClause c).semicolon) xs ≡ is_ended (last_semicolon (map said_case_clause xs))
+  case_last xs = last_is said_case_clause (λ c. (out-CaseClause c).semicolon) (λ c. rw (case_clause_says c) refl) xs
+
+  type_last : (xs : List TypeClause) → last_ended (λ c. (out-TypeClause c).semicolon) xs ≡ is_ended (last_semicolon (map said_type_clause xs))
+  type_last xs = last_is said_type_clause (λ c. (out-TypeClause c).semicolon) (λ c. rw (type_clause_says c) refl) xs
+
+  complete_case : (at_case : Spot) (subject : Flat) (of : Spot) (clauses : List CaseClause) (otherwise : Option ElseClause) (end : Spot) (rest : Row) → (said_flat subject).obeys names elsewhere ≡ true → has_entry (map said_case_clause clauses) ≡ true
+      → entries_obey names (map said_case_clause clauses) ≡ true → else_obeys names (map said_case_clause clauses) (option_map said_else_clause otherwise) ≡ true
+      → Gets Delimited ((case_form names run at_case).run (tokens_of (said_flat subject) ++ word reserved.Of of ∷ (entries_tokens (map said_case_clause clauses) ++ (else_tokens (option_map said_else_clause otherwise) ++ word reserved.End end ∷ rest))))
+      (a_delimited.Case at_case subject of clauses otherwise end) rest
+  unfolding case_form case_rest
+  complete_case at_case subject of clauses otherwise end rest os some oc oe =
+      let es = map said_case_clause clauses in
+      gets_then _ (laws.complete_flat true subject _ os (of_stops of)) (gets_then _ (gets_word reserved.Of of _)
+      (gets_then _ (complete_case_clauses clauses _ some oc (follows_else es otherwise end rest oe))
+      (gets_then _ (complete_else_clause es _ otherwise end rest (case_last clauses) oe) (gets_then _ (gets_word reserved.End end rest) reads))))
+
+  complete_typecase : (at_typecase : Spot) (name : Name) (at_equals : Spot) (subject : Flat) (of : Spot) (clauses : List TypeClause) (otherwise : Option ElseClause) (end : Spot) (rest : Row) → (said_flat subject).obeys names elsewhere ≡ true
+      → has_entry (map said_type_clause clauses) ≡ true → entries_obey names (map said_type_clause clauses) ≡ true → else_obeys names (map said_type_clause clauses) (option_map said_else_clause otherwise) ≡ true
+      → Gets Delimited ((typecase_form names run at_typecase).run (named name ∷ equals at_equals ∷ (tokens_of (said_flat subject) ++ word reserved.Of of ∷ (entries_tokens (map said_type_clause clauses) ++ (else_tokens (option_map said_else_clause otherwise) ++ word reserved.End end ∷ rest)))))
+      (a_delimited.Typecase at_typecase name at_equals subject of clauses otherwise end) rest
+  unfolding typecase_form typecase_rest
+  complete_typecase at_typecase name at_equals subject of clauses otherwise end rest os some oc oe =
+      let es = map said_type_clause clauses in
+      gets_then _ (gets_name name _) (gets_then _ (gets_equals at_equals _) (gets_then _ (laws.complete_flat true subject _ os (of_stops of)) (gets_then _ (gets_word reserved.Of of _)
+      (gets_then _ (complete_type_clauses clauses _ some oc (follows_else es otherwise end rest oe))
+      (gets_then _ (complete_else_clause es _ otherwise end rest (type_last clauses) oe) (gets_then _ (gets_word reserved.End end rest) reads))))))
+
+  complete_try : (at_try : Spot) (b : List BlockItem) (c : Option Catch) (f : Option Finally) (end : Spot) (rest : Row) → (is_there (option_map said_catch c) || is_there (option_map said_finally f)) ≡ true → entries_obey names (map said_block_item b) ≡ true
+      → maybe_obeys names elsewhere (option_map said_catch c) ≡ true → maybe_obeys names elsewhere (option_map said_finally f) ≡ true
+      → Gets Delimited ((try_form names run at_try).run (entries_tokens (map said_block_item b) ++ (maybe_tokens (option_map said_catch c) ++ (maybe_tokens (option_map said_finally f) ++ word reserved.End end ∷ rest)))) (a_delimited.Try at_try b c f end) rest
+  unfolding try_form
+  complete_try at_try b c f end rest some ob oc of =
+      let next = finally_next f end rest in
+      gets_then _ (complete_block b _ ob (catch_next c _ next.0)) (gets_then _ (complete_catch c _ oc next.0 next.1)
+      (gets_then _ (complete_finally (is_there c) f end rest (rw (is_there_of said_catch c) at some) of) (gets_then _ (gets_word reserved.End end rest) reads)))
+
+  pub complete_delimited : (lines blocks : Bool) (d : Delimited) (rest : Row) → (said_delimited d).obeys names (allowing lines blocks) ≡ true → Gets Delimited ((delimited names run).parser.run (tokens_of (said_delimited d) ++ rest)) d rest
+  unfolding delimited
+  complete_delimited lines blocks d rest = cases_delimited (λ d. (said_delimited d).obeys names (allowing lines blocks) ≡ true → Gets Delimited ((delimited names run).parser.run (tokens_of (said_delimited d) ++ rest)) d rest)
+      (λ at_do b others end ob. let own = rw (says-Do at_do b others end) at ob in
+      let inner = right_true _ _ own in
+      rw (says-Do at_do b others end) (simp append_assoc (gets_then _ (gets_word reserved.Do at_do _) (complete_do at_do b others end rest (left_true _ _ inner) (right_true _ _ inner)))))
+      (λ at_if condition then b others otherwise end ob. let own = rw (says-If at_if condition then b others otherwise end) at ob in
+      let o1 = right_true _ _ own in let o2 = right_true _ _ o1 in
+      rw (says-If at_if condition then b others otherwise end) (simp append_assoc (gets_then _ (gets_word reserved.If at_if _) (complete_if at_if condition then b others otherwise end rest (left_true _ _ own) (left_true _ _ o1) (left_true _ _ o2) (right_true _ _ o2)))))
+      (λ at_while condition at_do b end ob. let own = rw (says-While at_while condition at_do b end) at ob in
+      rw (says-While at_while condition at_do b end) (simp append_assoc (gets_then _ (gets_word reserved.While at_while _) (complete_while at_while condition at_do b end rest (left_true _ _ own) (right_true _ _ own)))))
+      (λ at_for g others at_do b end ob. let own = rw (says-For at_for g others at_do b end) at ob in
+      let o1 = right_true _ _ own in
+      rw (says-For at_for g others at_do b end) (simp append_assoc (gets_then _ (gets_word reserved.For at_for _) (complete_for at_for g others at_do b end rest (left_true _ _ own) (left_true _ _ o1) (right_true _ _ o1)))))
+      (λ at_case subject of clauses otherwise end ob. let own = rw (says-Case at_case subject of clauses otherwise end) at ob in
+      let o1 = right_true _ _ own in let o2 = right_true _ _ o1 in
+      rw (says-Case at_case subject of clauses otherwise end) (simp append_assoc (gets_then _ (gets_word reserved.Case at_case _) (complete_case at_case subject of clauses otherwise end rest (left_true _ _ own) (left_true _ _ o1) (left_true _ _ o2) (right_true _ _ o2)))))
+      (λ at_typecase name at_equals subject of clauses otherwise end ob. let own = rw (says-Typecase at_typecase name at_equals subject of clauses otherwise end) at ob in
+      let o1 = right_true _ _ own in let o2 = right_true _ _ o1 in
+      rw (says-Typecase at_typecase name at_equals subject of clauses otherwise end) (simp append_assoc (gets_then _ (gets_word reserved.Typecase at_typecase _)
+      (complete_typecase at_typecase name at_equals subject of clauses otherwise end rest (left_true _ _ own) (left_true _ _ o1) (left_true _ _ o2) (right_true _ _ o2)))))
+      (λ at_try b c f end ob. let own = rw (says-Try at_try b c f end) at ob in
+      let o1 = right_true _ _ own in let o2 = right_true _ _ o1 in
+      rw (says-Try at_try b c f end) (simp append_assoc (gets_then _ (gets_word reserved.Try at_try _) (complete_try at_try b c f end rest (left_true _ _ own) (left_true _ _ o1) (left_true _ _ o2) (right_true _ _ o2))))) d
+
+-- a parser of runs that keeps its laws makes one of the forms that end with `end`
+pub form_laws : (names : Spellings) {n : ℕ} (run : Bool → Eater Run n) → FlatLaws names run → FormLaws names run
+form_laws names run laws = record {
+  sound_delimited = sound_delimited names run laws;
+  sound_variable_from = sound_variable_from names run laws;
+  complete_delimited = complete_delimited names run laws;
+  complete_variable = complete_variable names run laws;
+}
