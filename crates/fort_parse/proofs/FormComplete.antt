@@ -1,12 +1,11 @@
 -- The tokens of each item, block, clause and form that ends with `end` are read as it, where what follows them does not continue it.
-use Rattle.std.proofs.Common.{◌≡◌, ℕ, zero, suc, Bool, true, false, cond, List, [], ◌∷◌, ◌++◌, append_assoc, Option, Some, None, refl, sym, ap, subst, ◌∙◌}
-use Rattle.std.specs.Prelude.{map, option_map, ◌&&◌, ◌||◌, not}
+use Rattle.std.proofs.Common.{◌≡◌, ℕ, Bool, true, false, List, [], ◌∷◌, ◌++◌, append_assoc, Option, Some, None, refl, sym, ap, subst, ◌∙◌}
+use Rattle.std.specs.Prelude.{map, option_map, ◌||◌}
 use Rattle.std.proofs.lemmas.List.{append_cancel_right}
 use Rattle.fort_base.specs.declared.refusal.Gap.{Gap}
 use Rattle.fort_token.specs.declared.token.Kind.{Kind}
 use Rattle.fort_token.specs.declared.token.Kind.TheVariants as kind
 use Rattle.fort_token.specs.declared.token.Token.{Token}
-use Rattle.fort_token.specs.declared.marks.Mark.{Mark}
 use Rattle.fort_token.specs.declared.marks.Mark.TheVariants as mark
 use Rattle.fort_token.specs.declared.reserved.Reserved.{Reserved}
 use Rattle.fort_token.specs.declared.reserved.Reserved.TheVariants as reserved
@@ -31,39 +30,35 @@ use Rattle.fort_tree.specs.declared.delimited.Item.{Item}
 use Rattle.fort_tree.specs.declared.delimited.Item.TheVariants as an_item
 use Rattle.fort_tree.specs.declared.delimited.NextGenerator.{NextGenerator, out-NextGenerator}
 use Rattle.fort_tree.specs.declared.delimited.TypeClause.{TypeClause, out-TypeClause}
-use Rattle.fort_tree.specs.declared.expr.Atom.TheVariants as an_atom
 use Rattle.fort_tree.specs.declared.expr.Expr.{Expr}
 use Rattle.fort_tree.specs.declared.expr.Flat.{Flat}
 use Rattle.fort_tree.specs.declared.expr.Generator.{Generator}
-use Rattle.fort_tree.specs.declared.expr.Operand.{Operand}
 use Rattle.fort_tree.specs.declared.expr.Run.{Run}
 use Rattle.fort_tree.specs.Tokens.{Spellings, word, named, marked, colon, equals, is_line, begins_declaration}
-use Rattle.fort_tree.specs.Said.{Said, SaidEntry, SaidElse, Allowed, elsewhere, before_do, tokens_of, gap_of, all_tokens, all_obey, maybe_tokens, maybe_obeys, is_there, semicolon_tokens, entries_tokens, entries_obey, has_entry, last_semicolon, else_tokens, else_apart, else_obeys}
+use Rattle.fort_tree.specs.Said.{SaidEntry, elsewhere, before_do, tokens_of, all_tokens, all_obey, maybe_tokens, maybe_obeys, is_there, semicolon_tokens, entries_tokens, entries_obey, has_entry, last_semicolon, else_tokens, else_apart, else_obeys}
 use Rattle.fort_tree.specs.Types.{said_type}
-use Rattle.fort_tree.specs.Blocks.{initial_token, clause, next_names_tokens, has_next_name}
+use Rattle.fort_tree.specs.Blocks.{initial_token, has_next_name}
 use Rattle.fort_tree.specs.Yield.{said_operand, said_flat, said_generator, said_expr, said_variable, said_item, said_delimited, said_also, said_block_item, said_case_clause, said_catch, said_elif, said_else_block, said_else_clause, said_finally, said_next_generator, said_type_clause}
 use Rattle.fort_tree.proofs.SaysBlocks.{says-Do, says-If, says-While, says-For, says-Case, says-Typecase, says-Try, says_also, also_says, says_elif, elif_says, says_else_block, else_block_says, says_next_generator, next_generator_says, says_case_clause, says_type_clause, says_else_clause, says_catch, catch_says, says_finally, finally_says, says_block_item, says-Variable, says-Names, says-Expr, block_item_says, case_clause_says, type_clause_says}
 use Rattle.fort_tree.proofs.CasesBlocks.{cases_delimited, cases_also, cases_elif, cases_else_block, cases_next_generator, cases_case_clause, cases_type_clause, cases_else_clause, cases_catch, cases_finally, cases_block_item, cases_item, cases_variable}
-use Rattle.fort_reading.specs.Parser.{Row, Outcome, Read, Failed, and_then, accept_run, next_of, many_run, Eater, Parser}
-use Rattle.fort_reading.specs.Words.{same_mark, same_word, is_range, is_eq, is_mark, is_word, spot_if, name_of, initial_of, sees}
-use Rattle.fort_reading.proofs.Laws.{Gets, reads, ends, gets_then}
-use Rattle.fort_reading.proofs.Taking.{gets_mark, gets_word, gets_name, gets_colon, gets_equals, gets_initial, not_word, not_mark}
-use Rattle.fort_reading.proofs.Yields.{both, left_true, right_true, not_true, is_not, true_right, false_right, next_stops, gets_list}
-use Rattle.fort_parse_types.specs.Types.{type_tree, begins_type}
+use Rattle.fort_reading.specs.Parser.{Row, next_of, Eater}
+use Rattle.fort_reading.specs.Words.{same_mark, same_word, is_range, is_mark, is_word, sees}
+use Rattle.fort_reading.proofs.Laws.{Gets, reads, gets_then}
+use Rattle.fort_reading.proofs.Taking.{gets_mark, gets_word, gets_name, gets_colon, gets_equals, gets_initial, not_word}
+use Rattle.fort_reading.proofs.Yields.{left_true, right_true, is_not, false_right, next_stops, gets_list}
+use Rattle.fort_parse_types.specs.Types.{begins_type}
 use Rattle.fort_parse_types.proofs.Complete.{complete_type_tree, type_begins, type_stops, type_stops_at}
 use Rattle.fort_parse.specs.declared.plain.PlainNames.{PlainNames}
 use Rattle.fort_parse.specs.Beginnings.{begins_atom, begins_head, begins_item, begins_item_kind, begins_case_clause, begins_type_clause, begins_else, begins_apart_of, begins_unit, begins_expr, is_prefix}
-use Rattle.fort_parse.specs.Flats.{operand, flat, generator, head, opened, expr_from, expr}
 use Rattle.fort_parse.specs.Plain.{plain_name, plain_names}
-use Rattle.fort_parse.specs.Blocks.{is_ended, last_ended, some_of, sees_second, semicolon, initialised, variable_from, var_item, names_from, flat_item, by_names, by_name, declared, item_from, head_item, item, block_item, block, case_clause, case_list, case_clauses, type_clause, type_clause_list, type_clauses, else_from, second_else, else_clause, also_block, also_blocks, elif, elifs, else_block, catch_from, catch, no_finally, finally, next_generator, next_generators}
-use Rattle.fort_parse.specs.Runs.{do_form, if_rest, if_form, while_form, for_rest, for_form, case_rest, case_form, typecase_rest, typecase_form, try_form, word_form, form_for, delimited}
-use Rattle.fort_parse.proofs.Firsts.{unit_not_head}
-use Rattle.fort_parse.proofs.FormFirsts.{flat_begins, expr_begins, item_begins, unit_is_item, type_is_item, Stops, new_line, semicolon_stops, Ends, ends_with, then_stops, of_stops, do_stops, comma_stops, arrow_stops}
-use Rattle.fort_parse.proofs.FormPlain.{unit_of, parens_of, names_tokens, name_unit_is, names_unit_is, parens_no_name, plain_name_says, plain_names_say}
+use Rattle.fort_parse.specs.Blocks.{is_ended, last_ended, some_of, sees_second, semicolon, initialised, variable_from, var_item, names_from, flat_item, by_names, by_name, declared, item_from, head_item, item, block_item, block, case_clause, case_list, case_clauses, type_clause, type_clause_list, type_clauses, else_from, second_else, else_clause, also_block, also_blocks, elif, elifs, else_block, catch_from, catch, finally, next_generator, next_generators}
+use Rattle.fort_parse.specs.Runs.{do_form, if_rest, if_form, while_form, for_rest, for_form, case_rest, case_form, typecase_rest, typecase_form, try_form, delimited}
+use Rattle.fort_parse.proofs.FormFirsts.{flat_begins, expr_begins, item_begins, unit_is_item, type_is_item, new_line, semicolon_stops, Ends, ends_with, then_stops, of_stops, do_stops, comma_stops, arrow_stops}
+use Rattle.fort_parse.proofs.FormPlain.{names_tokens, name_unit_is, names_unit_is, parens_no_name, plain_name_says, plain_names_say}
 use Rattle.fort_parse.proofs.FormDeclares.{name_declares, names_declare, gets_name_unit, gets_names_unit}
 use Rattle.fort_parse.proofs.FormEntries.{StopsAfter, StopsLast, stops_last, ended_last, first_apart, gets_entries, last_is}
 use Rattle.fort_parse.proofs.FormSound.{variable_tokens, variable_obeys, clause_tokens, sound_variable_from, sound_delimited}
-use Rattle.fort_parse.proofs.Statements.{FlatLaws, FormLaws, UnitExpr, HeadExpr, allowing, flat_stops, expr_stops, var_tokens}
+use Rattle.fort_parse.proofs.Statements.{FlatLaws, FormLaws, UnitExpr, allowing, flat_stops, expr_stops, var_tokens}
 
 -- ---- the next token
 

@@ -1,9 +1,8 @@
 -- The tokens with which items, clauses and blocks begin and end, and what they say of what stands before them.
-use Rattle.std.proofs.Common.{◌≡◌, Bool, true, false, List, [], ◌∷◌, ◌++◌, Option, Some, None, refl, ap}
-use Rattle.std.specs.Prelude.{map, ◌&&◌, ◌||◌, not}
+use Rattle.std.proofs.Common.{◌≡◌, Bool, true, false, Option, Some, None, refl}
+use Rattle.std.specs.Prelude.{◌||◌, not}
 use Rattle.fort_base.specs.declared.refusal.Gap.{Gap}
 use Rattle.fort_base.specs.declared.refusal.Gap.TheVariants as gap
-use Rattle.fort_ops.specs.declared.op.Op.{Op}
 use Rattle.fort_ops.specs.declared.op.Op.TheVariants as op
 use Rattle.fort_token.specs.declared.token.Kind.{Kind}
 use Rattle.fort_token.specs.declared.token.Kind.TheVariants as kind
@@ -26,7 +25,7 @@ use Rattle.fort_tree.specs.declared.spot.Spot.{Spot}
 use Rattle.fort_tree.specs.declared.delimited.Delimited.{Delimited}
 use Rattle.fort_tree.specs.declared.delimited.Item.{Item}
 use Rattle.fort_tree.specs.Tokens.{is_empty, is_line, marked, word, colon}
-use Rattle.fort_tree.specs.Said.{Said, Allowed}
+use Rattle.fort_tree.specs.Said.{Said}
 use Rattle.fort_tree.specs.Flats.{prefixed, big_first}
 use Rattle.fort_tree.specs.Blocks.{after_var}
 use Rattle.fort_tree.specs.Yield.{said_run, said_operand, said_flat, said_head, said_expr, said_delimited, said_atom, said_item}
@@ -34,14 +33,13 @@ use Rattle.fort_tree.proofs.SaysFlats.{says-Flat, says-Assign, says-Open, says-O
 use Rattle.fort_tree.proofs.SaysBlocks.{says-Do, says-If, says-While, says-For, says-Case, says-Typecase, says-Try, says-Variable, says-Names, says-Expr, variable_says}
 use Rattle.fort_tree.proofs.CasesFlats.{cases_atom, cases_operand, cases_expr, cases_head}
 use Rattle.fort_tree.proofs.CasesBlocks.{cases_delimited, cases_item}
-use Rattle.fort_tree.specs.declared.declarations.Variable.{Variable, out-Variable}
-use Rattle.fort_reading.specs.Parser.{Row, next_of}
-use Rattle.fort_reading.specs.Words.{is_mark, is_word, is_range, sees}
-use Rattle.fort_reading.proofs.Taking.{not_mark, not_word, not_this, is_range_is}
-use Rattle.fort_reading.proofs.Yields.{left_true, right_true, is_not, false_right, true_right}
+use Rattle.fort_tree.specs.declared.declarations.Variable.{out-Variable}
+use Rattle.fort_reading.specs.Words.{is_mark, is_range, sees}
+use Rattle.fort_reading.proofs.Taking.{not_mark, not_this, is_range_is}
+use Rattle.fort_reading.proofs.Yields.{false_right, true_right}
 use Rattle.fort_parse_types.specs.Types.{begins_type, mark_begins_type}
-use Rattle.fort_parse.specs.Beginnings.{word_begins_atom, mark_begins_atom, begins_atom, begins_postfix, begins_run_part, is_prefix, op_is_prefix, begins_unit, is_infix_kind, begins_flat_part, word_begins_head, begins_head, assigns, mark_assigns, begins_expr, word_begins_local, begins_item_kind, begins_apart_of}
-use Rattle.fort_parse.proofs.Statements.{allowing, flat_stops, expr_stops}
+use Rattle.fort_parse.specs.Beginnings.{begins_atom, begins_postfix, begins_run_part, is_prefix, begins_unit, is_infix_kind, begins_flat_part, begins_head, assigns, mark_assigns, begins_expr, begins_item_kind, begins_apart_of}
+use Rattle.fort_parse.proofs.Statements.{flat_stops, expr_stops}
 
 -- ---- the first token of each tree
 
