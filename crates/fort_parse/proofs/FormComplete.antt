@@ -53,7 +53,9 @@ use Rattle.fort_parse.specs.Beginnings.{begins_atom, begins_head, begins_item, b
 use Rattle.fort_parse.specs.Plain.{plain_name, plain_names}
 use Rattle.fort_parse.specs.Blocks.{is_ended, last_ended, some_of, sees_second, semicolon, initialised, variable_from, var_item, names_from, flat_item, by_names, by_name, declared, item_from, head_item, item, block_item, block, case_clause, case_list, case_clauses, type_clause, type_clause_list, type_clauses, else_from, second_else, else_clause, also_block, also_blocks, elif, elifs, else_block, catch_from, catch, finally, next_generator, next_generators}
 use Rattle.fort_parse.specs.Runs.{do_form, if_rest, if_form, while_form, for_rest, for_form, case_rest, case_form, typecase_rest, typecase_form, try_form, delimited}
-use Rattle.fort_parse.proofs.FormFirsts.{flat_begins, expr_begins, item_begins, unit_is_item, type_is_item, new_line, semicolon_stops, Ends, ends_with, then_stops, of_stops, do_stops, comma_stops, arrow_stops}
+use Rattle.fort_parse.proofs.FormFirsts.{item_begins, unit_is_item, type_is_item, Stops, new_line, Ends, ends_with}
+use Rattle.fort_parse.proofs.Firsts.{flat_begins, expr_begins}
+use Rattle.fort_parse.proofs.Stops.{mark_ends_flat, mark_ends_expr, word_ends_flat}
 use Rattle.fort_parse.proofs.FormPlain.{names_tokens, name_unit_is, names_unit_is, parens_no_name, plain_name_says, plain_names_say}
 use Rattle.fort_parse.proofs.FormDeclares.{name_declares, names_declare, gets_name_unit, gets_names_unit}
 use Rattle.fort_parse.proofs.FormEntries.{StopsAfter, StopsLast, stops_last, ended_last, first_apart, gets_entries, last_is}
@@ -87,8 +89,8 @@ var_not_expr : begins_expr (kind.Word reserved.Var) ≡ false
 unfolding begins_expr begins_unit begins_atom is_prefix begins_head
 var_not_expr = refl
 
-var_first : (e : Expr) → sees (is_word reserved.Var) (Some (said_expr e).first) ≡ false
-var_first e = sees_at (is_word reserved.Var) (said_expr e).first false (not_word begins_expr reserved.Var var_not_expr (said_expr e).first.kind (expr_begins e))
+var_first : (names : Spellings) (e : Expr) → (said_expr e).obeys names elsewhere ≡ true → sees (is_word reserved.Var) (Some (said_expr e).first) ≡ false
+var_first names e ob = sees_at (is_word reserved.Var) (said_expr e).first false (not_word begins_expr reserved.Var var_not_expr (said_expr e).first.kind (expr_begins names false e ob))
 
 -- a name and a parenthesis begin no head and are not `var`
 name_ways : (name : Name) → (sees (is_word reserved.Var) (Some (named name)) ≡ false) × (sees begins_head (Some (named name)) ≡ false)
@@ -129,7 +131,7 @@ contradicts xs ys is e f = let g = subst (λ (v : Row). begins_declaration v ≡
 -- what follows an item or the value of a clause, with its `;` or without
 entry_stops : (s : Option Spot) (rest : Row) → StopsAfter s (next_of rest) → (expr_stops false (next_of (semicolon_tokens s ++ rest)) ≡ true) × (sees is_range (next_of (semicolon_tokens s ++ rest)) ≡ false)
 entry_stops None rest st = (st.expr, st.colon)
-entry_stops (Some s) rest st = (semicolon_stops s, semicolon_no_colon s)
+entry_stops (Some s) rest st = (mark_ends_expr false mark.Semicolon s refl refl refl, semicolon_no_colon s)
 
 -- what follows clauses stops the last, and begins none
 record Follows (es : List SaidEntry) (next : Option Token) : Type 0 where
@@ -265,9 +267,9 @@ module _ (names : Spellings) {n : ℕ} (run : Bool → Eater Run n) (laws : Flat
   unfolding item head_item
   item_expr e rest none ob st co = bool_cases (begins_head (said_expr e).first.kind) _
       (λ b. let h = laws.complete_head_expr false e rest ob st b in
-      rw (var_first e, sees_at begins_head (said_expr e).first true b) (gets_then _ h.reads_head (gets_then _ h.goes_on reads)))
+      rw (var_first names e ob, sees_at begins_head (said_expr e).first true b) (gets_then _ h.reads_head (gets_then _ h.goes_on reads)))
       (λ b. let u = laws.complete_unit_expr false e rest ob st b in
-      rw (var_first e, sees_at begins_head (said_expr e).first false b) (gets_then _ u.reads_unit (item_unit e rest u none co)))
+      rw (var_first names e ob, sees_at begins_head (said_expr e).first false b) (gets_then _ u.reads_unit (item_unit e rest u none co)))
 
   -- ---- items and blocks
 
@@ -298,8 +300,8 @@ module _ (names : Spellings) {n : ℕ} (run : Bool → Eater Run n) (laws : Flat
   block_ended : (x : BlockItem) → is_ended (out-BlockItem x).semicolon ≡ is_ended (said_block_item x).semicolon
   block_ended x = rw (block_item_says x) refl
 
-  block_item_begins : (x : BlockItem) → begins_item_kind (said_block_item x).item.first.kind ≡ true
-  block_item_begins x = rw (block_item_says x) (item_begins (out-BlockItem x).item)
+  block_item_begins : (x : BlockItem) → (said_block_item x).item.obeys names elsewhere ≡ true → begins_item_kind (said_block_item x).item.first.kind ≡ true
+  block_item_begins x ob = let own = rw (block_item_says x) at ob in rw (block_item_says x) (item_begins names (out-BlockItem x).item own)
 
   complete_block : (b : List BlockItem) (rest : Row) → entries_obey names (map said_block_item b) ≡ true → Ends (next_of rest) → Gets (List BlockItem) ((block names run).run (entries_tokens (map said_block_item b) ++ rest)) b rest
   unfolding block begins_item
@@ -317,14 +319,14 @@ module _ (names : Spellings) {n : ℕ} (run : Bool → Eater Run n) (laws : Flat
       let after = rw (says_case_clause subject arrow value s) at st in
       let last = entry_stops s rest after in
       rw (says_case_clause subject arrow value s) (rw (clause_tokens (said_flat subject) arrow (said_expr value) (semicolon_tokens s ++ rest))
-      (gets_then _ (laws.complete_flat true subject _ (left_true _ _ own) (arrow_stops arrow)) (gets_then _ (gets_mark mark.DoubleArrow arrow _)
+      (gets_then _ (laws.complete_flat true subject _ (left_true _ _ own) (mark_ends_flat false true mark.DoubleArrow arrow refl refl)) (gets_then _ (gets_mark mark.DoubleArrow arrow _)
       (gets_then _ (laws.complete_expr false value (semicolon_tokens s ++ rest) (right_true _ _ own) last.0) (gets_then _ (complete_semicolon s rest after) reads)))))) x
 
   case_ended : (x : CaseClause) → is_ended (out-CaseClause x).semicolon ≡ is_ended (said_case_clause x).semicolon
   case_ended x = rw (case_clause_says x) refl
 
-  case_begins : (x : CaseClause) → begins_unit true (said_case_clause x).item.first.kind ≡ true
-  case_begins x = rw (case_clause_says x) (flat_begins (out-CaseClause x).subject)
+  case_begins : (x : CaseClause) → (said_case_clause x).item.obeys names elsewhere ≡ true → begins_unit true (said_case_clause x).item.first.kind ≡ true
+  case_begins x ob = let own = rw (case_clause_says x) at ob in rw (case_clause_says x) (flat_begins names elsewhere (out-CaseClause x).subject (left_true _ _ own))
 
   complete_type_clause : (x : TypeClause) (rest : Row) → (said_type_clause x).item.obeys names elsewhere ≡ true → StopsAfter (said_type_clause x).semicolon (next_of rest)
       → Gets TypeClause ((type_clause names run).parser.run (tokens_of (said_type_clause x).item ++ (semicolon_tokens (said_type_clause x).semicolon ++ rest))) x rest
@@ -341,8 +343,8 @@ module _ (names : Spellings) {n : ℕ} (run : Bool → Eater Run n) (laws : Flat
   type_ended : (x : TypeClause) → is_ended (out-TypeClause x).semicolon ≡ is_ended (said_type_clause x).semicolon
   type_ended x = rw (type_clause_says x) refl
 
-  type_clause_begins : (x : TypeClause) → begins_type (said_type_clause x).item.first.kind ≡ true
-  type_clause_begins x = rw (type_clause_says x) (type_begins (out-TypeClause x).ty)
+  type_clause_begins : (x : TypeClause) → (said_type_clause x).item.obeys names elsewhere ≡ true → begins_type (said_type_clause x).item.first.kind ≡ true
+  type_clause_begins x ob = rw (type_clause_says x) (type_begins (out-TypeClause x).ty)
 
   gets_some : {A : Type 0} (said : A → SaidEntry) (xs : List A) (rest : Row) → has_entry (map said xs) ≡ true → Gets (List A) ((some_of {n = n} xs).run rest) xs rest
   gets_some said [] rest e = absurd cc
@@ -423,7 +425,7 @@ module _ (names : Spellings) {n : ℕ} (run : Bool → Eater Run n) (laws : Flat
   unfolding elif
   complete_elif x rest = cases_elif (λ x. (said_elif x).obeys names elsewhere ≡ true → Ends (next_of rest) → Gets Elif ((elif names run).parser.run (tokens_of (said_elif x) ++ rest)) x rest)
       (λ at_elif condition then b ob en. let own = rw (says_elif at_elif condition then b) at ob in
-      rw (says_elif at_elif condition then b) (simp append_assoc (gets_then _ (gets_word reserved.Elif at_elif _) (gets_then _ (laws.complete_flat true condition _ (left_true _ _ own) (then_stops then))
+      rw (says_elif at_elif condition then b) (simp append_assoc (gets_then _ (gets_word reserved.Elif at_elif _) (gets_then _ (laws.complete_flat true condition _ (left_true _ _ own) (word_ends_flat false true reserved.Then then refl))
       (gets_then _ (gets_word reserved.Then then _) (gets_then _ (complete_block b rest (right_true _ _ own) en) reads)))))) x
 
   elif_begins : (x : Elif) → sees (is_word reserved.Elif) (Some (said_elif x).first) ≡ true
@@ -493,7 +495,7 @@ module _ (names : Spellings) {n : ℕ} (run : Bool → Eater Run n) (laws : Flat
   next_generator_begins x = rw (next_generator_says x) refl
 
   next_generator_stops : (x : NextGenerator) → flat_stops false false (Some (said_next_generator x).first) ≡ true
-  next_generator_stops x = rw (next_generator_says x) (comma_stops (out-NextGenerator x).comma false)
+  next_generator_stops x = rw (next_generator_says x) (mark_ends_flat false false mark.Comma (out-NextGenerator x).comma refl refl)
 
   do_no_comma : (s : Spot) → sees (is_mark mark.Comma) (Some (word reserved.Do s)) ≡ false
   unfolding sees is_mark
@@ -503,7 +505,7 @@ module _ (names : Spellings) {n : ℕ} (run : Bool → Eater Run n) (laws : Flat
       → Gets (List NextGenerator) ((next_generators names run).run (all_tokens (map said_next_generator xs) ++ word reserved.Do at_do ∷ rest)) xs (word reserved.Do at_do ∷ rest)
   unfolding next_generators
   complete_next_generators xs at_do rest ob = gets_list names before_do said_next_generator (sees (is_mark mark.Comma)) (next_generator names run) (λ next. flat_stops false false next ≡ true) complete_next_generator (λ x own. next_generator_begins x) (λ x own. next_generator_stops x)
-      n xs (word reserved.Do at_do ∷ rest) ob (do_stops at_do) (do_no_comma at_do)
+      n xs (word reserved.Do at_do ∷ rest) ob (word_ends_flat false false reserved.Do at_do refl) (do_no_comma at_do)
 
   -- ---- the forms
 
@@ -521,7 +523,7 @@ module _ (names : Spellings) {n : ℕ} (run : Bool → Eater Run n) (laws : Flat
   unfolding if_form if_rest
   complete_if at_if condition then b others otherwise end rest oc ob oo oe =
       let next = else_next otherwise end rest in
-      gets_then _ (laws.complete_flat true condition _ oc (then_stops then)) (gets_then _ (gets_word reserved.Then then _)
+      gets_then _ (laws.complete_flat true condition _ oc (word_ends_flat false true reserved.Then then refl)) (gets_then _ (gets_word reserved.Then then _)
       (gets_then _ (complete_block b _ ob (next_stops names elsewhere said_elif Ends (λ x own. elif_ends x) others _ oo next.0))
       (gets_then _ (complete_elifs others _ oo next.0 next.1) (gets_then _ (complete_else_block otherwise end rest oe) (gets_then _ (gets_word reserved.End end rest) reads)))))
 
@@ -529,7 +531,7 @@ module _ (names : Spellings) {n : ℕ} (run : Bool → Eater Run n) (laws : Flat
       → Gets Delimited ((while_form names run at_while).run (tokens_of (said_flat condition) ++ word reserved.Do at_do ∷ (entries_tokens (map said_block_item b) ++ word reserved.End end ∷ rest))) (a_delimited.While at_while condition at_do b end) rest
   unfolding while_form
   complete_while at_while condition at_do b end rest oc ob =
-      gets_then _ (laws.complete_flat false condition _ oc (do_stops at_do)) (gets_then _ (gets_word reserved.Do at_do _)
+      gets_then _ (laws.complete_flat false condition _ oc (word_ends_flat false false reserved.Do at_do refl)) (gets_then _ (gets_word reserved.Do at_do _)
       (gets_then _ (complete_block b _ ob (ends_with reserved.End end refl)) (gets_then _ (gets_word reserved.End end rest) reads)))
 
   complete_for : (at_for : Spot) (g : Generator) (others : List NextGenerator) (at_do : Spot) (b : List BlockItem) (end : Spot) (rest : Row) → (said_generator g).obeys names before_do ≡ true
@@ -538,7 +540,7 @@ module _ (names : Spellings) {n : ℕ} (run : Bool → Eater Run n) (laws : Flat
       (a_delimited.For at_for g others at_do b end) rest
   unfolding for_form for_rest
   complete_for at_for g others at_do b end rest og oo ob =
-      gets_then _ (laws.complete_generator false g _ og (next_stops names before_do said_next_generator (λ next. flat_stops false false next ≡ true) (λ x own. next_generator_stops x) others _ oo (do_stops at_do)))
+      gets_then _ (laws.complete_generator false g _ og (next_stops names before_do said_next_generator (λ next. flat_stops false false next ≡ true) (λ x own. next_generator_stops x) others _ oo (word_ends_flat false false reserved.Do at_do refl)))
       (gets_then _ (complete_next_generators others at_do _ oo) (gets_then _ (gets_word reserved.Do at_do _)
       (gets_then _ (complete_block b _ ob (ends_with reserved.End end refl)) (gets_then _ (gets_word reserved.End end rest) reads))))
 
@@ -555,7 +557,7 @@ module _ (names : Spellings) {n : ℕ} (run : Bool → Eater Run n) (laws : Flat
   unfolding case_form case_rest
   complete_case at_case subject of clauses otherwise end rest os some oc oe =
       let es = map said_case_clause clauses in
-      gets_then _ (laws.complete_flat true subject _ os (of_stops of)) (gets_then _ (gets_word reserved.Of of _)
+      gets_then _ (laws.complete_flat true subject _ os (word_ends_flat false true reserved.Of of refl)) (gets_then _ (gets_word reserved.Of of _)
       (gets_then _ (complete_case_clauses clauses _ some oc (follows_else es otherwise end rest oe))
       (gets_then _ (complete_else_clause es _ otherwise end rest (case_last clauses) oe) (gets_then _ (gets_word reserved.End end rest) reads))))
 
@@ -566,7 +568,7 @@ module _ (names : Spellings) {n : ℕ} (run : Bool → Eater Run n) (laws : Flat
   unfolding typecase_form typecase_rest
   complete_typecase at_typecase name at_equals subject of clauses otherwise end rest os some oc oe =
       let es = map said_type_clause clauses in
-      gets_then _ (gets_name name _) (gets_then _ (gets_equals at_equals _) (gets_then _ (laws.complete_flat true subject _ os (of_stops of)) (gets_then _ (gets_word reserved.Of of _)
+      gets_then _ (gets_name name _) (gets_then _ (gets_equals at_equals _) (gets_then _ (laws.complete_flat true subject _ os (word_ends_flat false true reserved.Of of refl)) (gets_then _ (gets_word reserved.Of of _)
       (gets_then _ (complete_type_clauses clauses _ some oc (follows_else es otherwise end rest oe))
       (gets_then _ (complete_else_clause es _ otherwise end rest (type_last clauses) oe) (gets_then _ (gets_word reserved.End end rest) reads))))))
 
