@@ -53,7 +53,7 @@ use Rattle.fort_parse.specs.Beginnings.{begins_atom, begins_head, begins_item, b
 use Rattle.fort_parse.specs.Plain.{plain_name, plain_names}
 use Rattle.fort_parse.specs.Blocks.{is_ended, last_ended, some_of, sees_second, semicolon, initialised, variable_from, var_item, names_from, flat_item, by_names, by_name, declared, item_from, head_item, item, block_item, block, case_clause, case_list, case_clauses, type_clause, type_clause_list, type_clauses, else_from, second_else, else_clause, also_block, also_blocks, elif, elifs, else_block, catch_from, catch, finally, next_generator, next_generators}
 use Rattle.fort_parse.specs.Runs.{do_form, if_rest, if_form, while_form, for_rest, for_form, case_rest, case_form, typecase_rest, typecase_form, try_form, delimited}
-use Rattle.fort_parse.proofs.FormFirsts.{item_begins, unit_is_item, type_is_item, Stops, new_line, Ends, ends_with}
+use Rattle.fort_parse.proofs.FormFirsts.{item_begins, unit_is_item, type_is_item, new_line, Ends, ends_with}
 use Rattle.fort_parse.proofs.Firsts.{flat_begins, expr_begins}
 use Rattle.fort_parse.proofs.Stops.{mark_ends_flat, mark_ends_expr, word_ends_flat}
 use Rattle.fort_parse.proofs.FormPlain.{names_tokens, name_unit_is, names_unit_is, parens_no_name, plain_name_says, plain_names_say}

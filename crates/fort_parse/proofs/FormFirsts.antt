@@ -1,6 +1,6 @@
 -- The tokens with which items, clauses and blocks begin and end, and what they say of what stands before them.
 use Rattle.std.proofs.Common.{◌≡◌, Bool, true, false, Option, Some, None, refl}
-use Rattle.std.specs.Prelude.{◌||◌, not}
+use Rattle.std.specs.Prelude.{◌||◌}
 use Rattle.fort_base.specs.declared.refusal.Gap.{Gap}
 use Rattle.fort_base.specs.declared.refusal.Gap.TheVariants as gap
 use Rattle.fort_ops.specs.declared.op.Op.TheVariants as op
@@ -11,34 +11,20 @@ use Rattle.fort_token.specs.declared.marks.Mark.{Mark}
 use Rattle.fort_token.specs.declared.marks.Mark.TheVariants as mark
 use Rattle.fort_token.specs.declared.reserved.Reserved.{Reserved}
 use Rattle.fort_token.specs.declared.reserved.Reserved.TheVariants as reserved
-use Rattle.fort_tree.specs.declared.expr.Atom.{Atom}
-use Rattle.fort_tree.specs.declared.expr.Big.{Big}
-use Rattle.fort_tree.specs.declared.expr.Big.TheVariants as big_word
-use Rattle.fort_tree.specs.declared.expr.Prefix.{Prefix}
-use Rattle.fort_tree.specs.declared.expr.Prefix.TheVariants as a_prefix
-use Rattle.fort_tree.specs.declared.expr.Expr.{Expr}
-use Rattle.fort_tree.specs.declared.expr.Head.{Head}
-use Rattle.fort_tree.specs.declared.expr.Flat.{Flat, out-Flat}
-use Rattle.fort_tree.specs.declared.expr.Operand.{Operand}
-use Rattle.fort_tree.specs.declared.expr.Run.{Run, out-Run}
 use Rattle.fort_tree.specs.declared.spot.Spot.{Spot}
-use Rattle.fort_tree.specs.declared.delimited.Delimited.{Delimited}
 use Rattle.fort_tree.specs.declared.delimited.Item.{Item}
-use Rattle.fort_tree.specs.Tokens.{Spellings, is_empty, is_line, marked, word, colon}
+use Rattle.fort_tree.specs.Tokens.{Spellings, is_empty, is_line, word, colon}
 use Rattle.fort_tree.specs.Said.{Said, elsewhere}
-use Rattle.fort_tree.specs.Flats.{prefixed, big_first}
 use Rattle.fort_tree.specs.Blocks.{after_var}
-use Rattle.fort_tree.specs.Yield.{said_run, said_operand, said_flat, said_head, said_expr, said_delimited, said_atom, said_item}
-use Rattle.fort_tree.proofs.SaysFlats.{says-Flat, says-Assign, says-Open, says-OpenAssign, says-Atomic, says-Tryatomic, says-Throw, says-Fn, says-Big, flat_says, says_operand, run_says, says-Name, says-Number, says-Text, says-True, says-False, says-Self_, says-Parens, says-Delimited, says-ArrayFill}
-use Rattle.fort_tree.proofs.SaysBlocks.{says-Do, says-If, says-While, says-For, says-Case, says-Typecase, says-Try, says-Variable, says-Names, says-Expr, variable_says}
-use Rattle.fort_tree.proofs.CasesFlats.{cases_atom, cases_operand, cases_expr, cases_head}
-use Rattle.fort_tree.proofs.CasesBlocks.{cases_delimited, cases_item}
+use Rattle.fort_tree.specs.Yield.{said_expr, said_item}
+use Rattle.fort_tree.proofs.SaysBlocks.{says-Variable, says-Names, says-Expr, variable_says}
+use Rattle.fort_tree.proofs.CasesBlocks.{cases_item}
 use Rattle.fort_tree.specs.declared.declarations.Variable.{out-Variable}
 use Rattle.fort_reading.specs.Words.{is_mark, is_range, sees}
 use Rattle.fort_reading.proofs.Taking.{not_mark, not_this, is_range_is}
-use Rattle.fort_reading.proofs.Yields.{right_true, false_right, true_right}
+use Rattle.fort_reading.proofs.Yields.{right_true, false_right}
 use Rattle.fort_parse_types.specs.Types.{begins_type, mark_begins_type}
-use Rattle.fort_parse.specs.Beginnings.{word_begins_atom, begins_atom, begins_postfix, begins_run_part, is_prefix, begins_unit, is_infix_kind, begins_flat_part, begins_head, assigns, mark_assigns, begins_expr, begins_item_kind, begins_apart_of}
+use Rattle.fort_parse.specs.Beginnings.{word_begins_atom, begins_atom, begins_postfix, begins_run_part, is_prefix, begins_unit, begins_flat_part, begins_head, assigns, mark_assigns, begins_expr, begins_item_kind, begins_apart_of}
 use Rattle.fort_parse.proofs.Firsts.{expr_begins}
 use Rattle.fort_parse.proofs.Stops.{word_ends_expr}
 use Rattle.fort_parse.proofs.Statements.{flat_stops, expr_stops}
