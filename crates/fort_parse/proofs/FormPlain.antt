@@ -107,9 +107,11 @@ between_says left right e es None xs p is are h = absurd cc
 between_says left right e es (Some name) None p is are h = absurd cc
 between_says left right e es (Some name) (Some []) p is are h = absurd cc
 between_says left right e es (Some name) (Some (n ∷ ns)) p is are h =
-    let same : record { left = left; first = name; others = n ∷ ns; right = right } ≡ p = cc in
-    (ap (λ (u : List Token). marked mark.OpenParen left ∷ ((u ++ all_tokens (map said_next_expr es)) ++ marked mark.CloseParen right ∷ [])) (expr_name_says e name is)
-    ∙ ap (λ (u : List Token). marked mark.OpenParen left ∷ named name ∷ (u ++ marked mark.CloseParen right ∷ [])) (next_names_says es (n ∷ ns) are) ∙ ap names_tokens same, ap (λ (q : PlainNames). has_next_name q.others) (sym same))
+    let same : record { left = left; first = name; others = n ∷ ns; right = right } ≡ p = cc in (
+      ap (λ (u : List Token). marked mark.OpenParen left ∷ ((u ++ all_tokens (map said_next_expr es)) ++ marked mark.CloseParen right ∷ [])) (expr_name_says e name is)
+          ∙ ap (λ (u : List Token). marked mark.OpenParen left ∷ named name ∷ (u ++ marked mark.CloseParen right ∷ [])) (next_names_says es (n ∷ ns) are) ∙ ap names_tokens same,
+      ap (λ (q : PlainNames). has_next_name q.others) (sym same),
+    )
 
 parens_say : (left : Spot) (contents : Option ExprList) (right : Spot) (p : PlainNames) → atom_names (out-Atom (an_atom.Parens left contents right)) ≡ Some p
     → (tokens_of (said_atom (an_atom.Parens left contents right)) ≡ names_tokens p) × (has_next_name p.others ≡ true)
