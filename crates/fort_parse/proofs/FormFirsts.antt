@@ -1,9 +1,8 @@
 -- The tokens with which items, clauses and blocks begin and end, and what they say of what stands before them.
-use Rattle.std.proofs.Common.{◌≡◌, Bool, true, false, List, [], ◌∷◌, ◌++◌, Option, Some, None, refl, ap}
-use Rattle.std.specs.Prelude.{map, ◌&&◌, ◌||◌, not}
+use Rattle.std.proofs.Common.{◌≡◌, Bool, true, false, Option, Some, None, refl}
+use Rattle.std.specs.Prelude.{◌||◌}
 use Rattle.fort_base.specs.declared.refusal.Gap.{Gap}
 use Rattle.fort_base.specs.declared.refusal.Gap.TheVariants as gap
-use Rattle.fort_ops.specs.declared.op.Op.{Op}
 use Rattle.fort_ops.specs.declared.op.Op.TheVariants as op
 use Rattle.fort_token.specs.declared.token.Kind.{Kind}
 use Rattle.fort_token.specs.declared.token.Kind.TheVariants as kind
@@ -12,95 +11,29 @@ use Rattle.fort_token.specs.declared.marks.Mark.{Mark}
 use Rattle.fort_token.specs.declared.marks.Mark.TheVariants as mark
 use Rattle.fort_token.specs.declared.reserved.Reserved.{Reserved}
 use Rattle.fort_token.specs.declared.reserved.Reserved.TheVariants as reserved
-use Rattle.fort_tree.specs.declared.expr.Atom.{Atom}
-use Rattle.fort_tree.specs.declared.expr.Big.{Big}
-use Rattle.fort_tree.specs.declared.expr.Big.TheVariants as big_word
-use Rattle.fort_tree.specs.declared.expr.Prefix.{Prefix}
-use Rattle.fort_tree.specs.declared.expr.Prefix.TheVariants as a_prefix
-use Rattle.fort_tree.specs.declared.expr.Expr.{Expr}
-use Rattle.fort_tree.specs.declared.expr.Head.{Head}
-use Rattle.fort_tree.specs.declared.expr.Flat.{Flat, out-Flat}
-use Rattle.fort_tree.specs.declared.expr.Operand.{Operand}
-use Rattle.fort_tree.specs.declared.expr.Run.{Run, out-Run}
 use Rattle.fort_tree.specs.declared.spot.Spot.{Spot}
-use Rattle.fort_tree.specs.declared.delimited.Delimited.{Delimited}
 use Rattle.fort_tree.specs.declared.delimited.Item.{Item}
-use Rattle.fort_tree.specs.Tokens.{is_empty, is_line, marked, word, colon}
-use Rattle.fort_tree.specs.Said.{Said, Allowed}
-use Rattle.fort_tree.specs.Flats.{prefixed, big_first}
+use Rattle.fort_tree.specs.Tokens.{Spellings, is_empty, is_line, word, colon}
+use Rattle.fort_tree.specs.Said.{Said, elsewhere}
 use Rattle.fort_tree.specs.Blocks.{after_var}
-use Rattle.fort_tree.specs.Yield.{said_run, said_operand, said_flat, said_head, said_expr, said_delimited, said_atom, said_item}
-use Rattle.fort_tree.proofs.SaysFlats.{says-Flat, says-Assign, says-Open, says-OpenAssign, says-Atomic, says-Tryatomic, says-Throw, says-Fn, says-Big, flat_says, says_operand, run_says, says-Name, says-Number, says-Text, says-True, says-False, says-Self_, says-Parens, says-Delimited, says-ArrayFill}
-use Rattle.fort_tree.proofs.SaysBlocks.{says-Do, says-If, says-While, says-For, says-Case, says-Typecase, says-Try, says-Variable, says-Names, says-Expr, variable_says}
-use Rattle.fort_tree.proofs.CasesFlats.{cases_atom, cases_operand, cases_expr, cases_head}
-use Rattle.fort_tree.proofs.CasesBlocks.{cases_delimited, cases_item}
-use Rattle.fort_tree.specs.declared.declarations.Variable.{Variable, out-Variable}
-use Rattle.fort_reading.specs.Parser.{Row, next_of}
-use Rattle.fort_reading.specs.Words.{is_mark, is_word, is_range, sees}
-use Rattle.fort_reading.proofs.Taking.{not_mark, not_word, not_this, is_range_is}
-use Rattle.fort_reading.proofs.Yields.{left_true, right_true, is_not, false_right, true_right}
+use Rattle.fort_tree.specs.Yield.{said_expr, said_item}
+use Rattle.fort_tree.proofs.SaysBlocks.{says-Variable, says-Names, says-Expr, variable_says}
+use Rattle.fort_tree.proofs.CasesBlocks.{cases_item}
+use Rattle.fort_tree.specs.declared.declarations.Variable.{out-Variable}
+use Rattle.fort_reading.specs.Words.{is_mark, is_range, sees}
+use Rattle.fort_reading.proofs.Taking.{not_mark, not_this, is_range_is}
+use Rattle.fort_reading.proofs.Yields.{right_true, false_right}
 use Rattle.fort_parse_types.specs.Types.{begins_type, mark_begins_type}
-use Rattle.fort_parse.specs.Beginnings.{word_begins_atom, mark_begins_atom, begins_atom, begins_postfix, begins_run_part, is_prefix, op_is_prefix, begins_unit, is_infix_kind, begins_flat_part, word_begins_head, begins_head, assigns, mark_assigns, begins_expr, word_begins_local, begins_item_kind, begins_apart_of}
-use Rattle.fort_parse.proofs.Statements.{allowing, flat_stops, expr_stops}
+use Rattle.fort_parse.specs.Beginnings.{word_begins_atom, begins_atom, begins_postfix, begins_run_part, is_prefix, begins_unit, begins_flat_part, begins_head, assigns, mark_assigns, begins_expr, begins_item_kind, begins_apart_of}
+use Rattle.fort_parse.proofs.Firsts.{expr_begins}
+use Rattle.fort_parse.proofs.Stops.{word_ends_expr}
+use Rattle.fort_parse.proofs.Statements.{flat_stops, expr_stops}
 
--- ---- the first token of each tree
-
-delimited_begins : (d : Delimited) → begins_atom true (said_delimited d).first.kind ≡ true
-unfolding begins_atom
-delimited_begins = cases_delimited (λ d. begins_atom true (said_delimited d).first.kind ≡ true)
-    (λ a b c d. rw (says-Do a b c d) refl) (λ a b c d e f g. rw (says-If a b c d e f g) refl) (λ a b c d e. rw (says-While a b c d e) refl)
-    (λ a b c d e f. rw (says-For a b c d e f) refl) (λ a b c d e f. rw (says-Case a b c d e f) refl) (λ a b c d e f g h. rw (says-Typecase a b c d e f g h) refl)
-    (λ a b c d e. rw (says-Try a b c d e) refl)
-
-atom_begins : (a : Atom) → begins_atom true (said_atom a).first.kind ≡ true
-unfolding begins_atom
-atom_begins = cases_atom (λ a. begins_atom true (said_atom a).first.kind ≡ true)
-    (λ n. rw (says-Name n) refl) (λ v s. rw (says-Number v s) refl) (λ v s. rw (says-Text v s) refl) (λ s. rw (says-True s) refl) (λ s. rw (says-False s) refl) (λ s. rw (says-Self_ s) refl)
-    (λ a b c. rw (says-Parens a b c) refl) (λ d. rw (says-Delimited d) (delimited_begins d)) (λ a b c d e f g h i j k l. rw (says-ArrayFill a b c d e f g h i j k l) refl)
-
-run_begins : (r : Run) → begins_atom true (said_run r).first.kind ≡ true
-run_begins r = rw (run_says r) (atom_begins (out-Run r).first)
-
-operand_at : (p : Option Prefix) (r : Run) → begins_unit true (prefixed p (said_run r)).first.kind ≡ true
-unfolding begins_unit begins_atom is_prefix
-operand_at None r = rw (run_begins r) refl
-operand_at (Some (a_prefix.Minus s)) r = refl
-operand_at (Some (a_prefix.Not s)) r = refl
-
-pub operand_begins : (o : Operand) → begins_unit true (said_operand o).first.kind ≡ true
-operand_begins = cases_operand (λ o. begins_unit true (said_operand o).first.kind ≡ true) (λ p r. rw (says_operand p r) (operand_at p r))
-
-pub flat_begins : (f : Flat) → begins_unit true (said_flat f).first.kind ≡ true
-flat_begins f = rw (flat_says f) (operand_begins (out-Flat f).first)
-
-big_begins : (b : Big) → begins_head (big_first b).kind ≡ true
-unfolding begins_head
-big_begins (big_word.Sum s) = refl
-big_begins (big_word.Prod s) = refl
-big_begins (big_word.Max s t) = refl
-big_begins (big_word.Min s t) = refl
-big_begins (big_word.And s t) = refl
-big_begins (big_word.Or s t) = refl
-
-head_begins : (h : Head) → begins_head (said_head h).first.kind ≡ true
-unfolding begins_head
-head_begins = cases_head (λ h. begins_head (said_head h).first.kind ≡ true)
-    (λ s. rw (says-Atomic s) refl) (λ s. rw (says-Tryatomic s) refl) (λ s. rw (says-Throw s) refl) (λ a b c d e. rw (says-Fn a b c d e) refl) (λ a b c d. rw (says-Big a b c d) (big_begins a))
+-- ---- each beginning of an item
 
 unit_is_expr : (k : Kind) → begins_unit true k ≡ true → begins_expr k ≡ true
 unfolding begins_expr
 unit_is_expr k e = rw e refl
-
-head_is_expr : (k : Kind) → begins_head k ≡ true → begins_expr k ≡ true
-unfolding begins_expr
-head_is_expr k e = rw e (true_right (begins_unit true k))
-
-pub expr_begins : (e : Expr) → begins_expr (said_expr e).first.kind ≡ true
-expr_begins = cases_expr (λ e. begins_expr (said_expr e).first.kind ≡ true)
-    (λ f. rw (says-Flat f) (unit_is_expr (said_flat f).first.kind (flat_begins f))) (λ t s h v. rw (says-Assign t s h v) (unit_is_expr (said_flat t).first.kind (flat_begins t)))
-    (λ h b. rw (says-Open h b) (head_is_expr (said_head h).first.kind (head_begins h))) (λ h t s v. rw (says-OpenAssign h t s v) (head_is_expr (said_head h).first.kind (head_begins h)))
-
--- ---- each beginning of an item
 
 word_begins_item : (w : Reserved) → begins_expr (kind.Word w) ≡ true → begins_item_kind (kind.Word w) ≡ true
 unfolding begins_expr begins_unit begins_atom is_prefix begins_head begins_item_kind
@@ -163,11 +96,11 @@ paren_is_item : begins_item_kind (kind.Mark mark.OpenParen) ≡ true
 unfolding begins_item_kind begins_expr begins_unit begins_atom
 paren_is_item = refl
 
-pub item_begins : (i : Item) → begins_item_kind (said_item i).first.kind ≡ true
-item_begins = cases_item (λ i. begins_item_kind (said_item i).first.kind ≡ true)
-    (λ v. rw (says-Variable v, variable_says v) (variable_at (out-Variable v).var _ (name_is_item _)))
-    (λ a b c d e f g h. rw (says-Names a b c d e f g h) paren_is_item)
-    (λ e. rw (says-Expr e) (expr_is_item (said_expr e).first.kind (expr_begins e)))
+pub item_begins : (names : Spellings) (i : Item) → (said_item i).obeys names elsewhere ≡ true → begins_item_kind (said_item i).first.kind ≡ true
+item_begins names = cases_item (λ i. (said_item i).obeys names elsewhere ≡ true → begins_item_kind (said_item i).first.kind ≡ true)
+    (λ v ob. rw (says-Variable v, variable_says v) (variable_at (out-Variable v).var _ (name_is_item _)))
+    (λ a b c d e f g h ob. rw (says-Names a b c d e f g h) paren_is_item)
+    (λ e ob. let own = rw (says-Expr e) at ob in rw (says-Expr e) (expr_is_item (said_expr e).first.kind (expr_begins names false e (right_true _ _ own))))
 
 -- ---- what ends an expression
 
@@ -180,11 +113,6 @@ line_empty gap.Line e = refl
 pub line_stops : (blocks : Bool) (t : Token) → is_line t.gap ≡ true → flat_stops false blocks (Some t) ≡ true
 unfolding begins_run_part begins_flat_part
 line_stops blocks t e = rw (line_empty t.gap e, e) refl
-
--- so does a token that is no part of one
-pub kind_stops : (lines blocks : Bool) (t : Token) → begins_atom blocks t.kind ≡ false → begins_postfix t.kind ≡ false → is_infix_kind t.kind ≡ false → flat_stops lines blocks (Some t) ≡ true
-unfolding begins_run_part begins_flat_part
-kind_stops lines blocks t a p i = rw (a, p, i, false_right (is_empty t.gap), false_right (not (is_empty t.gap)), false_right (lines || not (is_line t.gap))) refl
 
 -- what follows an item or a clause without a `;`
 pub record Stops (next : Option Token) : Type 0 where
@@ -219,10 +147,6 @@ pub new_line : (t : Token) → is_line t.gap ≡ true → begins_item_kind t.kin
 unfolding sees
 new_line t e f = record { expr = rw (line_stops true t e, assigns_not t.kind f) refl; colon = colon_not t.kind f; semicolon = semicolon_not t.kind f }
 
-pub semicolon_stops : (s : Spot) → expr_stops false (Some (marked mark.Semicolon s)) ≡ true
-unfolding sees assigns begins_atom begins_postfix is_infix_kind
-semicolon_stops s = rw (kind_stops false true (marked mark.Semicolon s) refl refl refl) refl
-
 -- ---- what ends a block
 
 -- whether a reserved word ends a block
@@ -242,10 +166,10 @@ pub record Ends (next : Option Token) : Type 0 where
   pub clause : (ready : Bool) → begins_apart_of (begins_unit true) ready next ≡ false
   pub types : (ready : Bool) → begins_apart_of begins_type ready next ≡ false
 
-ends_all : (w : Reserved) (s : Spot) → begins_atom true (kind.Word w) ≡ false → begins_item_kind (kind.Word w) ≡ false → Ends (Some (word w s))
-unfolding begins_apart_of begins_unit is_prefix begins_type sees is_range is_mark assigns begins_postfix is_infix_kind
+ends_all : (w : Reserved) (s : Spot) → word_begins_atom true w ≡ false → begins_item_kind (kind.Word w) ≡ false → Ends (Some (word w s))
+unfolding begins_apart_of begins_unit begins_atom is_prefix begins_type sees is_range is_mark
 ends_all w s e f = record {
-  stops = record { expr = rw (kind_stops false true (word w s) e refl refl) refl; colon = refl; semicolon = refl };
+  stops = record { expr = word_ends_expr false w s e; colon = refl; semicolon = refl };
   item = λ ready. rw f (false_right (ready || is_line s.gap));
   clause = λ ready. rw e (false_right (ready || is_line s.gap));
   types = λ ready. false_right (ready || is_line s.gap);
@@ -253,7 +177,7 @@ ends_all w s e f = record {
 
 -- a word that ends a block does
 pub ends_with : (w : Reserved) (s : Spot) → word_ends w ≡ true → Ends (Some (word w s))
-unfolding begins_atom begins_item_kind
+unfolding begins_item_kind
 ends_with reserved.End s e = ends_all reserved.End s refl refl
 ends_with reserved.Also s e = ends_all reserved.Also s refl refl
 ends_with reserved.Elif s e = ends_all reserved.Elif s refl refl
@@ -261,31 +185,6 @@ ends_with reserved.Else s e = ends_all reserved.Else s refl refl
 ends_with reserved.Catch s e = ends_all reserved.Catch s refl refl
 ends_with reserved.Finally s e = ends_all reserved.Finally s refl refl
 ends_with _ s e = absurd cc
-
--- the words before a block and behind a subject end a flat expression
-pub word_stops : (w : Reserved) (s : Spot) (blocks : Bool) → begins_atom blocks (kind.Word w) ≡ false → flat_stops false blocks (Some (word w s)) ≡ true
-unfolding begins_postfix is_infix_kind
-word_stops w s blocks e = kind_stops false blocks (word w s) e refl refl
-
-pub then_stops : (s : Spot) → flat_stops false true (Some (word reserved.Then s)) ≡ true
-unfolding begins_atom
-then_stops s = word_stops reserved.Then s true refl
-
-pub of_stops : (s : Spot) → flat_stops false true (Some (word reserved.Of s)) ≡ true
-unfolding begins_atom
-of_stops s = word_stops reserved.Of s true refl
-
-pub do_stops : (s : Spot) → flat_stops false false (Some (word reserved.Do s)) ≡ true
-unfolding begins_atom
-do_stops s = word_stops reserved.Do s false refl
-
-pub comma_stops : (s : Spot) (blocks : Bool) → flat_stops false blocks (Some (marked mark.Comma s)) ≡ true
-unfolding begins_atom begins_postfix is_infix_kind
-comma_stops s blocks = kind_stops false blocks (marked mark.Comma s) refl refl refl
-
-pub arrow_stops : (s : Spot) → flat_stops false true (Some (marked mark.DoubleArrow s)) ≡ true
-unfolding begins_atom begins_postfix is_infix_kind
-arrow_stops s = kind_stops false true (marked mark.DoubleArrow s) refl refl refl
 
 -- a `:` goes on with no run
 pub colon_parts : (s : Spot) → begins_run_part true (Some (colon s)) ≡ false

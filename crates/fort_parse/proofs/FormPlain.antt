@@ -1,7 +1,7 @@
 -- A unit that is one name says that name, and one that is names in parentheses says those; and the tokens of a name, and of names
 -- in parentheses, are those of such a unit.
-use Rattle.std.proofs.Common.{◌≡◌, Bool, true, false, List, [], ◌∷◌, ◌++◌, append_assoc, Option, Some, None, refl, sym, ap, subst, ◌∙◌, rules}
-use Rattle.std.specs.Prelude.{map, ◌&&◌, ◌||◌, not}
+use Rattle.std.proofs.Common.{◌≡◌, true, List, [], ◌∷◌, ◌++◌, Option, Some, None, refl, sym, ap, ◌∙◌, rules}
+use Rattle.std.specs.Prelude.{map, ◌&&◌}
 use Rattle.std.proofs.lemmas.List.{append-nil}
 use Rattle.fort_token.specs.declared.token.Token.{Token}
 use Rattle.fort_token.specs.declared.marks.Mark.TheVariants as mark
@@ -12,7 +12,7 @@ use Rattle.fort_tree.specs.declared.delimited.Delimited.{the_lemmas}
 use Rattle.fort_tree.specs.declared.delimited.Delimited.TheViews as views
 use Rattle.fort_tree.specs.declared.expr.Atom.{Atom, out-Atom}
 use Rattle.fort_tree.specs.declared.expr.Atom.TheVariants as an_atom
-use Rattle.fort_tree.specs.declared.expr.Expr.{Expr, out-Expr}
+use Rattle.fort_tree.specs.declared.expr.Expr.{Expr}
 use Rattle.fort_tree.specs.declared.expr.Expr.TheVariants as an_expr
 use Rattle.fort_tree.specs.declared.expr.ExprList.{ExprList, out-ExprList, roll-ExprList}
 use Rattle.fort_tree.specs.declared.expr.Flat.{Flat, out-Flat, roll-Flat}
@@ -23,11 +23,11 @@ use Rattle.fort_tree.specs.declared.expr.Prefix.{Prefix}
 use Rattle.fort_tree.specs.declared.expr.Run.{Run, out-Run, roll-Run}
 use Rattle.fort_tree.specs.declared.expr.RunPart.{RunPart}
 use Rattle.fort_tree.specs.Tokens.{Spellings, named, marked}
-use Rattle.fort_tree.specs.Said.{Said, Allowed, in_brackets, tokens_of, all_tokens, all_obey, maybe_tokens}
+use Rattle.fort_tree.specs.Said.{Allowed, in_brackets, tokens_of, all_tokens, all_obey}
 use Rattle.fort_tree.specs.Blocks.{next_names_tokens, has_next_name}
 use Rattle.fort_tree.specs.Flats.{alone}
 use Rattle.fort_tree.specs.Yield.{said_run, said_operand, said_flat, said_expr, said_atom, said_expr_list, said_next_expr}
-use Rattle.fort_tree.proofs.SaysFlats.{says-Flat, says-Assign, says-Open, says-OpenAssign, flat_says, says_flat, operand_says, says_operand, run_says, says_run, says-Name, says-Parens, says_expr_list, expr_list_says, says_next_expr, next_expr_says}
+use Rattle.fort_tree.proofs.SaysFlats.{says-Flat, flat_says, says_flat, operand_says, says_operand, run_says, says_run, says-Name, says-Parens, says_expr_list, expr_list_says, says_next_expr, next_expr_says}
 use Rattle.fort_tree.proofs.CasesFlats.{cases_atom, cases_expr}
 use Rattle.fort_parse.specs.declared.plain.PlainNames.{PlainNames}
 use Rattle.fort_parse.specs.Plain.{lone_run, lone_unit, lone_atom, atom_name, maybe_name, plain_name, flat_name, expr_name, join_names, next_names, names_between, atom_names, maybe_names, plain_names}
@@ -107,9 +107,11 @@ between_says left right e es None xs p is are h = absurd cc
 between_says left right e es (Some name) None p is are h = absurd cc
 between_says left right e es (Some name) (Some []) p is are h = absurd cc
 between_says left right e es (Some name) (Some (n ∷ ns)) p is are h =
-    let same : record { left = left; first = name; others = n ∷ ns; right = right } ≡ p = cc in
-    (ap (λ (u : List Token). marked mark.OpenParen left ∷ ((u ++ all_tokens (map said_next_expr es)) ++ marked mark.CloseParen right ∷ [])) (expr_name_says e name is)
-    ∙ ap (λ (u : List Token). marked mark.OpenParen left ∷ named name ∷ (u ++ marked mark.CloseParen right ∷ [])) (next_names_says es (n ∷ ns) are) ∙ ap names_tokens same, ap (λ (q : PlainNames). has_next_name q.others) (sym same))
+    let same : record { left = left; first = name; others = n ∷ ns; right = right } ≡ p = cc in (
+      ap (λ (u : List Token). marked mark.OpenParen left ∷ ((u ++ all_tokens (map said_next_expr es)) ++ marked mark.CloseParen right ∷ [])) (expr_name_says e name is)
+          ∙ ap (λ (u : List Token). marked mark.OpenParen left ∷ named name ∷ (u ++ marked mark.CloseParen right ∷ [])) (next_names_says es (n ∷ ns) are) ∙ ap names_tokens same,
+      ap (λ (q : PlainNames). has_next_name q.others) (sym same),
+    )
 
 parens_say : (left : Spot) (contents : Option ExprList) (right : Spot) (p : PlainNames) → atom_names (out-Atom (an_atom.Parens left contents right)) ≡ Some p
     → (tokens_of (said_atom (an_atom.Parens left contents right)) ≡ names_tokens p) × (has_next_name p.others ≡ true)

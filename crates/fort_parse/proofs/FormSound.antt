@@ -1,11 +1,10 @@
 -- What each item, block, clause and form that ends with `end` is read from is its tokens, and the rules on gaps and names hold in it.
-use Rattle.std.proofs.Common.{◌≡◌, ℕ, Bool, true, false, cond, List, [], ◌∷◌, ◌++◌, append_assoc, Option, Some, None, refl, sym, ap, subst, ◌∙◌}
-use Rattle.std.specs.Prelude.{map, option_map, ◌&&◌, ◌||◌, not}
+use Rattle.std.proofs.Common.{◌≡◌, ℕ, Bool, true, false, List, [], ◌∷◌, ◌++◌, append_assoc, Option, Some, None, refl, sym, ap, ◌∙◌}
+use Rattle.std.specs.Prelude.{map, option_map, ◌&&◌, ◌||◌}
 use Rattle.fort_base.specs.declared.refusal.Gap.{Gap}
 use Rattle.fort_token.specs.declared.token.Kind.{Kind}
 use Rattle.fort_token.specs.declared.token.Kind.TheVariants as kind
 use Rattle.fort_token.specs.declared.token.Token.{Token}
-use Rattle.fort_token.specs.declared.marks.Mark.{Mark}
 use Rattle.fort_token.specs.declared.marks.Mark.TheVariants as mark
 use Rattle.fort_token.specs.declared.reserved.Reserved.{Reserved}
 use Rattle.fort_token.specs.declared.reserved.Reserved.TheVariants as reserved
@@ -19,7 +18,6 @@ use Rattle.fort_tree.specs.declared.delimited.BlockItem.{BlockItem, out-BlockIte
 use Rattle.fort_tree.specs.declared.delimited.CaseClause.{CaseClause, out-CaseClause}
 use Rattle.fort_tree.specs.declared.delimited.Catch.{Catch}
 use Rattle.fort_tree.specs.declared.delimited.Delimited.{Delimited}
-use Rattle.fort_tree.specs.declared.delimited.Delimited.TheVariants as a_delimited
 use Rattle.fort_tree.specs.declared.delimited.Elif.{Elif}
 use Rattle.fort_tree.specs.declared.delimited.ElseBlock.{ElseBlock}
 use Rattle.fort_tree.specs.declared.delimited.ElseClause.{ElseClause}
@@ -31,33 +29,31 @@ use Rattle.fort_tree.specs.declared.delimited.TypeClause.{TypeClause, out-TypeCl
 use Rattle.fort_tree.specs.declared.expr.Expr.{Expr}
 use Rattle.fort_tree.specs.declared.expr.Flat.{Flat}
 use Rattle.fort_tree.specs.declared.expr.Generator.{Generator}
-use Rattle.fort_tree.specs.declared.expr.Head.{Head}
 use Rattle.fort_tree.specs.declared.expr.Operand.{Operand}
 use Rattle.fort_tree.specs.declared.expr.Run.{Run}
 use Rattle.fort_tree.specs.Tokens.{Spellings, word, named, marked, colon, equals, is_line, begins_declaration}
-use Rattle.fort_tree.specs.Said.{Said, SaidEntry, SaidElse, Allowed, elsewhere, before_do, tokens_of, gap_of, all_tokens, all_obey, maybe_tokens, maybe_obeys, is_there, semicolon_tokens, entries_tokens, entries_obey, has_entry, last_semicolon, else_tokens, else_apart, else_obeys}
+use Rattle.fort_tree.specs.Said.{Said, SaidEntry, SaidElse, Allowed, elsewhere, before_do, tokens_of, all_tokens, all_obey, is_there, semicolon_tokens, entries_tokens, entries_obey, has_entry, last_semicolon, else_tokens, else_apart, else_obeys}
 use Rattle.fort_tree.specs.Types.{said_type}
-use Rattle.fort_tree.specs.Blocks.{initial_token, after_var, clause, next_names_tokens, has_next_name}
-use Rattle.fort_tree.specs.Yield.{said_run, said_operand, said_flat, said_generator, said_head, said_expr, said_variable, said_item, said_delimited, said_also, said_block_item, said_case_clause, said_catch, said_elif, said_else_block, said_else_clause, said_finally, said_next_generator, said_type_clause}
+use Rattle.fort_tree.specs.Blocks.{initial_token, after_var, clause, next_names_tokens}
+use Rattle.fort_tree.specs.Yield.{said_operand, said_flat, said_generator, said_expr, said_variable, said_item, said_delimited, said_also, said_block_item, said_case_clause, said_catch, said_elif, said_else_block, said_else_clause, said_finally, said_next_generator, said_type_clause}
 use Rattle.fort_tree.proofs.SaysBlocks.{says-Do, says-If, says-While, says-For, says-Case, says-Typecase, says-Try, says_also, says_elif, says_else_block, says_next_generator, says_case_clause, says_type_clause, says_else_clause, says_catch, says_finally, says_block_item, says-Variable, says-Names, says-Expr, says_variable, block_item_says, case_clause_says, type_clause_says}
-use Rattle.fort_reading.specs.Parser.{Row, Outcome, Read, Failed, and_then, accept_run, next_of, many_run, Eater, Parser}
-use Rattle.fort_reading.specs.Words.{is_range, is_eq, is_mark, is_word, spot_if, name_of, initial_of, sees}
-use Rattle.fort_reading.proofs.Laws.{Only, only_read, only_failed, only_then, only_if, only_more}
+use Rattle.fort_reading.specs.Parser.{Row, Outcome, Read, Failed, and_then, next_of, Eater}
+use Rattle.fort_reading.specs.Words.{is_range, is_mark, is_word, sees}
+use Rattle.fort_reading.proofs.Laws.{Only, only_read, only_failed, only_then, only_if}
 use Rattle.fort_reading.proofs.Taking.{only_mark, only_word, only_name, only_colon, only_equals, only_initial}
-use Rattle.fort_reading.proofs.Yields.{Yields, YieldsAll, YieldsMaybe, both, left_true, right_true, not_true, true_right, only_list}
-use Rattle.fort_parse_types.specs.Types.{type_tree}
+use Rattle.fort_reading.proofs.Yields.{Yields, YieldsAll, YieldsMaybe, both, left_true, not_true, true_right, only_list}
 use Rattle.fort_parse_types.proofs.Sound.{sound_type_tree}
 use Rattle.fort_parse.specs.declared.plain.PlainNames.{PlainNames}
 use Rattle.fort_parse.specs.Beginnings.{begins_atom, begins_head, begins_item, begins_item_kind, begins_case_clause, begins_type_clause, begins_else, begins_apart_of, begins_unit}
 use Rattle.fort_parse_types.specs.Types.{begins_type}
-use Rattle.fort_parse.specs.Flats.{operand, flat, generator, head, opened, expr_from, expr}
+use Rattle.fort_parse.specs.Flats.{operand}
 use Rattle.fort_parse.specs.Plain.{plain_name, plain_names}
 use Rattle.fort_parse.specs.Blocks.{is_ended, last_ended, some_of, sees_second, semicolon, initialised, variable_from, var_item, names_from, flat_item, by_names, by_name, declared, item_from, head_item, item, block_item, block, case_clause, case_list, case_clauses, type_clause, type_clause_list, type_clauses, else_from, second_else, else_clause, also_block, also_blocks, elif, elifs, else_block, catch_from, catch, no_finally, finally, next_generator, next_generators}
 use Rattle.fort_parse.specs.Runs.{do_form, if_rest, if_form, while_form, for_rest, for_form, case_rest, case_form, typecase_rest, typecase_form, try_form, word_form, form_for, delimited}
 use Rattle.fort_parse.proofs.FormDeclares.{Ahead, ahead_of, ahead_more, head_declares_not, declares}
 use Rattle.fort_parse.proofs.FormEntries.{YieldsEntry, YieldsEntries, begun, only_entries, last_is}
 use Rattle.fort_parse.proofs.FormPlain.{plain_name_says, plain_names_say}
-use Rattle.fort_parse.proofs.Statements.{FlatLaws, YieldsUnit, YieldsVariable, allowing, var_tokens}
+use Rattle.fort_parse.proofs.Statements.{FlatLaws, YieldsUnit, YieldsVariable, var_tokens}
 
 -- ---- declarations of locals
 
@@ -80,6 +76,10 @@ pub variable_obeys : (names : Spellings) (var : Option Spot) (name : Name) (at_c
     → (said_variable (roll-Variable (record { var = var; name = name; colon = at_colon; ty = ty; sign = sign; value = value }))).obeys names allowed ≡ ((said_type ty).obeys names elsewhere && (said_expr value).obeys names elsewhere)
 variable_obeys names None name at_colon ty sign value allowed = rw (says_variable None name at_colon ty sign value) refl
 variable_obeys names (Some s) name at_colon ty sign value allowed = rw (says_variable (Some s) name at_colon ty sign value) refl
+
+-- the tokens of a clause, and then rest
+pub clause_tokens : (subject : Said) (arrow : Spot) (value : Said) (rest : Row) → tokens_of (clause subject arrow value) ++ rest ≡ tokens_of subject ++ marked mark.DoubleArrow arrow ∷ (tokens_of value ++ rest)
+clause_tokens subject arrow value rest = append_assoc (tokens_of subject) (marked mark.DoubleArrow arrow ∷ tokens_of value) rest
 
 there : {A B : Type 0} (x : Option A) (y : Option B) → (is_there x || is_there y) ≡ true → {A' B' : Type 0} (f : A → A') (g : B → B') → (is_there (option_map f x) || is_there (option_map g y)) ≡ true
 there None None e f g = absurd cc
@@ -221,10 +221,6 @@ module _ (names : Spellings) {n : ℕ} (run : Bool → Eater Run n) (laws : Flat
   sound_block ts = only_entries names said_block_item (λ x. is_ended (out-BlockItem x).semicolon) begins_item_kind (block_item names run) block_ended sound_block_item n ts
 
   -- ---- clauses
-
-  -- the tokens of a clause, and then rest
-  clause_tokens : (subject : Said) (arrow : Spot) (value : Said) (rest : Row) → tokens_of (clause subject arrow value) ++ rest ≡ tokens_of subject ++ marked mark.DoubleArrow arrow ∷ (tokens_of value ++ rest)
-  clause_tokens subject arrow value rest = append_assoc (tokens_of subject) (marked mark.DoubleArrow arrow ∷ tokens_of value) rest
 
   -- what a clause is read from
   clause_whole : (subject : Said) (arrow : Spot) (value : Said) (s : Option Spot) (ts mid mid1 mid2 rest : Row) → ts ≡ tokens_of subject ++ mid → mid ≡ marked mark.DoubleArrow arrow ∷ mid1 → mid1 ≡ tokens_of value ++ mid2 → mid2 ≡ semicolon_tokens s ++ rest
