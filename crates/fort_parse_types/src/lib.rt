@@ -2,5 +2,7 @@
 #![tactic(auto)]
 
 mod grammar;
+mod longest;
 
 pub use grammar::TypeGrammar;
+pub use longest::longest_type;
