@@ -1,12 +1,12 @@
 -- Lists of items and clauses, each with its `;` and each but the first behind a `;` or on a new line: what is read is their
 -- tokens, and their tokens are read as them. It knows of no production.
 use Rattle.std.proofs.Common.{◌≡◌, ℕ, zero, suc, Bool, true, false, List, [], ◌∷◌, ◌++◌, append_assoc, Option, Some, None, refl, sym, ap, ◌∙◌}
-use Rattle.std.specs.Prelude.{map, ◌&&◌, ◌||◌}
+use Rattle.std.specs.Prelude.{map, ◌||◌}
 use Rattle.fort_token.specs.declared.token.Kind.{Kind}
 use Rattle.fort_token.specs.declared.token.Token.{Token}
 use Rattle.fort_tree.specs.declared.spot.Spot.{Spot}
 use Rattle.fort_tree.specs.Tokens.{Spellings, is_line}
-use Rattle.fort_tree.specs.Said.{Said, SaidEntry, elsewhere, tokens_of, gap_of, semicolon_tokens, entries_tokens, begins_apart, entries_obey, last_semicolon, has_entry}
+use Rattle.fort_tree.specs.Said.{Said, SaidEntry, elsewhere, tokens_of, gap_of, semicolon_tokens, entries_tokens, begins_apart, entries_obey, last_semicolon}
 use Rattle.fort_reading.specs.Parser.{Row, next_of, many_run, Eater}
 use Rattle.fort_reading.proofs.Laws.{Only, only_many, Gets, reads, ends, gets_then}
 use Rattle.fort_reading.proofs.Yields.{both, left_true, right_true}
@@ -108,23 +108,23 @@ module _ (Stop : Option Token → Type 0) where
   rest_last e [] next h = tt
   rest_last e (f ∷ es) next h = h
 
-  module _ {A : Type 0} (names : Spellings) (said : A → SaidEntry) (f : Kind → Bool) (begins : (x : A) → f (said x).item.first.kind ≡ true)
+  module _ {A : Type 0} (names : Spellings) (said : A → SaidEntry) (f : Kind → Bool) (begins : (x : A) → (said x).item.obeys names elsewhere ≡ true → f (said x).item.first.kind ≡ true)
       (line : (t : Token) → is_line t.gap ≡ true → f t.kind ≡ true → Stop (Some t)) where
-    stops_next : (semicolon : Option Spot) (x : A) (next : Option Token) (is : next ≡ Some (said x).item.first) → begins_apart semicolon (said x ∷ []) ≡ true → StopsAfter semicolon next
-    stops_next (Some s) x next is h = tt
-    stops_next None x next is h = rw is (line (said x).item.first h (begins x))
+    stops_next : (semicolon : Option Spot) (x : A) (next : Option Token) (is : next ≡ Some (said x).item.first) → (said x).item.obeys names elsewhere ≡ true → begins_apart semicolon (said x ∷ []) ≡ true → StopsAfter semicolon next
+    stops_next (Some s) x next is ob h = tt
+    stops_next None x next is ob h = rw is (line (said x).item.first h (begins x ob))
 
     apart_one : (semicolon : Option Spot) (e : SaidEntry) (es : List SaidEntry) → begins_apart semicolon (e ∷ es) ≡ true → begins_apart semicolon (e ∷ []) ≡ true
     apart_one None e es h = h
     apart_one (Some s) e es h = refl
 
-    stops_entry : (x : A) (xs : List A) (rest : Row) → begins_apart (said x).semicolon (map said xs) ≡ true → StopsLast (said x ∷ map said xs) (next_of rest) → StopsAfter (said x).semicolon (next_of (entries_tokens (map said xs) ++ rest))
-    stops_entry x [] rest h k = k
-    stops_entry x (y ∷ ys) rest h k = stops_next (said x).semicolon y _ refl (apart_one (said x).semicolon (said y) (map said ys) h)
+    stops_entry : (x : A) (xs : List A) (rest : Row) → entries_obey names (map said xs) ≡ true → begins_apart (said x).semicolon (map said xs) ≡ true → StopsLast (said x ∷ map said xs) (next_of rest) → StopsAfter (said x).semicolon (next_of (entries_tokens (map said xs) ++ rest))
+    stops_entry x [] rest ob h k = k
+    stops_entry x (y ∷ ys) rest ob h k = stops_next (said x).semicolon y _ refl (left_true _ _ ob) (apart_one (said x).semicolon (said y) (map said ys) h)
 
-    begun_entry : (ready : Bool) (x : A) → (ready || is_line (gap_of (said x).item)) ≡ true → begins_apart_of f ready (Some (said x).item.first) ≡ true
+    begun_entry : (ready : Bool) (x : A) → (said x).item.obeys names elsewhere ≡ true → (ready || is_line (gap_of (said x).item)) ≡ true → begins_apart_of f ready (Some (said x).item.first) ≡ true
     unfolding begins_apart_of
-    begun_entry ready x e = rw (e, begins x) refl
+    begun_entry ready x ob e = rw (e, begins x ob) refl
 
     -- a list of entries is read, where what follows it begins none
     pub gets_entries : {b : ℕ} (ended : A → Bool) (item : Eater A b) → ((x : A) → ended x ≡ is_ended (said x).semicolon)
@@ -139,8 +139,8 @@ module _ (Stop : Option Token → Type 0) where
         let others = right_true _ _ ob in
         let apart = left_true _ _ others in
         let again : starts_apart (ended x) (map said xs) ≡ true = rw (is x) (apart_again (said x).semicolon (map said xs) apart) in
-        rw (entries_after (said x) (map said xs) rest, begun_entry ready x ap)
-        (gets_then _ (complete x (entries_tokens (map said xs) ++ rest) own (stops_entry x xs rest apart st))
+        rw (entries_after (said x) (map said xs) rest, begun_entry ready x own ap)
+        (gets_then _ (complete x (entries_tokens (map said xs) ++ rest) own (stops_entry x xs rest (right_true _ _ others) apart st))
         (gets_then _ (gets_entries ended item is complete turns (ended x) xs rest (right_true _ _ others) again (rest_last (said x) (map said xs) (next_of rest) st) none) reads))
 
 -- ---- the `;` behind the last

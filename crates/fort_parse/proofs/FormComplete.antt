@@ -53,12 +53,12 @@ use Rattle.fort_parse.specs.Beginnings.{begins_atom, begins_head, begins_item, b
 use Rattle.fort_parse.specs.Plain.{plain_name, plain_names}
 use Rattle.fort_parse.specs.Blocks.{is_ended, last_ended, some_of, sees_second, semicolon, initialised, variable_from, var_item, names_from, flat_item, by_names, by_name, declared, item_from, head_item, item, block_item, block, case_clause, case_list, case_clauses, type_clause, type_clause_list, type_clauses, else_from, second_else, else_clause, also_block, also_blocks, elif, elifs, else_block, catch_from, catch, finally, next_generator, next_generators}
 use Rattle.fort_parse.specs.Runs.{do_form, if_rest, if_form, while_form, for_rest, for_form, case_rest, case_form, typecase_rest, typecase_form, try_form, delimited}
-use Rattle.fort_parse.proofs.FormFirsts.{item_begins, unit_is_item, type_is_item, new_line, Ends, ends_with}
+use Rattle.fort_parse.proofs.FormFirsts.{Stops, item_begins, unit_is_item, type_is_item, new_line, Ends, ends_with}
 use Rattle.fort_parse.proofs.Firsts.{flat_begins, expr_begins}
 use Rattle.fort_parse.proofs.Stops.{mark_ends_flat, mark_ends_expr, word_ends_flat}
 use Rattle.fort_parse.proofs.FormPlain.{names_tokens, name_unit_is, names_unit_is, parens_no_name, plain_name_says, plain_names_say}
 use Rattle.fort_parse.proofs.FormDeclares.{name_declares, names_declare, gets_name_unit, gets_names_unit}
-use Rattle.fort_parse.proofs.FormEntries.{StopsAfter, StopsLast, stops_last, ended_last, first_apart, gets_entries, last_is}
+use Rattle.fort_parse.proofs.Entries.{StopsAfter, StopsLast, stops_last, ended_last, first_apart, gets_entries, last_is}
 use Rattle.fort_parse.proofs.FormSound.{variable_tokens, variable_obeys, clause_tokens, sound_variable_from, sound_delimited}
 use Rattle.fort_parse.proofs.Statements.{FlatLaws, FormLaws, UnitExpr, allowing, flat_stops, expr_stops, var_tokens}
 
@@ -129,18 +129,18 @@ contradicts : (xs ys : Row) → xs ≡ ys → begins_declaration ys ≡ true →
 contradicts xs ys is e f = let g = subst (λ (v : Row). begins_declaration v ≡ false) is f in cc
 
 -- what follows an item or the value of a clause, with its `;` or without
-entry_stops : (s : Option Spot) (rest : Row) → StopsAfter s (next_of rest) → (expr_stops false (next_of (semicolon_tokens s ++ rest)) ≡ true) × (sees is_range (next_of (semicolon_tokens s ++ rest)) ≡ false)
+entry_stops : (s : Option Spot) (rest : Row) → StopsAfter Stops s (next_of rest) → (expr_stops false (next_of (semicolon_tokens s ++ rest)) ≡ true) × (sees is_range (next_of (semicolon_tokens s ++ rest)) ≡ false)
 entry_stops None rest st = (st.expr, st.colon)
 entry_stops (Some s) rest st = (mark_ends_expr false mark.Semicolon s refl refl refl, semicolon_no_colon s)
 
 -- what follows clauses stops the last, and begins none
 record Follows (es : List SaidEntry) (next : Option Token) : Type 0 where
-  pub last : StopsLast es next
+  pub last : StopsLast Stops es next
   pub clause : (ready : Bool) → begins_apart_of (begins_unit true) ready next ≡ false
   pub types : (ready : Bool) → begins_apart_of begins_type ready next ≡ false
 
 follows_end : (es : List SaidEntry) (next : Option Token) → Ends next → Follows es next
-follows_end es next h = record { last = stops_last es next h.stops; clause = h.clause; types = h.types }
+follows_end es next h = record { last = stops_last Stops es next h.stops; clause = h.clause; types = h.types }
 
 no_semicolon_begins : (s : Spot) (ready : Bool) → (begins_apart_of (begins_unit true) ready (Some (marked mark.Semicolon s)) ≡ false) × (begins_apart_of begins_type ready (Some (marked mark.Semicolon s)) ≡ false)
 unfolding begins_apart_of begins_unit begins_atom is_prefix begins_type
@@ -154,7 +154,7 @@ follows_by : (es : List SaidEntry) (second : Option Spot) (at_else : Spot) (rest
 follows_by es None at_else rest e = follows_end es (Some (word reserved.Else at_else)) (ends_with reserved.Else at_else refl)
 follows_by es (Some s) at_else rest e =
     let t = last_is_there (last_semicolon es) s at_else.gap e in
-    record { last = ended_last es t.0 (Some (marked mark.Semicolon s)) t.1; clause = λ ready. (no_semicolon_begins s ready).0; types = λ ready. (no_semicolon_begins s ready).1 }
+    record { last = ended_last Stops es t.0 (Some (marked mark.Semicolon s)) t.1; clause = λ ready. (no_semicolon_begins s ready).0; types = λ ready. (no_semicolon_begins s ready).1 }
 
 word_no_second : (ended : Bool) (w : Reserved) (s : Spot) → sees_second ended (Some (word w s)) ≡ false
 unfolding sees is_mark
@@ -180,7 +180,7 @@ unfolding begins_else begins_apart_of is_word same_word
 end_no_else ended s = false_right (ended || is_line s.gap)
 
 module _ (names : Spellings) {n : ℕ} (run : Bool → Eater Run n) (laws : FlatLaws names run) where
-  complete_semicolon : (s : Option Spot) (rest : Row) → StopsAfter s (next_of rest) → Gets (Option Spot) ((semicolon names run).run (semicolon_tokens s ++ rest)) s rest
+  complete_semicolon : (s : Option Spot) (rest : Row) → StopsAfter Stops s (next_of rest) → Gets (Option Spot) ((semicolon names run).run (semicolon_tokens s ++ rest)) s rest
   unfolding semicolon
   complete_semicolon None rest st = rw st.semicolon reads
   complete_semicolon (Some s) rest st = rw (sees_semicolon s) (gets_then _ (gets_mark mark.Semicolon s rest) reads)
@@ -287,10 +287,10 @@ module _ (names : Spellings) {n : ℕ} (run : Bool → Eater Run n) (laws : Flat
       rw (says-Names left first others right at_colon ty at_equals value) (simp append_assoc (simp append_assoc at read)))
       (λ e ob st co. let own = rw (says-Expr e) at ob in rw (says-Expr e) (item_expr e rest (is_not _ (left_true _ _ own)) (right_true _ _ own) st co)) i
 
-  complete_block_item : (x : BlockItem) (rest : Row) → (said_block_item x).item.obeys names elsewhere ≡ true → StopsAfter (said_block_item x).semicolon (next_of rest)
+  complete_block_item : (x : BlockItem) (rest : Row) → (said_block_item x).item.obeys names elsewhere ≡ true → StopsAfter Stops (said_block_item x).semicolon (next_of rest)
       → Gets BlockItem ((block_item names run).parser.run (tokens_of (said_block_item x).item ++ (semicolon_tokens (said_block_item x).semicolon ++ rest))) x rest
   unfolding block_item
-  complete_block_item x rest = cases_block_item (λ x. (said_block_item x).item.obeys names elsewhere ≡ true → StopsAfter (said_block_item x).semicolon (next_of rest)
+  complete_block_item x rest = cases_block_item (λ x. (said_block_item x).item.obeys names elsewhere ≡ true → StopsAfter Stops (said_block_item x).semicolon (next_of rest)
       → Gets BlockItem ((block_item names run).parser.run (tokens_of (said_block_item x).item ++ (semicolon_tokens (said_block_item x).semicolon ++ rest))) x rest)
       (λ i s ob st. let own = rw (says_block_item i s) at ob in
       let after = rw (says_block_item i s) at st in
@@ -305,15 +305,15 @@ module _ (names : Spellings) {n : ℕ} (run : Bool → Eater Run n) (laws : Flat
 
   complete_block : (b : List BlockItem) (rest : Row) → entries_obey names (map said_block_item b) ≡ true → Ends (next_of rest) → Gets (List BlockItem) ((block names run).run (entries_tokens (map said_block_item b) ++ rest)) b rest
   unfolding block begins_item
-  complete_block b rest ob en = gets_entries names said_block_item begins_item_kind block_item_begins new_line (λ x. is_ended (out-BlockItem x).semicolon) (block_item names run) block_ended complete_block_item n true b rest ob
-      (first_apart (map said_block_item b)) (stops_last (map said_block_item b) (next_of rest) en.stops) en.item
+  complete_block b rest ob en = gets_entries Stops names said_block_item begins_item_kind block_item_begins new_line (λ x. is_ended (out-BlockItem x).semicolon) (block_item names run) block_ended complete_block_item n true b rest ob
+      (first_apart (map said_block_item b)) (stops_last Stops (map said_block_item b) (next_of rest) en.stops) en.item
 
   -- ---- clauses
 
-  complete_case_clause : (x : CaseClause) (rest : Row) → (said_case_clause x).item.obeys names elsewhere ≡ true → StopsAfter (said_case_clause x).semicolon (next_of rest)
+  complete_case_clause : (x : CaseClause) (rest : Row) → (said_case_clause x).item.obeys names elsewhere ≡ true → StopsAfter Stops (said_case_clause x).semicolon (next_of rest)
       → Gets CaseClause ((case_clause names run).parser.run (tokens_of (said_case_clause x).item ++ (semicolon_tokens (said_case_clause x).semicolon ++ rest))) x rest
   unfolding case_clause
-  complete_case_clause x rest = cases_case_clause (λ x. (said_case_clause x).item.obeys names elsewhere ≡ true → StopsAfter (said_case_clause x).semicolon (next_of rest)
+  complete_case_clause x rest = cases_case_clause (λ x. (said_case_clause x).item.obeys names elsewhere ≡ true → StopsAfter Stops (said_case_clause x).semicolon (next_of rest)
       → Gets CaseClause ((case_clause names run).parser.run (tokens_of (said_case_clause x).item ++ (semicolon_tokens (said_case_clause x).semicolon ++ rest))) x rest)
       (λ subject arrow value s ob st. let own = rw (says_case_clause subject arrow value s) at ob in
       let after = rw (says_case_clause subject arrow value s) at st in
@@ -328,10 +328,10 @@ module _ (names : Spellings) {n : ℕ} (run : Bool → Eater Run n) (laws : Flat
   case_begins : (x : CaseClause) → (said_case_clause x).item.obeys names elsewhere ≡ true → begins_unit true (said_case_clause x).item.first.kind ≡ true
   case_begins x ob = let own = rw (case_clause_says x) at ob in rw (case_clause_says x) (flat_begins names elsewhere (out-CaseClause x).subject (left_true _ _ own))
 
-  complete_type_clause : (x : TypeClause) (rest : Row) → (said_type_clause x).item.obeys names elsewhere ≡ true → StopsAfter (said_type_clause x).semicolon (next_of rest)
+  complete_type_clause : (x : TypeClause) (rest : Row) → (said_type_clause x).item.obeys names elsewhere ≡ true → StopsAfter Stops (said_type_clause x).semicolon (next_of rest)
       → Gets TypeClause ((type_clause names run).parser.run (tokens_of (said_type_clause x).item ++ (semicolon_tokens (said_type_clause x).semicolon ++ rest))) x rest
   unfolding type_clause
-  complete_type_clause x rest = cases_type_clause (λ x. (said_type_clause x).item.obeys names elsewhere ≡ true → StopsAfter (said_type_clause x).semicolon (next_of rest)
+  complete_type_clause x rest = cases_type_clause (λ x. (said_type_clause x).item.obeys names elsewhere ≡ true → StopsAfter Stops (said_type_clause x).semicolon (next_of rest)
       → Gets TypeClause ((type_clause names run).parser.run (tokens_of (said_type_clause x).item ++ (semicolon_tokens (said_type_clause x).semicolon ++ rest))) x rest)
       (λ ty arrow value s ob st. let own = rw (says_type_clause ty arrow value s) at ob in
       let after = rw (says_type_clause ty arrow value s) at st in
@@ -354,14 +354,14 @@ module _ (names : Spellings) {n : ℕ} (run : Bool → Eater Run n) (laws : Flat
       → Gets (List CaseClause) ((case_clauses names run).run (entries_tokens (map said_case_clause xs) ++ rest)) xs rest
   unfolding case_clauses case_list begins_case_clause
   complete_case_clauses xs rest some ob f =
-      gets_then _ (gets_entries names said_case_clause (begins_unit true) case_begins (λ t e b. new_line t e (unit_is_item t.kind b)) (λ x. is_ended (out-CaseClause x).semicolon) (case_clause names run) case_ended complete_case_clause n true xs rest ob
+      gets_then _ (gets_entries Stops names said_case_clause (begins_unit true) case_begins (λ t e b. new_line t e (unit_is_item t.kind b)) (λ x. is_ended (out-CaseClause x).semicolon) (case_clause names run) case_ended complete_case_clause n true xs rest ob
       (first_apart (map said_case_clause xs)) f.last f.clause) (gets_some said_case_clause xs rest some)
 
   complete_type_clauses : (xs : List TypeClause) (rest : Row) → has_entry (map said_type_clause xs) ≡ true → entries_obey names (map said_type_clause xs) ≡ true → Follows (map said_type_clause xs) (next_of rest)
       → Gets (List TypeClause) ((type_clauses names run).run (entries_tokens (map said_type_clause xs) ++ rest)) xs rest
   unfolding type_clauses type_clause_list begins_type_clause
   complete_type_clauses xs rest some ob f =
-      gets_then _ (gets_entries names said_type_clause begins_type type_clause_begins (λ t e b. new_line t e (type_is_item t.kind b)) (λ x. is_ended (out-TypeClause x).semicolon) (type_clause names run) type_ended complete_type_clause n true xs rest ob
+      gets_then _ (gets_entries Stops names said_type_clause begins_type type_clause_begins (λ t e b. new_line t e (type_is_item t.kind b)) (λ x. is_ended (out-TypeClause x).semicolon) (type_clause names run) type_ended complete_type_clause n true xs rest ob
       (first_apart (map said_type_clause xs)) f.last f.types) (gets_some said_type_clause xs rest some)
 
   -- ---- the `else` of clauses

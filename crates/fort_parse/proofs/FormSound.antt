@@ -51,7 +51,7 @@ use Rattle.fort_parse.specs.Plain.{plain_name, plain_names}
 use Rattle.fort_parse.specs.Blocks.{is_ended, last_ended, some_of, sees_second, semicolon, initialised, variable_from, var_item, names_from, flat_item, by_names, by_name, declared, item_from, head_item, item, block_item, block, case_clause, case_list, case_clauses, type_clause, type_clause_list, type_clauses, else_from, second_else, else_clause, also_block, also_blocks, elif, elifs, else_block, catch_from, catch, no_finally, finally, next_generator, next_generators}
 use Rattle.fort_parse.specs.Runs.{do_form, if_rest, if_form, while_form, for_rest, for_form, case_rest, case_form, typecase_rest, typecase_form, try_form, word_form, form_for, delimited}
 use Rattle.fort_parse.proofs.FormDeclares.{Ahead, ahead_of, ahead_more, head_declares_not, declares}
-use Rattle.fort_parse.proofs.FormEntries.{YieldsEntry, YieldsEntries, begun, only_entries, last_is}
+use Rattle.fort_parse.proofs.Entries.{YieldsEntry, YieldsEntries, begun, only_entries, last_is}
 use Rattle.fort_parse.proofs.FormPlain.{plain_name_says, plain_names_say}
 use Rattle.fort_parse.proofs.Statements.{FlatLaws, YieldsUnit, YieldsVariable, var_tokens}
 

@@ -6,10 +6,10 @@ pub mod Stops
 pub mod FlatComplete
 pub mod Entries
 pub mod FormFirsts
-pub mod FormEntries
 pub mod FormPlain
 pub mod FormDeclares
 pub mod FormSound
 pub mod FormComplete
 pub mod RunSound
 pub mod RunComplete
+pub mod AllRuns
