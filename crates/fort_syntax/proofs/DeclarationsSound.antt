@@ -242,7 +242,7 @@ module _ (names : Spellings) (n : ℕ) (parts : PartLaws names n) where
     pub tokens : ts ≡ yield c ++ rest
     pub obeys : obeys c ≡ true
     pub spellings : c.names ≡ names
-    pub texts : c.texts ≡ texts
+    pub texts_are : c.texts ≡ texts
 
   pub sound_component : (texts : List (List ℕ)) (ts : Row) → Only Component ((component names n texts).run ts) (λ c rest. YieldsComponent texts c ts rest)
   unfolding component
@@ -254,4 +254,4 @@ module _ (names : Spellings) (n : ℕ) (parts : PartLaws names n) where
       only_then _ _ _ _ (only_word reserved.End mid3) (λ end rest l.
       let after : ts ≡ word reserved.Component at ∷ named name ∷ (export_tokens exported ++ (entries_tokens (map said_declared list) ++ word reserved.End end ∷ rest)) =
           h ∙ ap (λ (u : Row). word reserved.Component at ∷ u) (h1 ∙ ap (λ (u : Row). named name ∷ u) (k1.0 ∙ ap (λ (u : Row). export_tokens exported ++ u) (k.tokens ∙ ap (λ (u : Row). entries_tokens (map said_declared list) ++ u) l))) in
-      only_read _ _ rest (record { tokens = rw after (simp append_assoc refl); obeys = both _ _ k1.1 k.obeys; spellings = refl; texts = refl }))))))
+      only_read _ _ rest (record { tokens = rw after (simp append_assoc refl); obeys = both _ _ k1.1 k.obeys; spellings = refl; texts_are = refl }))))))

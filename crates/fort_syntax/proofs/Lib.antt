@@ -2,3 +2,6 @@ pub mod Parts
 pub mod NamesSound
 pub mod MethodsSound
 pub mod DeclarationsSound
+pub mod Followers
+pub mod NamesComplete
+pub mod MethodsComplete
