@@ -209,7 +209,7 @@ pub complete_typed : (names : Spellings) (n : ℕ) (p : Parameter) (rest : Row) 
 unfolding typed
 complete_typed names n p rest ob st = gets_then _ (gets_colon p.colon _) (gets_then _ (complete_type_tree names n p.ty rest ob st) reads)
 
-complete_next_parameter : (names : Spellings) (n : ℕ) (x : NextParameter) (rest : Row) → (said_next_parameter x).obeys names elsewhere ≡ true → type_stops (next_of rest) ≡ true
+pub complete_next_parameter : (names : Spellings) (n : ℕ) (x : NextParameter) (rest : Row) → (said_next_parameter x).obeys names elsewhere ≡ true → type_stops (next_of rest) ≡ true
     → Gets NextParameter ((next_parameter names n).parser.run (tokens_of (said_next_parameter x) ++ rest)) x rest
 unfolding next_parameter
 complete_next_parameter names n x rest ob st = gets_then _ (gets_mark mark.Comma x.comma _) (gets_then _ (complete_parameter names n x.parameter rest ob st) reads)
