@@ -5,3 +5,4 @@ pub mod DeclarationsSound
 pub mod Followers
 pub mod NamesComplete
 pub mod MethodsComplete
+pub mod DeclarationsComplete
