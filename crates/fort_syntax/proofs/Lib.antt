@@ -6,3 +6,4 @@ pub mod Followers
 pub mod NamesComplete
 pub mod MethodsComplete
 pub mod DeclarationsComplete
+pub mod Theorem
