@@ -12,10 +12,10 @@ use fort_tree::{
 };
 use std::alloc::Global;
 
-/// What reads types and parameters. Each method reads the longest part of its form that begins at the next token, and then
-/// answers its tree; else the tokens that are left begin at the first one at which no such part goes on, and the answer is
-/// [`Fault::Syntax`]. It is [`Fault::TooDeep`] where the budget is used up, and [`Fault::Memory`] where memory is wanting or
-/// the budget falls to the floor. The chapter is "Grammar".
+/// What reads types and parameters, each method its form from the next tokens, looking one token ahead. Where it answers a
+/// tree, it has taken the tokens of that tree. Else the tokens that are left begin at the first one with which the form does
+/// not go on, and the answer is [`Fault::Syntax`]. It is [`Fault::TooDeep`] where the budget is used up, and
+/// [`Fault::Memory`] where memory is wanting or the budget falls to the floor. The chapter is "Grammar".
 #[derive(Clone, Copy)]
 pub struct TypeGrammar<'a> {
     pub alloc: Global,

@@ -3,6 +3,8 @@
 
 mod grammar;
 mod longest;
+#[cfg(test)]
+mod tests;
 
 pub use grammar::TypeGrammar;
 pub use longest::longest_type;

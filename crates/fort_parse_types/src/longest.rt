@@ -68,7 +68,8 @@ fn shorter_type(
 }
 
 /// The longest type that begins the tokens, with the number of its tokens, or `None` where no type begins them. The names
-/// are the spellings of those that the tokens have, by their numbers. The chapter is "Grammar".
+/// are the spellings of those that the tokens have, by their numbers. The error is want of memory, and parts that lie deeper
+/// in one another than [`MOST_NESTED`]. The chapter is "Grammar".
 pub fn longest_type(
     alloc: Global,
     names: &[Bytes],

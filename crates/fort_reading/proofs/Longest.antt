@@ -10,7 +10,7 @@ use Rattle.fort_tree.specs.Tokens.{Spellings}
 use Rattle.fort_tree.specs.Said.{Said, Allowed, tokens_of}
 use Rattle.fort_reading.specs.declared.fault.Fault.TheVariants.{Syntax, TooDeep}
 use Rattle.fort_reading.specs.Parser.{Row, Outcome, Read, Failed, Seen, Locally, Parser}
-use Rattle.fort_reading.specs.Longest.{HasTree, NoneLonger, LongestPart, NoPart}
+use Rattle.fort_reading.specs.Longest.{HasTree, NoneLonger, LongestPart}
 use Rattle.fort_reading.proofs.Laws.{Only, Gets, reads, ends}
 use Rattle.fort_reading.proofs.Yields.{Yields}
 
@@ -103,25 +103,3 @@ module _ {A : Type 0} (names : Spellings) (allowed : Allowed) (said : A → Said
         only = λ y other. all_only (take (length ts - length rest) ts) x all y other;
         longest = read_bound ts x rest (subst (λ o. Locally p.run ts o) e (p.local ts));
       }
-
--- ---- at falling ends
-
--- no tree has no tokens
-pub no_empty : {A : Type 0} (names : Spellings) (allowed : Allowed) (said : A → Said) (y : A) → HasTree names allowed said [] y → ⊥
-no_empty names allowed said y h = let e = h.tokens in absurd cc
-
--- where none has more than none, none has one
-pub none_left : {A : Type 0} (names : Spellings) (allowed : Allowed) (said : A → Said) (ts : Row) (k : ℕ) → k ≡ 0 → NoneLonger names allowed said ts k → NoPart names allowed said ts
-none_left names allowed said ts k zero_is none j y le h =
-    let lt = none j y le h in
-    let is : j ≡ 0 = omega (arith, lt, zero_is) in
-    no_empty names allowed said y (subst (λ (i : ℕ). HasTree names allowed said (take i ts) y) is h)
-
--- where none has more than k + 1, and those have none, none has more than k
-pub one_less : {A : Type 0} (names : Spellings) (allowed : Allowed) (said : A → Said) (ts : Row) (k i : ℕ) → k ≡ i + 1 → NoneLonger names allowed said ts k → ((y : A) → HasTree names allowed said (take k ts) y → ⊥)
-    → NoneLonger names allowed said ts i
-one_less names allowed said ts k i is none last j y le h =
-    elim (cases_lt i j) [
-      | inl lt ↦ let low = none j y le h in let here : j ≡ k = omega (arith, low, is) in absurd (last y (subst (λ (z : ℕ). HasTree names allowed said (take z ts) y) here h))
-      | inr ge ↦ ge
-    ]
