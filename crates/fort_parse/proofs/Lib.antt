@@ -1,0 +1,15 @@
+pub mod Statements
+pub mod Firsts
+pub mod FlatSound
+pub mod AnyLines
+pub mod Stops
+pub mod FlatComplete
+pub mod Entries
+pub mod FormFirsts
+pub mod FormPlain
+pub mod FormDeclares
+pub mod FormSound
+pub mod FormComplete
+pub mod RunSound
+pub mod RunComplete
+pub mod AllRuns

@@ -1,0 +1,5 @@
+pub mod Beginnings
+pub mod Plain
+pub mod Flats
+pub mod Blocks
+pub mod Runs

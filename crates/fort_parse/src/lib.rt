@@ -1,0 +1,6 @@
+//! Reading expressions and blocks, over what is left of a row of tokens.
+#![tactic(auto)]
+
+mod plain;
+
+pub use plain::PlainNames;

@@ -1,0 +1,10 @@
+//! Reading types and parameters, over what is left of a row of tokens.
+#![tactic(auto)]
+
+mod grammar;
+mod longest;
+#[cfg(test)]
+mod tests;
+
+pub use grammar::TypeGrammar;
+pub use longest::longest_type;

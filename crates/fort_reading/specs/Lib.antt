@@ -1,0 +1,3 @@
+pub mod Parser
+pub mod Words
+pub mod Longest

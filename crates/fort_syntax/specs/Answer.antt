@@ -1,0 +1,74 @@
+-- The chapter "Grammar": what reading a token list answers: its one component, or the first broken rule of 202, 201 and 203 with
+-- its place. The code reads the tokens once, from left to right.
+use Rattle.std.specs.Prelude.{◌≡◌, ◌⊎◌, ℕ, List, [], ◌∷◌, ◌++◌, Result, Ok, Err}
+use Rattle.fort_base.specs.declared.refusal.Place.{Place}
+use Rattle.fort_base.specs.declared.refusal.Rule.{Rule}
+use Rattle.fort_base.specs.declared.refusal.CheckFault.{CheckFault}
+use Rattle.fort_base.specs.declared.refusal.CheckFault.TheVariants as a_fault
+use Rattle.fort_token.specs.declared.token.Token.{Token}
+use Rattle.fort_token.specs.declared.token.Tokens.{Tokens}
+use Rattle.fort_tree.specs.declared.declarations.Component.{Component}
+use Rattle.fort_tree.specs.Component.{HasTree}
+use Rattle.fort_tree.specs.Openers.{AllShallow, FirstDeep}
+use Rattle.fort_tree.specs.Limits.{BreaksLimit, KeepsLimits}
+
+-- A token list has no tree.
+abbrev pub HasNone : Tokens → Type 0
+HasNone tokens = (c : Component) → HasTree tokens c → ⊥
+
+-- the token list with these tokens, and the names and texts of another
+abbrev pub with_list : Tokens → List Token → Tokens
+with_list tokens list = record { list = list; names = tokens.names; texts = tokens.texts }
+
+-- No component over these names and texts begins with these tokens.
+abbrev pub BeginsNone : Tokens → List Token → Type 0
+BeginsNone tokens front = (others : List Token) → HasNone (with_list tokens (front ++ others))
+
+-- A token stands at that place up to which, itself included, no component begins.
+pub record StopsAt (tokens : Tokens) (at : Place) : Type 0 where
+  pub front : List Token
+  pub token : Token
+  pub rest : List Token
+  pub whole : tokens.list ≡ front ++ token ∷ rest
+  pub none : BeginsNone tokens (front ++ token ∷ [])
+  pub place : token.place ≡ at
+
+-- The last token stands at that place.
+pub record EndsAt (tokens : Tokens) (at : Place) : Type 0 where
+  pub front : List Token
+  pub token : Token
+  pub whole : tokens.list ≡ front ++ token ∷ []
+  pub place : token.place ≡ at
+
+-- There are no tokens, and the place is the first of the file.
+pub record IsEmpty (tokens : Tokens) (at : Place) : Type 0 where
+  pub none : tokens.list ≡ []
+  pub place : at ≡ record { line = 1; column = 1 }
+
+-- The places of a token list that is no component: that of a token up to which none begins, or the last one's, or 1:1 without tokens.
+abbrev pub IsFault : Tokens → Place → Type 0
+IsFault tokens at = StopsAt tokens at ⊎ (EndsAt tokens at ⊎ IsEmpty tokens at)
+
+-- The tokens are those of this component and of no other, and it passes no limit.
+pub record IsComponent (tokens : Tokens) (c : Component) : Type 0 where
+  pub shallow : AllShallow tokens.list
+  pub tree : HasTree tokens c
+  pub only : (other : Component) → HasTree tokens other → other ≡ c
+  pub small : KeepsLimits c
+
+-- The token list breaks this rule, at this place: 202 where a token stands too deep; else 201 where it has no tree; else 203 where
+-- its tree passes a limit.
+pub data Breaks (tokens : Tokens) : ℕ → Place → Type 0 where
+  TooDeep : {at : Place} → FirstDeep tokens.list at → Breaks tokens 202 at
+  Syntax : {at : Place} → AllShallow tokens.list → HasNone tokens → IsFault tokens at → Breaks tokens 201 at
+  TooMany : {at : Place} → AllShallow tokens.list → (c : Component) → HasTree tokens c → BreaksLimit c at → Breaks tokens 203 at
+
+-- What is answered is what the tokens have.
+abbrev pub Answers : Tokens → Result Component CheckFault → Type 0
+Answers tokens (Ok c) = IsComponent tokens c
+Answers tokens (Err (a_fault.Refused rule at)) = Breaks tokens rule.0 at
+Answers tokens (Err a_fault.Memory) = Unit {0}
+
+-- A token list has at most one tree.
+abbrev pub AtMostOne : Type 0
+AtMostOne = (tokens : Tokens) (c d : Component) → HasTree tokens c → HasTree tokens d → c ≡ d

@@ -1,0 +1,4 @@
+pub mod Answer
+pub mod Names
+pub mod Methods
+pub mod Declarations

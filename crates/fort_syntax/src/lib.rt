@@ -1,0 +1,2 @@
+//! Reading declarations and components, over expressions and types.
+#![tactic(auto)]
