@@ -1,11 +1,8 @@
 -- A flat expression is refused in one way.
-use Rattle.std.proofs.Common.{◌≡◌, Option, Some, None, refl, sym, ◌∙◌, subst}
+use Rattle.std.proofs.Common.{◌≡◌, Option, Some, None, refl, subst}
 use Rattle.fort_base.specs.declared.refusal.Place.{Place}
-use Rattle.fort_base.specs.declared.refusal.Rule.{Rule}
-use Rattle.fort_tree.specs.declared.grouped.Row.{Row}
-use Rattle.fort_group.specs.Chains.{IsSensible}
-use Rattle.fort_group.specs.Spacing.{first_mixed, Agrees}
-use Rattle.fort_group.specs.Answers.{Breaks, OneBreak, mixed_spacing, no_precedence, spacing_contradicts, bad_chain}
+use Rattle.fort_group.specs.Spacing.{Agrees}
+use Rattle.fort_group.specs.Answers.{OneBreak, mixed_spacing, no_precedence, spacing_contradicts, bad_chain}
 use Rattle.fort_group.proofs.Rules.{one}
 
 same_place : (o : Option Place) (p q : Place) → o ≡ Some p → o ≡ Some q → p ≡ q
