@@ -14,3 +14,4 @@ pub mod Senses
 pub mod Rules
 pub mod Each
 pub mod Exists
+pub mod OneBreak

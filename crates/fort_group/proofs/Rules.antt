@@ -42,7 +42,7 @@ module _ (row : Row) where
   whole g even the good sense = record { even = sym even; only = only g the; agrees = (agreement.tells row.joints g).agrees good; sensible = (senses.tells g).good sense }
 
 -- two that are the only one are the same
-one : (joints : List Joint) (g h : Grouped) → IsOnly joints g → IsOnly joints h → g ≡ h
+pub one : (joints : List Joint) (g h : Grouped) → IsOnly joints g → IsOnly joints h → g ≡ h
 one joints g h a b = a.1 h b.0
 
 -- what has a grouping breaks no rule

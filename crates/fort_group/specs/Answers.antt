@@ -53,3 +53,7 @@ EachAnswered = (row : Row) → ((g : Grouped) × IsGrouped row g) ⊎ ((rule : R
 -- and never both
 abbrev pub NeverBoth : Type 0
 NeverBoth = (row : Row) (g : Grouped) (rule : Rule) (place : Place) → IsGrouped row g → Breaks row rule place → ⊥
+
+-- and it is refused by one rule, at one place
+abbrev pub OneBreak : Type 0
+OneBreak = (row : Row) (rule other : Rule) (place at : Place) → Breaks row rule place → Breaks row other at → (rule ≡ other) × (place ≡ at)

@@ -1,5 +1,5 @@
 ghost use Rattle.fort_tree.specs.Measuring.{row_of};
-ghost use Rattle.fort_group.specs.Answers.{Answers, OneAtMost, EachAnswered, NeverBoth};
+ghost use Rattle.fort_group.specs.Answers.{Answers, OneAtMost, EachAnswered, NeverBoth, OneBreak};
 ghost use Rattle.fort_group.specs.Yield.{UnitsInOrder};
 
 use crate::chains::is_sensible;
@@ -58,10 +58,12 @@ pub fn one_grouping_at_most()
     ensures { OneAtMost }
 {}
 
-/// A law of flat expressions: each has a grouping that breaks no rule, or breaks one, and none both.
+/// A law of flat expressions: each has a grouping that breaks no rule, or breaks one, and none both; and the rule
+/// and the place are one.
 pub fn one_answer()
     ensures some { EachAnswered }
     ensures apart { NeverBoth }
+    ensures once { OneBreak }
 {}
 
 /// A law of groupings: the units stand in them in order.
