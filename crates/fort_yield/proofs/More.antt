@@ -6,10 +6,13 @@ use Rattle.fort_token.specs.declared.token.Token.{Token}
 use Rattle.fort_token.specs.declared.marks.Mark.TheVariants as mark
 use Rattle.fort_tree.specs.declared.spot.Spot.{Spot}
 use Rattle.fort_tree.specs.declared.spot.NextName.{NextName}
+use Rattle.fort_tree.specs.declared.expr.Prefix.{Prefix}
+use Rattle.fort_tree.specs.declared.expr.Prefix.TheVariants as a_prefix
 use Rattle.fort_tree.specs.Tokens.{marked, named}
 use Rattle.fort_tree.specs.Said.{Said, SaidEntry, tokens_of, all_tokens, semicolon_tokens, entries_tokens}
 use Rattle.fort_tree.specs.Blocks.{after_var, next_names_tokens}
-use Rattle.fort_yield.specs.Parts.{entry_tokens, var_tokens}
+use Rattle.fort_tree.specs.Flats.{prefixed}
+use Rattle.fort_yield.specs.Parts.{entry_tokens, var_tokens, prefix_tokens}
 
 -- tokens that lists of trees give, where those of two lists stand one after another
 module _ {A : Type 0} (all : List A → List Token) (own : A → List Token) (splits : (xs ys : List A) → all (xs ++ ys) ≡ all xs ++ all ys)
@@ -52,3 +55,13 @@ one_more_name = one_more_of next_names_tokens (λ y. marked mark.Comma y.comma �
 pub after_var_tokens : (var : Option Spot) (part : Said) → tokens_of (after_var var part) ≡ var_tokens var ++ tokens_of part
 after_var_tokens None part = refl
 after_var_tokens (Some s) part = refl
+
+-- a run behind its prefix operator, where it has one
+pub prefixed_tokens : (prefix : Option Prefix) (run : Said) → tokens_of (prefixed prefix run) ≡ prefix_tokens prefix ++ tokens_of run
+prefixed_tokens None run = refl
+prefixed_tokens (Some (a_prefix.Minus s)) run = refl
+prefixed_tokens (Some (a_prefix.Not s)) run = refl
+
+-- what is put behind what was put before it
+pub behind : (old at new xs ys : List Token) → new ≡ at ++ ys → at ≡ old ++ xs → new ≡ old ++ (xs ++ ys)
+behind old at new xs ys last so_far = last ∙ ap (λ (u : List Token). u ++ ys) so_far ∙ append_assoc old xs ys

@@ -3,6 +3,7 @@ ghost use Rattle.std.specs.Prelude.{◌≡◌, ◌++◌, [], ◌∷◌, OnOk, ma
 ghost use Rattle.fort_tree.specs.Said.{tokens_of, all_tokens, maybe_tokens, entries_tokens, else_tokens, semicolon_tokens};
 ghost use Rattle.fort_tree.specs.Blocks.{initial_token};
 ghost use Rattle.fort_yield.specs.Parts.{entry_tokens};
+ghost use Rattle.fort_tree.specs.Tokens.{word};
 ghost use Rattle.fort_tree.specs.Yield.{said_delimited, said_item, said_variable, said_also, said_block_item, said_case_clause, said_catch, said_elif, said_else_block, said_else_clause, said_finally, said_next_generator, said_type_clause};
 
 use crate::expr::{put_expr, put_flat, put_generator};
@@ -13,7 +14,7 @@ use fort_ops::Op;
 use fort_token::{Mark, Reserved, Token};
 use fort_tree::{
     Also, BlockItem, CaseClause, Catch, Delimited, Elif, ElseBlock, ElseClause, Finally,
-    InitialSign, Item, NextGenerator, TypeClause, Variable,
+    Flat, InitialSign, Item, NextGenerator, Spot, TypeClause, Variable,
 };
 
 #[cycle(put)]
@@ -43,8 +44,7 @@ pub fn put_delimited(form: &Delimited, out: &mut List<Token>) -> Result<(), Memo
         } => {
             put_word(out, Reserved::If, *if_)?;
             put_flat(condition, out)?;
-            put_word(out, Reserved::Then, *then)?;
-            put_block(block.as_slice(), out)?;
+            put_then(*then, block.as_slice(), out)?;
             put_elifs(elifs.as_slice(), out)?;
             put_maybe_else_block(otherwise, out)?;
             put_word(out, Reserved::End, *end)?;
@@ -89,8 +89,7 @@ pub fn put_delimited(form: &Delimited, out: &mut List<Token>) -> Result<(), Memo
             put_flat(subject, out)?;
             put_word(out, Reserved::Of, *of)?;
             put_case_clauses(clauses.as_slice(), out)?;
-            put_maybe_else_clause(otherwise, out)?;
-            put_word(out, Reserved::End, *end)?;
+            put_otherwise(otherwise, *end, out)?;
         }
         Delimited::Typecase {
             typecase,
@@ -108,8 +107,7 @@ pub fn put_delimited(form: &Delimited, out: &mut List<Token>) -> Result<(), Memo
             put_flat(subject, out)?;
             put_word(out, Reserved::Of, *of)?;
             put_type_clauses(clauses.as_slice(), out)?;
-            put_maybe_else_clause(otherwise, out)?;
-            put_word(out, Reserved::End, *end)?;
+            put_otherwise(otherwise, *end, out)?;
         }
         Delimited::Try {
             try_,
@@ -164,8 +162,16 @@ fn put_elif(elif: &Elif, out: &mut List<Token>) -> Result<(), Memory>
 {
     put_word(out, Reserved::Elif, elif.elif)?;
     put_flat(&elif.condition, out)?;
-    put_word(out, Reserved::Then, elif.then)?;
-    put_block(elif.block.as_slice(), out)?;
+    put_then(elif.then, elif.block.as_slice(), out)?;
+    Ok(())
+}
+
+#[cycle(put)]
+fn put_then(then: Spot, block: &[BlockItem], out: &mut List<Token>) -> Result<(), Memory>
+    ensures { OnOk result (out.new ≡ out.old ++ word Reserved.Then then ∷ entries_tokens (map said_block_item block.now)) }
+{
+    put_word(out, Reserved::Then, then)?;
+    put_block(block, out)?;
     Ok(())
 }
 
@@ -249,6 +255,19 @@ fn put_type_clause(clause: &TypeClause, out: &mut List<Token>) -> Result<(), Mem
     put_mark(out, Mark::DoubleArrow, clause.arrow)?;
     put_expr(&clause.value, out)?;
     put_semicolon(out, clause.semicolon)?;
+    Ok(())
+}
+
+#[cycle(put)]
+fn put_otherwise(
+    otherwise: &Option<ElseClause>,
+    end: Spot,
+    out: &mut List<Token>,
+) -> Result<(), Memory>
+    ensures { OnOk result (out.new ≡ out.old ++ (else_tokens (option_map said_else_clause otherwise.now) ++ word Reserved.End end ∷ [])) }
+{
+    put_maybe_else_clause(otherwise, out)?;
+    put_word(out, Reserved::End, end)?;
     Ok(())
 }
 

@@ -2,6 +2,8 @@
 ghost use Rattle.std.specs.Prelude.{◌≡◌, ◌++◌, [], ◌∷◌, OnOk, map, option_map};
 ghost use Rattle.fort_tree.specs.Said.{tokens_of, all_tokens, maybe_tokens};
 ghost use Rattle.fort_tree.specs.Flats.{assign_token, big_first, big_more};
+ghost use Rattle.fort_tree.specs.Tokens.{marked};
+ghost use Rattle.fort_yield.specs.Parts.{prefix_tokens};
 ghost use Rattle.fort_tree.specs.Yield.{said_expr, said_head, said_generator, said_flat, said_flat_part, said_operand, said_run, said_run_part, said_postfix, said_atom, said_expr_list, said_next_expr};
 
 use crate::delimited::put_delimited;
@@ -12,7 +14,7 @@ use fort_ops::Op;
 use fort_token::{Kind, Mark, Reserved, Token};
 use fort_tree::{
     AssignSign, Atom, Big, Expr, ExprList, Flat, FlatPart, Generator, Head, NextExpr, Operand,
-    Postfix, Prefix, Run, RunPart,
+    Postfix, Prefix, Run, RunPart, Spot,
 };
 
 #[cycle(put)]
@@ -202,18 +204,19 @@ fn put_flat_part(part: &FlatPart, out: &mut List<Token>) -> Result<(), Memory>
 fn put_operand(operand: &Operand, out: &mut List<Token>) -> Result<(), Memory>
     ensures { OnOk result (out.new ≡ out.old ++ tokens_of (said_operand operand.now)) }
 {
-    match operand.prefix {
-        None => put_run(&operand.run, out)?,
-        Some(Prefix::Minus(spot)) => {
-            put_operator(out, Op::Minus, spot)?;
-            put_run(&operand.run, out)?;
-        }
-        Some(Prefix::Not(spot)) => {
-            put_operator(out, Op::Not, spot)?;
-            put_run(&operand.run, out)?;
-        }
-    }
+    put_prefix(out, operand.prefix)?;
+    put_run(&operand.run, out)?;
     Ok(())
+}
+
+fn put_prefix(out: &mut List<Token>, prefix: Option<Prefix>) -> Result<(), Memory>
+    ensures { OnOk result (out.new ≡ out.old ++ prefix_tokens prefix) }
+{
+    match prefix {
+        None => Ok(()),
+        Some(Prefix::Minus(spot)) => put_operator(out, Op::Minus, spot),
+        Some(Prefix::Not(spot)) => put_operator(out, Op::Not, spot),
+    }
 }
 
 #[cycle(put)]
@@ -320,16 +323,27 @@ fn put_atom(atom: &Atom, out: &mut List<Token>) -> Result<(), Memory>
             put_mark(out, Mark::OpenStatic, *left)?;
             put_type(element.get(), out)?;
             put_mark(out, Mark::CloseStatic, *right)?;
-            put_mark(out, Mark::OpenParen, *size_left)?;
-            put_expr(size.get(), out)?;
-            put_mark(out, Mark::CloseParen, *size_right)?;
+            put_in_parens(*size_left, size.get(), *size_right, out)?;
             put_mark(out, Mark::Dot, *dot)?;
             put_name(out, *fill)?;
-            put_mark(out, Mark::OpenParen, *value_left)?;
-            put_expr(value.get(), out)?;
-            put_mark(out, Mark::CloseParen, *value_right)?;
+            put_in_parens(*value_left, value.get(), *value_right, out)?;
         }
     }
+    Ok(())
+}
+
+#[cycle(put)]
+fn put_in_parens(
+    left: Spot,
+    expr: &Expr,
+    right: Spot,
+    out: &mut List<Token>,
+) -> Result<(), Memory>
+    ensures { OnOk result (out.new ≡ out.old ++ marked Mark.OpenParen left ∷ (tokens_of (said_expr expr.now) ++ marked Mark.CloseParen right ∷ [])) }
+{
+    put_mark(out, Mark::OpenParen, left)?;
+    put_expr(expr, out)?;
+    put_mark(out, Mark::CloseParen, right)?;
     Ok(())
 }
 
