@@ -15,6 +15,7 @@ use Rattle.fort_yield.specs.Written.{last_spelling, WritesLast, WritesSpelling, 
 
 pub writes_spelling : WritesSpelling
 unfolding lib.Utf8.encode
+writes_spelling an_op.Juxt h = elim h [ ]
 writes_spelling an_op.Times h = (codes "×", (1, omega arith, refl), refl)
 writes_spelling an_op.Dot h = (codes "·", (3, omega arith, refl), refl)
 writes_spelling an_op.Div h = (codes "DIV", (4, omega arith, refl), refl)
@@ -43,6 +44,7 @@ writes_spelling an_op.Same h = (codes "≡", (30, omega arith, refl), refl)
 writes_spelling an_op.And h = (codes "∧", (32, omega arith, refl), refl)
 writes_spelling an_op.Or h = (codes "∨", (34, omega arith, refl), refl)
 writes_spelling an_op.Not h = (codes "¬", (36, omega arith, refl), refl)
+writes_spelling (an_op.Word n) h = elim h [ ]
 writes_spelling an_op.Power h = (codes "^", (37, omega arith, refl), refl)
 
 -- two lists of what functions give are equal: so are what they give of each element

@@ -1,5 +1,5 @@
 -- The chapter "Canonical text": the one text that tokens are shown as. The code appends token after token.
-use Rattle.std.specs.Prelude.{ℕ, ◌==◌, List, [], ◌∷◌, ◌++◌, Option, Some, None, codes, get_or, encode_utf8_all, decimal}
+use Rattle.std.specs.Prelude.{ℕ, ◌==◌, if◌then◌else◌, List, [], ◌∷◌, ◌++◌, Option, Some, None, codes, get_or, encode_utf8_all, decimal}
 use Rattle.std.specs.List.{flat_map}
 use Rattle.fort_base.specs.declared.refusal.Gap.{Gap}
 use Rattle.fort_base.specs.declared.refusal.Gap.TheVariants as gap

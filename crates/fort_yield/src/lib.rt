@@ -7,13 +7,13 @@ mod expr;
 mod laws;
 mod members;
 mod put;
-mod shown;
 mod spelling;
 #[cfg(test)]
 mod tests;
+mod text;
 mod types;
 mod yields;
 
 pub use laws::{operators_are_written_by_the_table, places_play_no_part};
-pub use shown::shown;
+pub use text::shown;
 pub use yields::yield_of;
