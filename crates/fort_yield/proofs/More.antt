@@ -21,7 +21,7 @@ module _ {A : Type 0} (all : List A → List Token) (own : A → List Token) (sp
       → at ≡ old ++ all (take i xs) → new ≡ at ++ own x → new ≡ old ++ all (take (i + 1) xs)
   one_more_of xs i x old at new lt is so_far step =
       let more : all (take (i + 1) xs) ≡ all (take i xs) ++ own x =
-        ap all (take_more xs i x lt ∙ ap (λ y. take i xs ++ y ∷ []) (sym is)) ∙ splits (take i xs) (x ∷ []) ∙ ap (λ (u : List Token). all (take i xs) ++ u) (lone x) in
+      ap all (take_more xs i x lt ∙ ap (λ y. take i xs ++ y ∷ []) (sym is)) ∙ splits (take i xs) (x ∷ []) ∙ ap (λ (u : List Token). all (take i xs) ++ u) (lone x) in
       step ∙ ap (λ (u : List Token). u ++ own x) so_far ∙ append_assoc old (all (take i xs)) (own x) ∙ ap (λ (u : List Token). old ++ u) (sym more)
 
 all_tokens-append : (xs ys : List Said) → all_tokens (xs ++ ys) ≡ all_tokens xs ++ all_tokens ys

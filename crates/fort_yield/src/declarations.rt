@@ -2,19 +2,24 @@
 ghost use Rattle.std.specs.Prelude.{◌≡◌, ◌++◌, [], ◌∷◌, OnOk, map, option_map};
 ghost use Rattle.fort_tree.specs.Said.{tokens_of, all_tokens, maybe_tokens, entries_tokens};
 ghost use Rattle.fort_tree.specs.Declarations.{name_first, name_more, said_function, names_tokens, extends_tokens, excludes_tokens, comprises_tokens, said_trait, said_object_parameter, said_next_object_parameter, said_object_parameter_list, said_object_parameters, said_object, said_declaration, said_declared};
+ghost use Rattle.fort_tree.specs.Tokens.{marked, operator};
+ghost use Rattle.fort_tree.specs.Types.{said_type};
 ghost use Rattle.fort_yield.specs.Parts.{entry_tokens};
 
 use crate::delimited::put_variable;
 use crate::expr::put_expr;
 use crate::members::{put_object_entries, put_trait_entries};
-use crate::put::{put_mark, put_name, put_next_names, put_operator, put_semicolon, put_var, put_word};
+use crate::put::{
+    put_mark, put_name, put_next_names, put_operator, put_semicolon, put_var, put_word,
+};
 use crate::types::{put_maybe_parameters, put_type};
 use fort_base::{List, Memory};
 use fort_ops::Op;
 use fort_token::{Mark, Reserved, Token};
 use fort_tree::{
     Comprises, Declaration, Declared, Excludes, Extends, Function, FunctionName, Names,
-    NextObjectParameter, Object, ObjectParameter, ObjectParameterList, ObjectParameters, Trait,
+    NextObjectParameter, Object, ObjectParameter, ObjectParameterList, ObjectParameters, Spot,
+    Trait, TypeTree,
 };
 
 pub fn put_declarations(declarations: &[Declared], out: &mut List<Token>) -> Result<(), Memory>
@@ -50,11 +55,23 @@ fn put_function(function: &Function, out: &mut List<Token>) -> Result<(), Memory
     put_function_name(out, function.name)?;
     put_mark(out, Mark::OpenParen, function.left)?;
     put_maybe_parameters(&function.parameters, out)?;
-    put_mark(out, Mark::CloseParen, function.right)?;
-    put_operator(out, Op::Range, function.colon)?;
-    put_type(&function.result, out)?;
+    put_result(function.right, function.colon, &function.result, out)?;
     put_operator(out, Op::Eq, function.equals)?;
     put_expr(&function.body, out)
+}
+
+/// The `)` behind parameters, the `:` and the type of the result.
+pub fn put_result(
+    right: Spot,
+    colon: Spot,
+    ty: &TypeTree,
+    out: &mut List<Token>,
+) -> Result<(), Memory>
+    ensures { OnOk result (out.new ≡ out.old ++ marked Mark.CloseParen right ∷ operator Op.Range colon ∷ tokens_of (said_type ty.now)) }
+{
+    put_mark(out, Mark::CloseParen, right)?;
+    put_operator(out, Op::Range, colon)?;
+    put_type(ty, out)
 }
 
 pub fn put_function_name(out: &mut List<Token>, name: FunctionName) -> Result<(), Memory>
@@ -204,10 +221,7 @@ fn put_next_object_parameter(
     put_object_parameter(&next.parameter, out)
 }
 
-fn put_object_parameter(
-    parameter: &ObjectParameter,
-    out: &mut List<Token>,
-) -> Result<(), Memory>
+fn put_object_parameter(parameter: &ObjectParameter, out: &mut List<Token>) -> Result<(), Memory>
     ensures { OnOk result (out.new ≡ out.old ++ tokens_of (said_object_parameter parameter.now)) }
 {
     put_var(out, parameter.var)?;

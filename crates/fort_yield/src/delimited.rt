@@ -7,14 +7,16 @@ ghost use Rattle.fort_tree.specs.Tokens.{word};
 ghost use Rattle.fort_tree.specs.Yield.{said_delimited, said_item, said_variable, said_also, said_block_item, said_case_clause, said_catch, said_elif, said_else_block, said_else_clause, said_finally, said_next_generator, said_type_clause};
 
 use crate::expr::{put_expr, put_flat, put_generator};
-use crate::put::{put_mark, put_name, put_next_names, put_operator, put_semicolon, put_var, put_word};
+use crate::put::{
+    put_mark, put_name, put_next_names, put_operator, put_semicolon, put_var, put_word,
+};
 use crate::types::put_type;
 use fort_base::{List, Memory};
 use fort_ops::Op;
 use fort_token::{Mark, Reserved, Token};
 use fort_tree::{
-    Also, BlockItem, CaseClause, Catch, Delimited, Elif, ElseBlock, ElseClause, Finally,
-    Flat, InitialSign, Item, NextGenerator, Spot, TypeClause, Variable,
+    Also, BlockItem, CaseClause, Catch, Delimited, Elif, ElseBlock, ElseClause, Finally, Flat,
+    InitialSign, Item, NextGenerator, Spot, TypeClause, Variable,
 };
 
 #[cycle(put)]
@@ -176,10 +178,7 @@ fn put_then(then: Spot, block: &[BlockItem], out: &mut List<Token>) -> Result<()
 }
 
 #[cycle(put)]
-fn put_maybe_else_block(
-    otherwise: &Option<ElseBlock>,
-    out: &mut List<Token>,
-) -> Result<(), Memory>
+fn put_maybe_else_block(otherwise: &Option<ElseBlock>, out: &mut List<Token>) -> Result<(), Memory>
     ensures { OnOk result (out.new ≡ out.old ++ maybe_tokens (option_map said_else_block otherwise.now)) }
 {
     match otherwise {

@@ -4,7 +4,7 @@ ghost use Rattle.fort_tree.specs.Said.{tokens_of, all_tokens, maybe_tokens, entr
 ghost use Rattle.fort_tree.specs.Declarations.{said_trait_member, said_trait_entry, said_object_member, said_object_entry, said_method, said_method_parameter, said_next_method_parameter, said_method_parameters, body_tokens};
 ghost use Rattle.fort_yield.specs.Parts.{entry_tokens};
 
-use crate::declarations::put_function_name;
+use crate::declarations::{put_function_name, put_result};
 use crate::delimited::put_variable;
 use crate::expr::put_expr;
 use crate::put::{put_mark, put_name, put_operator, put_semicolon, put_word};
@@ -77,9 +77,7 @@ fn put_method(method: &Method, out: &mut List<Token>) -> Result<(), Memory>
     put_function_name(out, method.name)?;
     put_mark(out, Mark::OpenParen, method.left)?;
     put_maybe_method_parameters(&method.parameters, out)?;
-    put_mark(out, Mark::CloseParen, method.right)?;
-    put_operator(out, Op::Range, method.colon)?;
-    put_type(&method.result, out)?;
+    put_result(method.right, method.colon, &method.result, out)?;
     put_method_body(&method.body, out)
 }
 
@@ -132,10 +130,7 @@ fn put_next_method_parameter(
     put_method_parameter(&next.parameter, out)
 }
 
-fn put_method_parameter(
-    parameter: &MethodParameter,
-    out: &mut List<Token>,
-) -> Result<(), Memory>
+fn put_method_parameter(parameter: &MethodParameter, out: &mut List<Token>) -> Result<(), Memory>
     ensures { OnOk result (out.new ≡ out.old ++ tokens_of (said_method_parameter parameter.now)) }
 {
     match parameter {

@@ -69,7 +69,10 @@ fn the_smallest_component_yields_its_tokens(rt: HostRuntime) -> Result<(), Fail>
     ];
     assert_eq!(rt; all.list.len(), 3);
     for i in 0..3usize {
-        assert_eq!(rt; all.list.get(i).map(|token: &Token| token.kind), Some(kinds[i]));
+        assert_eq!(rt;
+            all.list.get(i).map(|token: &Token| token.kind),
+            Some(kinds[i])
+        );
     }
     assert_eq!(rt; all.names.len(), 1);
     Ok(())

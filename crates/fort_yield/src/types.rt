@@ -7,9 +7,7 @@ use crate::put::{put_mark, put_name, put_operator};
 use fort_base::{List, Memory};
 use fort_ops::Op;
 use fort_token::{Mark, Token};
-use fort_tree::{
-    NextParameter, NextType, Parameter, Parameters, SimpleType, TypeList, TypeTree,
-};
+use fort_tree::{NextParameter, NextType, Parameter, Parameters, SimpleType, TypeList, TypeTree};
 
 #[cycle(put_types)]
 pub fn put_type(ty: &TypeTree, out: &mut List<Token>) -> Result<(), Memory>
@@ -125,10 +123,7 @@ fn put_parameters(list: &Parameters, out: &mut List<Token>) -> Result<(), Memory
     put_next_parameters(list.others.as_slice(), out)
 }
 
-pub fn put_maybe_parameters(
-    list: &Option<Parameters>,
-    out: &mut List<Token>,
-) -> Result<(), Memory>
+pub fn put_maybe_parameters(list: &Option<Parameters>, out: &mut List<Token>) -> Result<(), Memory>
     ensures { OnOk result (out.new ≡ out.old ++ maybe_tokens (option_map said_parameters list.now)) }
 {
     match list {
