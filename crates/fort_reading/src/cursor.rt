@@ -144,7 +144,8 @@ fn called_of(word: &[u8], names: &[Bytes], token: &Token) -> Option<Name>
     }
 }
 
-fn is_infix(op: Op) -> bool
+/// Whether an operator is an infix one.
+pub fn is_infix(op: Op) -> bool
     ensures { result ≡ trees.is_infix op }
 {
     !matches!(op, Op::Juxt | Op::Not | Op::Power)
