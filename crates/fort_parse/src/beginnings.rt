@@ -1,5 +1,6 @@
 //! The tokens with which parts of an expression begin.
 ghost use Rattle.std.specs.Prelude.{◌≡◌};
+ghost use Rattle.fort_reading.specs.Words.{sees};
 ghost use Rattle.fort_parse.specs.Beginnings as spec;
 ghost use Rattle.fort_parse.specs.Runs as runs;
 
@@ -214,6 +215,61 @@ pub fn is_next_tight(next: Option<Token>) -> bool
 {
     match next {
         Some(token) => is_empty(token.gap),
+        None => false,
+    }
+}
+
+/// Whether the next token is a prefix operator.
+#[tactic(auto, unfolding(fort_reading::specs::Words::sees))]
+pub fn sees_prefix(next: Option<Token>) -> bool
+    ensures { result ≡ sees spec.is_prefix next }
+{
+    match next {
+        Some(token) => is_prefix(token.kind),
+        None => false,
+    }
+}
+
+/// Whether the next token is an infix operator.
+#[tactic(auto, unfolding(fort_reading::specs::Words::sees))]
+pub fn sees_infix(next: Option<Token>) -> bool
+    ensures { result ≡ sees spec.is_infix_kind next }
+{
+    match next {
+        Some(token) => is_infix_kind(token.kind),
+        None => false,
+    }
+}
+
+/// Whether the next token begins a head.
+#[tactic(auto, unfolding(fort_reading::specs::Words::sees))]
+pub fn sees_head(next: Option<Token>) -> bool
+    ensures { result ≡ sees spec.begins_head next }
+{
+    match next {
+        Some(token) => begins_head(token.kind),
+        None => false,
+    }
+}
+
+/// Whether the next token is the sign of an assignment.
+#[tactic(auto, unfolding(fort_reading::specs::Words::sees))]
+pub fn sees_assign(next: Option<Token>) -> bool
+    ensures { result ≡ sees spec.assigns next }
+{
+    match next {
+        Some(token) => assigns(token.kind),
+        None => false,
+    }
+}
+
+/// Whether the next token begins a postfix.
+#[tactic(auto, unfolding(fort_reading::specs::Words::sees))]
+pub fn sees_postfix(next: Option<Token>) -> bool
+    ensures { result ≡ sees spec.begins_postfix next }
+{
+    match next {
+        Some(token) => begins_postfix(token.kind),
         None => false,
     }
 }

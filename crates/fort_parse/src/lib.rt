@@ -2,7 +2,10 @@
 #![tactic(auto)]
 
 mod beginnings;
+mod flats;
+mod grammar;
 mod plain;
 mod stand_in;
 
+pub use grammar::Grammar;
 pub use plain::PlainNames;

@@ -16,6 +16,7 @@ pub fn begins_type(kind: Kind) -> bool
     matches!(kind, Kind::Name(_) | Kind::Mark(Mark::OpenParen))
 }
 
+#[derive(Clone, Copy)]
 pub struct TypeGrammar<'a> {
     pub alloc: Global,
     pub names: &'a [Bytes],
