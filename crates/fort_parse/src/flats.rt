@@ -6,7 +6,6 @@ ghost use Rattle.fort_parse.specs.Runs.{run_at};
 
 use crate::beginnings::{begins_flat_part, sees_assign, sees_head, sees_infix, sees_prefix};
 use crate::grammar::Grammar;
-use crate::stand_in::TypeGrammar;
 use fort_base::{Boxed, List};
 use fort_reading::{Cursor, Fault};
 use fort_token::{Kind, Mark, Reserved};
@@ -15,6 +14,7 @@ use fort_tree::{
 };
 
 impl Grammar<'_> {
+    #[cycle(grammar)]
     #[tactic(auto, unfolding(crate::specs::Flats::prefixed))]
     fn prefixed(&self, tokens: &mut Cursor<'_>, blocks: bool) -> Result<Operand, Fault>
         ensures { Reads ((flats.prefixed self.now.names.now (run_at self.now.names.now self.now.depth) blocks).parser.run tokens.old) result tokens.new }
@@ -24,6 +24,7 @@ impl Grammar<'_> {
         Ok(Operand { prefix, run })
     }
 
+    #[cycle(grammar)]
     #[tactic(auto, unfolding(crate::specs::Flats::operand))]
     pub fn operand(&self, tokens: &mut Cursor<'_>, blocks: bool) -> Result<Operand, Fault>
         ensures { Reads ((flats.operand self.now.names.now (run_at self.now.names.now self.now.depth) blocks).parser.run tokens.old) result tokens.new }
@@ -35,6 +36,7 @@ impl Grammar<'_> {
         Ok(Operand { prefix: None, run })
     }
 
+    #[cycle(grammar)]
     #[tactic(auto, unfolding(crate::specs::Flats::infix_part))]
     fn infix_part(&self, tokens: &mut Cursor<'_>, blocks: bool) -> Result<FlatPart, Fault>
         ensures { Reads ((flats.infix_part self.now.names.now (run_at self.now.names.now self.now.depth) blocks).parser.run tokens.old) result tokens.new }
@@ -44,6 +46,7 @@ impl Grammar<'_> {
         Ok(FlatPart::Infix(sign, operand))
     }
 
+    #[cycle(grammar)]
     #[tactic(auto, unfolding(crate::specs::Flats::flat_part))]
     fn flat_part(&self, tokens: &mut Cursor<'_>, blocks: bool) -> Result<FlatPart, Fault>
         ensures { Reads ((flats.flat_part self.now.names.now (run_at self.now.names.now self.now.depth) blocks).parser.run tokens.old) result tokens.new }
@@ -54,6 +57,7 @@ impl Grammar<'_> {
         Ok(FlatPart::Run(self.run(tokens, blocks)?))
     }
 
+    #[cycle(grammar)]
     fn flat_parts(
         &self,
         tokens: &mut Cursor<'_>,
@@ -73,6 +77,7 @@ impl Grammar<'_> {
         Err(Fault::TooDeep)
     }
 
+    #[cycle(grammar)]
     #[tactic(auto, unfolding(crate::specs::Flats::flat))]
     pub fn flat(&self, tokens: &mut Cursor<'_>, blocks: bool) -> Result<Flat, Fault>
         ensures { Reads ((flats.flat self.now.names.now (run_at self.now.names.now self.now.depth) blocks).parser.run tokens.old) result tokens.new }
@@ -82,6 +87,7 @@ impl Grammar<'_> {
         Ok(Flat { first, rest })
     }
 
+    #[cycle(grammar)]
     #[tactic(auto, unfolding(crate::specs::Flats::sequential))]
     fn sequential(
         &self,
@@ -105,6 +111,7 @@ impl Grammar<'_> {
         })
     }
 
+    #[cycle(grammar)]
     #[tactic(auto, unfolding(crate::specs::Flats::parallel))]
     fn parallel(
         &self,
@@ -123,6 +130,7 @@ impl Grammar<'_> {
         })
     }
 
+    #[cycle(grammar)]
     #[tactic(auto, unfolding(crate::specs::Flats::generator))]
     pub fn generator(&self, tokens: &mut Cursor<'_>, blocks: bool) -> Result<Generator, Fault>
         ensures { Reads ((flats.generator self.now.names.now (run_at self.now.names.now self.now.depth) blocks).parser.run tokens.old) result tokens.new }
@@ -136,6 +144,7 @@ impl Grammar<'_> {
         }
     }
 
+    #[cycle(grammar)]
     #[tactic(auto, unfolding(crate::specs::Flats::reduction))]
     fn reduction(&self, tokens: &mut Cursor<'_>, big: Big) -> Result<Head, Fault>
         ensures { Reads ((flats.reduction self.now.names.now (run_at self.now.names.now self.now.depth) big).run tokens.old) result tokens.new }
@@ -151,6 +160,7 @@ impl Grammar<'_> {
         })
     }
 
+    #[cycle(grammar)]
     #[tactic(auto, unfolding(crate::specs::Flats::big_reduction))]
     fn big_reduction(&self, tokens: &mut Cursor<'_>, spot: Spot) -> Result<Head, Fault>
         ensures { Reads ((flats.big_reduction self.now.names.now (run_at self.now.names.now self.now.depth) spot).run tokens.old) result tokens.new }
@@ -176,6 +186,7 @@ impl Grammar<'_> {
         })
     }
 
+    #[cycle(grammar)]
     #[tactic(auto, unfolding(crate::specs::Flats::head))]
     pub fn head(&self, tokens: &mut Cursor<'_>) -> Result<Head, Fault>
         ensures { Reads ((flats.head self.now.names.now (run_at self.now.names.now self.now.depth)).parser.run tokens.old) result tokens.new }
@@ -209,6 +220,7 @@ impl Grammar<'_> {
         }
     }
 
+    #[cycle(grammar)]
     #[tactic(auto, unfolding(crate::specs::Flats::open_assign))]
     fn open_assign(
         &self,
@@ -228,6 +240,7 @@ impl Grammar<'_> {
         })
     }
 
+    #[cycle(grammar)]
     #[tactic(auto, unfolding(crate::specs::Flats::opened))]
     pub fn opened(&self, tokens: &mut Cursor<'_>, head: Boxed<Head>) -> Result<Expr, Fault>
         ensures { Reads ((flats.opened self.now.names.now (run_at self.now.names.now self.now.depth) head).run tokens.old) result tokens.new }
@@ -240,6 +253,7 @@ impl Grammar<'_> {
         }
     }
 
+    #[cycle(grammar)]
     #[tactic(auto, unfolding(crate::specs::Flats::assigned))]
     fn assigned(
         &self,
@@ -269,6 +283,7 @@ impl Grammar<'_> {
         }
     }
 
+    #[cycle(grammar)]
     #[tactic(auto, unfolding(crate::specs::Flats::assign))]
     fn assign(&self, tokens: &mut Cursor<'_>, target: Boxed<Flat>) -> Result<Expr, Fault>
         ensures { Reads ((flats.assign self.now.names.now (run_at self.now.names.now self.now.depth) target).run tokens.old) result tokens.new }
@@ -277,6 +292,7 @@ impl Grammar<'_> {
         self.assigned(tokens, target, sign)
     }
 
+    #[cycle(grammar)]
     #[tactic(auto, unfolding(crate::specs::Flats::flat_more))]
     fn flat_more(
         &self,
@@ -291,6 +307,7 @@ impl Grammar<'_> {
         Ok(Expr::Flat(Flat { first, rest }))
     }
 
+    #[cycle(grammar)]
     #[tactic(auto, unfolding(crate::specs::Flats::expr_from))]
     pub fn expr_from(
         &self,
@@ -309,6 +326,7 @@ impl Grammar<'_> {
         }
     }
 
+    #[cycle(grammar)]
     #[tactic(auto, unfolding(crate::specs::Flats::expr))]
     pub fn expr(&self, tokens: &mut Cursor<'_>, lines: bool) -> Result<Expr, Fault>
         ensures { Reads ((flats.expr self.now.names.now (run_at self.now.names.now self.now.depth) lines).parser.run tokens.old) result tokens.new }
@@ -322,6 +340,7 @@ impl Grammar<'_> {
         }
     }
 
+    #[cycle(grammar)]
     #[tactic(auto, unfolding(crate::specs::Flats::next_expr))]
     fn next_expr(&self, tokens: &mut Cursor<'_>) -> Result<NextExpr, Fault>
         ensures { Reads ((flats.next_expr self.now.names.now (run_at self.now.names.now self.now.depth)).parser.run tokens.old) result tokens.new }
@@ -331,6 +350,7 @@ impl Grammar<'_> {
         Ok(NextExpr { comma, expr })
     }
 
+    #[cycle(grammar)]
     fn next_exprs(&self, tokens: &mut Cursor<'_>) -> Result<List<NextExpr>, Fault>
         ensures { Reads ((flats.next_exprs self.now.names.now (run_at self.now.names.now self.now.depth)).run tokens.old) result tokens.new }
     {
@@ -344,6 +364,7 @@ impl Grammar<'_> {
         Err(Fault::TooDeep)
     }
 
+    #[cycle(grammar)]
     #[tactic(auto, unfolding(crate::specs::Flats::expr_list))]
     fn expr_list(&self, tokens: &mut Cursor<'_>) -> Result<ExprList, Fault>
         ensures { Reads ((flats.expr_list self.now.names.now (run_at self.now.names.now self.now.depth)).parser.run tokens.old) result tokens.new }
@@ -353,6 +374,7 @@ impl Grammar<'_> {
         Ok(ExprList { first, others })
     }
 
+    #[cycle(grammar)]
     #[tactic(auto, unfolding(crate::specs::Flats::maybe_list))]
     pub fn maybe_list(&self, tokens: &mut Cursor<'_>) -> Result<Option<ExprList>, Fault>
         ensures { Reads ((flats.maybe_list self.now.names.now (run_at self.now.names.now self.now.depth)).run tokens.old) result tokens.new }

@@ -1,14 +1,11 @@
 ghost use Rattle.std.specs.Prelude.{◌≡◌};
-ghost use Rattle.fort_reading.specs.Parser.{Reads};
-ghost use Rattle.fort_parse.specs.Runs.{run_at};
 
 use crate::stand_in::TypeGrammar;
 use fort_base::Bytes;
-use fort_reading::{Cursor, Fault};
-use fort_tree::Run;
 use std::alloc::Global;
 
 /// The productions of expressions and blocks, with the spellings of the names.
+#[derive(Clone, Copy)]
 pub struct Grammar<'a> {
     pub alloc: Global,
     pub names: &'a [Bytes],
@@ -30,11 +27,5 @@ impl Grammar<'_> {
             depth: self.depth,
             floor: self.floor,
         }
-    }
-
-    pub fn run(&self, tokens: &mut Cursor<'_>, blocks: bool) -> Result<Run, Fault>
-        ensures { Reads ((run_at self.now.names.now self.now.depth blocks).parser.run tokens.old) result tokens.new }
-    {
-        Err(Fault::Memory)
     }
 }

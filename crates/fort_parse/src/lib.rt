@@ -2,9 +2,11 @@
 #![tactic(auto)]
 
 mod beginnings;
+mod blocks;
 mod flats;
 mod grammar;
 mod plain;
+mod runs;
 mod stand_in;
 
 pub use grammar::Grammar;

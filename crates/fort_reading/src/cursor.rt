@@ -1,4 +1,4 @@
-ghost use Rattle.std.specs.Prelude.{◌≡◌, length};
+ghost use Rattle.std.specs.Prelude.{◌≡◌, drop, length};
 ghost use Rattle.fort_reading.specs.Parser.{Reads, next_of, accept_run};
 ghost use Rattle.fort_reading.specs.Words as spec;
 ghost use Rattle.fort_tree.specs.Tokens as trees;
@@ -233,6 +233,15 @@ impl<'a> Cursor<'a> {
         match self.rest {
             [] => None,
             [first, ..] => Some(*first),
+        }
+    }
+
+    /// Leaves the next token, where there is one.
+    pub fn skip(&mut self)
+        ensures { self.new ≡ drop 1 self.old }
+    {
+        if let [_, rest @ ..] = self.rest {
+            self.rest = rest;
         }
     }
 
