@@ -1,5 +1,5 @@
 -- The productions of types and parameters as parsers.
-use Rattle.std.specs.Prelude.{ℕ, zero, suc, Bool, true, false, List, [], ◌∷◌, Option, Some, None, codes}
+use Rattle.std.specs.Prelude.{ℕ, zero, suc, Bool, true, false, List, Option, Some, None, codes}
 use Rattle.fort_token.specs.declared.token.Kind.{Kind}
 use Rattle.fort_token.specs.declared.token.Kind.TheVariants as kind
 use Rattle.fort_token.specs.declared.token.Token.{Token}
@@ -17,7 +17,7 @@ use Rattle.fort_tree.specs.declared.types.TypeList.{TypeList, roll-TypeList}
 use Rattle.fort_tree.specs.declared.types.TypeTree.{TypeTree}
 use Rattle.fort_tree.specs.declared.types.TypeTree.TheVariants as a_type
 use Rattle.fort_tree.specs.Tokens.{Spellings}
-use Rattle.fort_reading.specs.Parser.{Parser, Eater, pure, wrong, ◌>>=◌, fork, token, accept, choose, no_eater, no_budget, ◌>>>◌, ◌>>|◌, many}
+use Rattle.fort_reading.specs.Parser.{Parser, Eater, pure, ◌>>=◌, fork, token, accept, choose, no_eater, no_budget, ◌>>>◌, ◌>>|◌, many}
 use Rattle.fort_reading.specs.Words.{is_mark, is_range, spot_if, name_of, is_called, called_of, sees}
 
 -- whether a symbol begins a type
