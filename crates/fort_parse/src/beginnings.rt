@@ -1,10 +1,10 @@
 //! The tokens with which parts of an expression begin.
 ghost use Rattle.std.specs.Prelude.{◌≡◌};
 ghost use Rattle.fort_reading.specs.Words.{sees};
+ghost use Rattle.fort_parse_types.specs.Types as types;
 ghost use Rattle.fort_parse.specs.Beginnings as spec;
 ghost use Rattle.fort_parse.specs.Runs as runs;
 
-use crate::stand_in::begins_type;
 use fort_ops::Op;
 use fort_reading::{is_empty, is_infix, is_line, is_word};
 use fort_token::{Kind, Mark, Reserved, Token};
@@ -184,6 +184,13 @@ pub fn begins_case_clause(ready: bool, next: Option<Token>) -> bool
         Some(token) => (ready || is_line(token.gap)) && begins_unit(true, token.kind),
         None => false,
     }
+}
+
+#[tactic(auto, unfolding(fort_parse_types::specs::Types::begins_type))]
+fn begins_type(kind: Kind) -> bool
+    ensures { result ≡ types.begins_type kind }
+{
+    matches!(kind, Kind::Name(_) | Kind::Mark(Mark::OpenParen))
 }
 
 /// Whether the next token begins a further clause of types, as an item of a block does.

@@ -1,24 +1,33 @@
 ghost use Rattle.std.specs.Prelude.{◌≡◌};
+ghost use Rattle.fort_reading.specs.Parser.{Reads};
+ghost use Rattle.fort_parse.specs.Runs as runs;
 
-use crate::stand_in::TypeGrammar;
 use fort_base::Bytes;
+use fort_parse_types::TypeGrammar;
+use fort_reading::{Cursor, Fault};
+use fort_tree::{Expr, Name, Spot, Variable};
 use std::alloc::Global;
 
-/// The productions of expressions and blocks, with the spellings of the names.
+/// What reads expressions and blocks. Each method reads the part of its form that begins at the next token, and
+/// then answers its tree; else the tokens that are left begin at the first one at which no such part goes on, and
+/// the answer is [`Fault::Syntax`]. It is [`Fault::TooDeep`] where the budget is used up, and [`Fault::Memory`]
+/// where memory is wanting or the budget falls to the floor. The chapter is "Grammar".
 #[derive(Clone, Copy)]
 pub struct Grammar<'a> {
     pub alloc: Global,
+    /// The spellings of names, by their numbers.
     pub names: &'a [Bytes],
-    /// How many tokens may be left for what stands inside.
+    /// How deep the parts that are read may lie in one another, and how many may stand in a list: with more than
+    /// there are tokens left it is never used up.
     pub depth: usize,
-    /// Where the depth is used up for the stack: no deeper part is read.
+    /// What `depth` may not fall to, so that the stack that a call takes has a bound.
     pub floor: usize,
 }
 
-impl Grammar<'_> {
-    /// The productions of types, with the same bounds.
-    pub fn types(&self) -> TypeGrammar<'_>
-        ensures names { result.names ≡ self.now.names }
+impl<'a> Grammar<'a> {
+    /// What reads types, with the same bounds.
+    pub fn types(&self) -> TypeGrammar<'a>
+        ensures names { result.names.now ≡ self.now.names.now }
         ensures depth { result.depth ≡ self.now.depth }
     {
         TypeGrammar {
@@ -27,5 +36,26 @@ impl Grammar<'_> {
             depth: self.depth,
             floor: self.floor,
         }
+    }
+
+    /// An expression; `lines` says whether new lines may stand between its units, as they may in brackets.
+    #[tactic(auto, unfolding(crate::specs::Runs::expr_at))]
+    pub fn expression(&self, tokens: &mut Cursor<'_>, lines: bool) -> Result<Expr, Fault>
+        ensures { Reads ((runs.expr_at self.now.names.now self.now.depth lines).parser.run tokens.old) result tokens.new }
+    {
+        self.expr(tokens, lines)
+    }
+
+    /// A declaration of a variable behind its name: its type, the sign and the initial.
+    #[tactic(auto, unfolding(crate::specs::Runs::variable_at))]
+    pub fn variable(
+        &self,
+        tokens: &mut Cursor<'_>,
+        var: Option<Spot>,
+        name: Name,
+    ) -> Result<Variable, Fault>
+        ensures { Reads ((runs.variable_at self.now.names.now self.now.depth var name).run tokens.old) result tokens.new }
+    {
+        self.variable_from(tokens, var, name)
     }
 }

@@ -7,7 +7,6 @@ mod flats;
 mod grammar;
 mod plain;
 mod runs;
-mod stand_in;
 
 pub use grammar::Grammar;
 pub use plain::PlainNames;
