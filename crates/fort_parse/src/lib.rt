@@ -2,11 +2,6 @@
 #![tactic(auto)]
 
 mod beginnings;
-mod blocks;
-mod flats;
-mod grammar;
 mod plain;
-mod runs;
 
-pub use grammar::Grammar;
 pub use plain::PlainNames;
