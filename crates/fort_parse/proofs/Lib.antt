@@ -1,3 +1,4 @@
+pub mod Names
 pub mod Statements
 pub mod Firsts
 pub mod FlatSound

@@ -1,4 +1,4 @@
-ghost use Rattle.std.specs.Prelude.{◌≡◌, length};
+ghost use Rattle.std.specs.Prelude.{◌≡◌, drop, length};
 ghost use Rattle.fort_reading.specs.Parser.{Reads, next_of, accept_run};
 ghost use Rattle.fort_reading.specs.Words as spec;
 ghost use Rattle.fort_tree.specs.Tokens as trees;
@@ -144,7 +144,8 @@ fn called_of(word: &[u8], names: &[Bytes], token: &Token) -> Option<Name>
     }
 }
 
-fn is_infix(op: Op) -> bool
+/// Whether an operator is an infix one.
+pub fn is_infix(op: Op) -> bool
     ensures { result ≡ trees.is_infix op }
 {
     !matches!(op, Op::Juxt | Op::Not | Op::Power)
@@ -232,6 +233,15 @@ impl<'a> Cursor<'a> {
         match self.rest {
             [] => None,
             [first, ..] => Some(*first),
+        }
+    }
+
+    /// Leaves the next token, where there is one.
+    pub fn skip(&mut self)
+        ensures { self.new ≡ drop 1 self.old }
+    {
+        if let [_, rest @ ..] = self.rest {
+            self.rest = rest;
         }
     }
 

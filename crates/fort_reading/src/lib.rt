@@ -5,6 +5,7 @@ mod cursor;
 mod fault;
 
 pub use cursor::{
-    Cursor, is_called, is_empty, is_eq, is_line, is_mark, is_power, is_range, is_word, spot_of,
+    Cursor, is_called, is_empty, is_eq, is_infix, is_line, is_mark, is_power, is_range, is_word,
+    spot_of,
 };
 pub use fault::Fault;
