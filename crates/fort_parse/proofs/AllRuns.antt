@@ -1,6 +1,5 @@
 -- Runs, expressions and declarations of variables keep their laws at every budget.
-use Rattle.std.proofs.Common.{◌≡◌, ℕ, zero, suc, Bool, true, false, List, [], ◌∷◌, ◌++◌, Option, Some, None, refl}
-use Rattle.fort_token.specs.declared.token.Token.{Token}
+use Rattle.std.proofs.Common.{◌≡◌, ℕ, zero, suc, Bool, true, false, ◌∷◌, ◌++◌, Option}
 use Rattle.fort_tree.specs.declared.spot.Spot.{Spot}
 use Rattle.fort_tree.specs.declared.spot.Name.{Name}
 use Rattle.fort_tree.specs.declared.expr.Expr.{Expr}
@@ -12,12 +11,12 @@ use Rattle.fort_tree.specs.Tokens.{colon as at_colon}
 use Rattle.fort_tree.specs.Said.{tokens_of, elsewhere}
 use Rattle.fort_tree.specs.Types.{said_type}
 use Rattle.fort_tree.specs.Blocks.{initial_token}
-use Rattle.fort_tree.specs.Yield.{said_expr, said_variable}
+use Rattle.fort_tree.specs.Yield.{said_expr}
 use Rattle.fort_reading.specs.Parser.{Row, next_of}
 use Rattle.fort_reading.proofs.Laws.{Only, only_failed, Gets, ends}
 use Rattle.fort_reading.proofs.Yields.{Yields}
 use Rattle.fort_parse.specs.Runs.{run_at, expr_at, variable_at}
-use Rattle.fort_parse.proofs.Statements.{allowing, YieldsVariable, expr_stops, RunLaws, FlatLaws, FormLaws}
+use Rattle.fort_parse.proofs.Statements.{allowing, YieldsVariable, expr_stops, RunLaws}
 use Rattle.fort_parse.proofs.FlatComplete.{flat_laws}
 use Rattle.fort_parse.proofs.FormComplete.{form_laws}
 use Rattle.fort_parse.proofs.RunComplete.{level_laws}

@@ -1,55 +1,34 @@
 -- The tokens with which expressions begin, and which they can't be.
-use Rattle.std.proofs.Common.{◌≡◌, ℕ, zero, suc, Bool, true, false, cond, List, [], ◌∷◌, ◌++◌, append_assoc, Option, Some, None, refl, sym, ap, subst, ◌∙◌, arith, rules}
-use Rattle.std.specs.Prelude.{map, option_map, ◌&&◌, ◌||◌, not}
-use Rattle.fort_ops.specs.declared.op.Op.{Op}
-use Rattle.fort_ops.specs.declared.op.Op.TheVariants as op
+use Rattle.std.proofs.Common.{◌≡◌, Bool, true, false, Option, Some, None, refl}
+use Rattle.std.specs.Prelude.{◌||◌}
 use Rattle.fort_token.specs.declared.token.Kind.{Kind}
 use Rattle.fort_token.specs.declared.token.Kind.TheVariants as kind
-use Rattle.fort_token.specs.declared.token.Token.{Token}
 use Rattle.fort_token.specs.declared.marks.Mark.{Mark}
 use Rattle.fort_token.specs.declared.marks.Mark.TheVariants as mark
 use Rattle.fort_token.specs.declared.reserved.Reserved.{Reserved}
 use Rattle.fort_token.specs.declared.reserved.Reserved.TheVariants as reserved
-use Rattle.fort_tree.specs.declared.spot.Spot.{Spot}
-use Rattle.fort_tree.specs.declared.spot.Name.{Name}
-use Rattle.fort_tree.specs.declared.spot.Sign.{Sign}
-use Rattle.fort_tree.specs.declared.expr.AssignSign.{AssignSign}
 use Rattle.fort_tree.specs.declared.expr.Atom.{Atom}
-use Rattle.fort_tree.specs.declared.expr.Atom.TheVariants as an_atom
 use Rattle.fort_tree.specs.declared.expr.Big.{Big}
 use Rattle.fort_tree.specs.declared.expr.Big.TheVariants as big_word
 use Rattle.fort_tree.specs.declared.expr.Expr.{Expr}
-use Rattle.fort_tree.specs.declared.expr.Expr.TheVariants as an_expr
-use Rattle.fort_tree.specs.declared.expr.FlatPart.{FlatPart}
-use Rattle.fort_tree.specs.declared.expr.FlatPart.TheVariants as a_flat_part
-use Rattle.fort_tree.specs.declared.expr.Generator.{Generator}
-use Rattle.fort_tree.specs.declared.expr.Generator.TheVariants as a_generator
 use Rattle.fort_tree.specs.declared.expr.Head.{Head}
-use Rattle.fort_tree.specs.declared.expr.Head.TheVariants as a_head
-use Rattle.fort_tree.specs.declared.expr.Postfix.{Postfix}
-use Rattle.fort_tree.specs.declared.expr.Postfix.TheVariants as a_postfix
 use Rattle.fort_tree.specs.declared.expr.Prefix.{Prefix}
 use Rattle.fort_tree.specs.declared.expr.Prefix.TheVariants as a_prefix
-use Rattle.fort_tree.specs.declared.expr.RunPart.{RunPart}
-use Rattle.fort_tree.specs.declared.expr.RunPart.TheVariants as a_run_part
-use Rattle.fort_tree.specs.declared.expr.ExprList.{ExprList, out-ExprList, roll-ExprList}
-use Rattle.fort_tree.specs.declared.expr.Flat.{Flat, out-Flat, roll-Flat}
-use Rattle.fort_tree.specs.declared.expr.NextExpr.{NextExpr, out-NextExpr, roll-NextExpr}
-use Rattle.fort_tree.specs.declared.expr.Operand.{Operand, out-Operand, roll-Operand}
-use Rattle.fort_tree.specs.declared.expr.Run.{Run, out-Run, roll-Run}
+use Rattle.fort_tree.specs.declared.expr.Flat.{Flat, out-Flat}
+use Rattle.fort_tree.specs.declared.expr.Operand.{Operand, out-Operand}
+use Rattle.fort_tree.specs.declared.expr.Run.{Run, out-Run}
 use Rattle.fort_tree.specs.declared.delimited.Delimited.{Delimited}
-use Rattle.fort_tree.specs.declared.delimited.Delimited.TheVariants as a_delimited
-use Rattle.fort_tree.specs.Tokens.{Spellings, is_empty, is_line, is_infix}
-use Rattle.fort_tree.specs.Said.{Said, Allowed, gap_of}
+use Rattle.fort_tree.specs.Tokens.{Spellings}
+use Rattle.fort_tree.specs.Said.{Allowed}
 use Rattle.fort_tree.specs.Flats.{big_first}
 use Rattle.fort_tree.specs.Flats.{prefixed as with_prefix}
-use Rattle.fort_tree.specs.Yield.{said_delimited, said_atom, said_expr, said_flat_part, said_generator, said_head, said_postfix, said_run_part, said_expr_list, said_flat, said_next_expr, said_operand, said_run}
-use Rattle.fort_tree.proofs.CasesFlats.{cases_atom, cases_expr, cases_head, cases_generator, cases_flat, cases_flat_part, cases_operand, cases_run, cases_run_part, cases_postfix}
+use Rattle.fort_tree.specs.Yield.{said_delimited, said_atom, said_expr, said_head, said_flat, said_operand, said_run}
+use Rattle.fort_tree.proofs.CasesFlats.{cases_atom, cases_expr, cases_head}
 use Rattle.fort_tree.proofs.CasesBlocks.{cases_delimited}
-use Rattle.fort_tree.proofs.SaysFlats.{says-Flat, says-Assign, says-Open, says-OpenAssign, says-Atomic, says-Tryatomic, says-Throw, says-Fn, says-Big, flat_says, says-Run, says-Infix, says_operand, operand_says, run_says, says-Atom, says-Postfix, says-Subscript, says-Power, says-Field, says-Call, says-Name, says-Number, says-Text, says-True, says-False, says-Self_, says-Parens, says-Delimited, says-ArrayFill}
+use Rattle.fort_tree.proofs.SaysFlats.{says-Flat, says-Assign, says-Open, says-OpenAssign, says-Atomic, says-Tryatomic, says-Throw, says-Fn, says-Big, flat_says, operand_says, run_says, says-Name, says-Number, says-Text, says-True, says-False, says-Self_, says-Parens, says-Delimited, says-ArrayFill}
 use Rattle.fort_tree.proofs.SaysBlocks.{says-Do, says-If, says-While, says-For, says-Case, says-Typecase, says-Try}
-use Rattle.fort_reading.proofs.Yields.{both, left_true, right_true, true_right}
-use Rattle.fort_parse.specs.Beginnings.{word_begins_atom, begins_atom, begins_postfix, is_prefix, op_is_prefix, begins_unit, is_infix_kind, word_begins_head, begins_head, mark_assigns, assigns, begins_expr}
+use Rattle.fort_reading.proofs.Yields.{left_true, true_right}
+use Rattle.fort_parse.specs.Beginnings.{word_begins_atom, begins_atom, begins_postfix, is_prefix, begins_unit, is_infix_kind, word_begins_head, begins_head, mark_assigns, assigns, begins_expr}
 use Rattle.fort_parse.proofs.Statements.{allowing}
 
 -- ---- what they begin with

@@ -1,63 +1,48 @@
 -- The tokens of each expression are read as that expression, where what follows them does not continue it.
-use Rattle.std.proofs.Common.{◌≡◌, ℕ, zero, suc, Bool, true, false, cond, List, [], ◌∷◌, ◌++◌, append_assoc, Option, Some, None, refl, sym, ap, subst, ◌∙◌, arith, rules}
-use Rattle.std.specs.Prelude.{map, option_map, ◌&&◌, ◌||◌, not}
+use Rattle.std.proofs.Common.{◌≡◌, ℕ, Bool, true, false, List, [], ◌∷◌, ◌++◌, append_assoc, Option, Some, None, refl, ap, ◌∙◌}
+use Rattle.std.specs.Prelude.{map, option_map, ◌||◌, not}
 use Rattle.fort_ops.specs.declared.op.Op.{Op}
 use Rattle.fort_ops.specs.declared.op.Op.TheVariants as op
 use Rattle.fort_token.specs.declared.token.Kind.{Kind}
 use Rattle.fort_token.specs.declared.token.Kind.TheVariants as kind
 use Rattle.fort_token.specs.declared.token.Token.{Token}
-use Rattle.fort_token.specs.declared.marks.Mark.{Mark}
 use Rattle.fort_token.specs.declared.marks.Mark.TheVariants as mark
-use Rattle.fort_token.specs.declared.reserved.Reserved.{Reserved}
 use Rattle.fort_token.specs.declared.reserved.Reserved.TheVariants as reserved
 use Rattle.fort_tree.specs.declared.spot.Spot.{Spot}
-use Rattle.fort_tree.specs.declared.spot.Name.{Name}
 use Rattle.fort_tree.specs.declared.spot.Sign.{Sign}
 use Rattle.fort_tree.specs.declared.expr.AssignSign.{AssignSign}
-use Rattle.fort_tree.specs.declared.expr.Atom.{Atom}
-use Rattle.fort_tree.specs.declared.expr.Atom.TheVariants as an_atom
 use Rattle.fort_tree.specs.declared.expr.Big.{Big}
 use Rattle.fort_tree.specs.declared.expr.Big.TheVariants as big_word
 use Rattle.fort_tree.specs.declared.expr.Expr.{Expr}
 use Rattle.fort_tree.specs.declared.expr.Expr.TheVariants as an_expr
 use Rattle.fort_tree.specs.declared.expr.FlatPart.{FlatPart}
-use Rattle.fort_tree.specs.declared.expr.FlatPart.TheVariants as a_flat_part
 use Rattle.fort_tree.specs.declared.expr.Generator.{Generator}
-use Rattle.fort_tree.specs.declared.expr.Generator.TheVariants as a_generator
 use Rattle.fort_tree.specs.declared.expr.Head.{Head}
 use Rattle.fort_tree.specs.declared.expr.Head.TheVariants as a_head
-use Rattle.fort_tree.specs.declared.expr.Postfix.{Postfix}
-use Rattle.fort_tree.specs.declared.expr.Postfix.TheVariants as a_postfix
 use Rattle.fort_tree.specs.declared.expr.Prefix.{Prefix}
 use Rattle.fort_tree.specs.declared.expr.Prefix.TheVariants as a_prefix
-use Rattle.fort_tree.specs.declared.expr.RunPart.{RunPart}
-use Rattle.fort_tree.specs.declared.expr.RunPart.TheVariants as a_run_part
-use Rattle.fort_tree.specs.declared.expr.ExprList.{ExprList, out-ExprList, roll-ExprList}
-use Rattle.fort_tree.specs.declared.expr.Flat.{Flat, out-Flat, roll-Flat}
-use Rattle.fort_tree.specs.declared.expr.NextExpr.{NextExpr, out-NextExpr, roll-NextExpr}
-use Rattle.fort_tree.specs.declared.expr.Operand.{Operand, out-Operand, roll-Operand}
-use Rattle.fort_tree.specs.declared.expr.Run.{Run, out-Run, roll-Run}
-use Rattle.fort_tree.specs.declared.delimited.Delimited.{Delimited}
-use Rattle.fort_tree.specs.declared.delimited.Delimited.TheVariants as a_delimited
-use Rattle.fort_tree.specs.Tokens.{Spellings, marked, word, named, signed, operator, is_empty, is_line, is_infix}
-use Rattle.fort_tree.specs.Said.{Said, Allowed, tokens_of, all_tokens, all_obey, maybe_tokens, maybe_obeys, gap_of, elsewhere, in_brackets}
-use Rattle.fort_tree.specs.declared.declarations.Parameters.{Parameters}
-use Rattle.fort_tree.specs.Types.{said_parameters}
+use Rattle.fort_tree.specs.declared.expr.ExprList.{ExprList, out-ExprList}
+use Rattle.fort_tree.specs.declared.expr.Flat.{Flat, roll-Flat}
+use Rattle.fort_tree.specs.declared.expr.NextExpr.{NextExpr, out-NextExpr}
+use Rattle.fort_tree.specs.declared.expr.Operand.{Operand, roll-Operand}
+use Rattle.fort_tree.specs.declared.expr.Run.{Run}
+use Rattle.fort_tree.specs.Tokens.{Spellings, marked, word, signed, is_empty, is_line, is_infix}
+use Rattle.fort_tree.specs.Said.{Allowed, tokens_of, all_tokens, all_obey, maybe_tokens, maybe_obeys, elsewhere, in_brackets}
 use Rattle.fort_tree.specs.Flats.{assign_token, big_first, big_more}
 use Rattle.fort_tree.specs.Flats.{prefixed as with_prefix}
 use Rattle.fort_tree.specs.Yield.{said_expr, said_flat_part, said_generator, said_head, said_expr_list, said_flat, said_next_expr, said_operand, said_run}
 use Rattle.fort_tree.proofs.CasesFlats.{cases_expr, cases_head, cases_generator, cases_flat, cases_flat_part, cases_operand, cases_expr_list, cases_next_expr}
-use Rattle.fort_tree.proofs.SaysFlats.{says-Flat, says-Assign, says-Open, says-OpenAssign, says-Atomic, says-Tryatomic, says-Throw, says-Fn, says-Big, says-Parallel, says-Sequential, says_flat, flat_says, says-Run, says-Infix, says_operand, says_expr_list, expr_list_says, says_next_expr, next_expr_says}
-use Rattle.fort_reading.specs.Parser.{Row, Outcome, Read, Failed, and_then, accept_run, next_of, many_run, Eater, Parser}
-use Rattle.fort_reading.specs.Words.{is_mark, is_word, sees, same_mark, same_word}
-use Rattle.fort_reading.proofs.Laws.{Gets, reads, ends, gets_then}
+use Rattle.fort_tree.proofs.SaysFlats.{says-Flat, says-Assign, says-Open, says-OpenAssign, says-Atomic, says-Tryatomic, says-Throw, says-Fn, says-Big, says-Parallel, says-Sequential, says_flat, says-Run, says-Infix, says_operand, says_expr_list, expr_list_says, says_next_expr, next_expr_says}
+use Rattle.fort_reading.specs.Parser.{Row, next_of, Eater}
+use Rattle.fort_reading.specs.Words.{is_mark, is_word, sees, same_mark}
+use Rattle.fort_reading.proofs.Laws.{Gets, reads, gets_then}
 use Rattle.fort_reading.proofs.Taking.{prefix_token, gets_prefix, gets_sign, gets_name, gets_mark, gets_word, gets_assign, gets_max, gets_min, gets_and, gets_or, is_word_at, is_mark_at, not_mark, not_word}
 use Rattle.fort_reading.proofs.Yields.{both, left_true, right_true, true_right, false_right, is_not, gets_list, next_stops}
 use Rattle.fort_parse_types.proofs.Complete.{complete_maybe_parameters}
 use Rattle.fort_parse.specs.Beginnings.{is_prefix, is_infix_kind, begins_atom, begins_postfix, begins_unit, begins_run_part, begins_flat_part, begins_head, begins_expr, assigns}
-use Rattle.fort_parse.specs.Flats.{prefixed, operand, infix_part, flat_part, flat_parts, flat, sequential, parallel, generator, reduction, big_reduction, function, word_head, head_for, head, open_assign, opened, assigned, assign, flat_more, expr_from, expr, next_expr, next_exprs, expr_list, maybe_list}
+use Rattle.fort_parse.specs.Flats.{prefixed, operand, infix_part, flat_part, flat_parts, flat, sequential, parallel, generator, reduction, big_reduction, function, head, open_assign, opened, assigned, assign, flat_more, expr_from, expr, next_expr, next_exprs, expr_list, maybe_list}
 use Rattle.fort_parse.proofs.Statements.{allowing, flat_stops, expr_stops, UnitExpr, HeadExpr, RunLaws, FlatLaws}
-use Rattle.fort_parse.proofs.Firsts.{run_begins, operand_begins, flat_begins, head_begins, expr_begins, close_no_expr, flat_not_head, unit_not_head, atom_not_prefix, atom_not_infix, atom_not_assigns, infix_not_assigns}
+use Rattle.fort_parse.proofs.Firsts.{run_begins, flat_begins, head_begins, expr_begins, close_no_expr, flat_not_head, atom_not_prefix, atom_not_infix, atom_not_assigns, infix_not_assigns}
 use Rattle.fort_parse.proofs.AnyLines.{run_same, operand_same}
 use Rattle.fort_parse.proofs.Stops.{stops_run, stops_part, stops_flat, stops_assigns, mark_ends_flat, mark_ends_expr, assign_ends_flat, assign_assigns, fewer_parts}
 use Rattle.fort_parse.proofs.FlatSound.{sound_operand, sound_flat, sound_generator, sound_head, sound_opened, sound_expr_from, sound_expr, sound_maybe_list, appended}
@@ -250,8 +235,12 @@ module _ (names : Spellings) {n : ℕ} (run : Bool → Eater Run n) (laws : RunL
   split lines (x ∷ xs) rest ob en = bool_cases (begins_flat_part (allowing false true) (Some (said_flat_part x).first)) _
       (λ e. let tail = split lines xs rest (right_true _ _ ob) en in
       record {
-        near = x ∷ tail.near; far = tail.far; whole = ap (λ (u : List FlatPart). x ∷ u) tail.whole;
-        near_obeys = both _ _ (one_line_part lines x (left_true _ _ ob) e) tail.near_obeys; far_obeys = tail.far_obeys; no_part = tail.no_part;
+        near = x ∷ tail.near;
+        far = tail.far;
+        whole = ap (λ (u : List FlatPart). x ∷ u) tail.whole;
+        near_obeys = both _ _ (one_line_part lines x (left_true _ _ ob) e) tail.near_obeys;
+        far_obeys = tail.far_obeys;
+        no_part = tail.no_part;
       })
       (λ e. record { near = []; far = x ∷ xs; whole = refl; near_obeys = refl; far_obeys = ob; no_part = e })
 
@@ -311,7 +300,11 @@ module _ (names : Spellings) {n : ℕ} (run : Bool → Eater Run n) (laws : RunL
       let mid : Row = all_tokens (map said_flat_part parts) ++ rest in
       let is : tokens_of (said_expr (an_expr.Flat whole)) ++ rest ≡ tokens_of (said_operand first) ++ mid = rw (says-Flat whole, says_flat first parts) (simp append_assoc refl) in
       record {
-        unit = first; mid = mid; tokens = is; more = all_tokens (map said_flat_part parts); behind = refl;
+        unit = first;
+        mid = mid;
+        tokens = is;
+        more = all_tokens (map said_flat_part parts);
+        behind = refl;
         reads_unit = rw is (complete_operand lines true first mid (left_true _ _ own) (next_run_stops lines true parts rest (right_true _ _ own) (stops_run lines true (next_of rest) (stops_flat lines (next_of rest) st))));
         goes_on = flat_goes_on lines first parts rest (right_true _ _ own) st;
       }) f
@@ -326,7 +319,9 @@ module _ (names : Spellings) {n : ℕ} (run : Bool → Eater Run n) (laws : RunL
       let is : tokens_of (said_expr (an_expr.Assign whole sign h value)) ++ rest ≡ tokens_of (said_operand first) ++ mid = rw (says-Assign whole sign h value, says_flat first parts) (simp append_assoc refl) in
       let stop = stops_run false true (Some (assign_token sign)) (assign_ends_flat false sign) in
       record {
-        unit = first; mid = mid; tokens = is;
+        unit = first;
+        mid = mid;
+        tokens = is;
         more = all_tokens (map said_flat_part parts) ++ assign_token sign ∷ (maybe_tokens (option_map said_head h) ++ tokens_of (said_flat value));
         behind = simp append_assoc refl;
         reads_unit = rw is (complete_operand false true first mid (left_true _ _ own) (next_run_stops false true parts _ (right_true _ _ own) stop));
@@ -359,7 +354,9 @@ module _ (names : Spellings) {n : ℕ} (run : Bool → Eater Run n) (laws : RunL
       let mid : Row = tokens_of (said_flat target) ++ assign_token sign ∷ (tokens_of (said_flat value) ++ rest) in
       let is : tokens_of (said_expr (an_expr.OpenAssign h target sign value)) ++ rest ≡ tokens_of (said_head h) ++ mid = rw (says-OpenAssign h target sign value) (simp append_assoc refl) in
       record {
-        start = h; mid = mid; reads_head = rw is (complete_head h mid (left_true _ _ own));
+        start = h;
+        mid = mid;
+        reads_head = rw is (complete_head h mid (left_true _ _ own));
         goes_on = gets_open_assign h target sign value rest (left_true _ _ (right_true _ _ own)) (right_true _ _ (right_true _ _ own)) (flat_ends lines (next_of rest) (stops_flat lines (next_of rest) st));
       }) e
 

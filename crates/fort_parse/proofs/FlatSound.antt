@@ -1,60 +1,45 @@
 -- What the productions of expressions read is the tokens of the trees that they answer, and the rules hold in these.
-use Rattle.std.proofs.Common.{◌≡◌, ℕ, zero, suc, Bool, true, false, cond, List, [], ◌∷◌, ◌++◌, append_assoc, Option, Some, None, refl, sym, ap, subst, ◌∙◌, arith, rules}
-use Rattle.std.specs.Prelude.{map, option_map, ◌&&◌, ◌||◌, not}
-use Rattle.fort_ops.specs.declared.op.Op.{Op}
+use Rattle.std.proofs.Common.{◌≡◌, ℕ, Bool, true, false, List, [], ◌∷◌, ◌++◌, append_assoc, Option, Some, None, refl, sym, ap, ◌∙◌}
+use Rattle.std.specs.Prelude.{map, option_map, ◌||◌, not}
 use Rattle.fort_ops.specs.declared.op.Op.TheVariants as op
 use Rattle.fort_token.specs.declared.token.Kind.{Kind}
 use Rattle.fort_token.specs.declared.token.Kind.TheVariants as kind
 use Rattle.fort_token.specs.declared.token.Token.{Token}
-use Rattle.fort_token.specs.declared.marks.Mark.{Mark}
 use Rattle.fort_token.specs.declared.marks.Mark.TheVariants as mark
 use Rattle.fort_token.specs.declared.reserved.Reserved.{Reserved}
 use Rattle.fort_token.specs.declared.reserved.Reserved.TheVariants as reserved
 use Rattle.fort_tree.specs.declared.spot.Spot.{Spot}
 use Rattle.fort_tree.specs.declared.spot.Name.{Name}
-use Rattle.fort_tree.specs.declared.spot.Sign.{Sign}
 use Rattle.fort_tree.specs.declared.expr.AssignSign.{AssignSign}
-use Rattle.fort_tree.specs.declared.expr.Atom.{Atom}
-use Rattle.fort_tree.specs.declared.expr.Atom.TheVariants as an_atom
 use Rattle.fort_tree.specs.declared.expr.Big.{Big}
 use Rattle.fort_tree.specs.declared.expr.Big.TheVariants as big_word
 use Rattle.fort_tree.specs.declared.expr.Expr.{Expr}
 use Rattle.fort_tree.specs.declared.expr.Expr.TheVariants as an_expr
 use Rattle.fort_tree.specs.declared.expr.FlatPart.{FlatPart}
-use Rattle.fort_tree.specs.declared.expr.FlatPart.TheVariants as a_flat_part
 use Rattle.fort_tree.specs.declared.expr.Generator.{Generator}
-use Rattle.fort_tree.specs.declared.expr.Generator.TheVariants as a_generator
 use Rattle.fort_tree.specs.declared.expr.Head.{Head}
-use Rattle.fort_tree.specs.declared.expr.Head.TheVariants as a_head
-use Rattle.fort_tree.specs.declared.expr.Postfix.{Postfix}
-use Rattle.fort_tree.specs.declared.expr.Postfix.TheVariants as a_postfix
 use Rattle.fort_tree.specs.declared.expr.Prefix.{Prefix}
 use Rattle.fort_tree.specs.declared.expr.Prefix.TheVariants as a_prefix
-use Rattle.fort_tree.specs.declared.expr.RunPart.{RunPart}
-use Rattle.fort_tree.specs.declared.expr.RunPart.TheVariants as a_run_part
-use Rattle.fort_tree.specs.declared.expr.ExprList.{ExprList, out-ExprList, roll-ExprList}
-use Rattle.fort_tree.specs.declared.expr.Flat.{Flat, out-Flat, roll-Flat}
-use Rattle.fort_tree.specs.declared.expr.NextExpr.{NextExpr, out-NextExpr, roll-NextExpr}
-use Rattle.fort_tree.specs.declared.expr.Operand.{Operand, out-Operand, roll-Operand}
-use Rattle.fort_tree.specs.declared.expr.Run.{Run, out-Run, roll-Run}
-use Rattle.fort_tree.specs.declared.delimited.Delimited.{Delimited}
-use Rattle.fort_tree.specs.declared.delimited.Delimited.TheVariants as a_delimited
-use Rattle.fort_tree.specs.Tokens.{Spellings, marked, word, named, signed, operator, is_empty, is_line, is_infix}
-use Rattle.fort_tree.specs.Said.{Said, Allowed, tokens_of, all_tokens, all_obey, maybe_tokens, maybe_obeys, gap_of, elsewhere, in_brackets}
-use Rattle.fort_tree.specs.Types.{said_parameters}
+use Rattle.fort_tree.specs.declared.expr.ExprList.{ExprList}
+use Rattle.fort_tree.specs.declared.expr.Flat.{Flat, roll-Flat}
+use Rattle.fort_tree.specs.declared.expr.NextExpr.{NextExpr}
+use Rattle.fort_tree.specs.declared.expr.Operand.{Operand}
+use Rattle.fort_tree.specs.declared.expr.Run.{Run}
+use Rattle.fort_tree.specs.Tokens.{Spellings, marked, word, named, signed, operator, is_empty, is_line}
+use Rattle.fort_tree.specs.Said.{Said, Allowed, tokens_of, all_tokens, all_obey, gap_of, elsewhere, in_brackets}
 use Rattle.fort_tree.specs.Flats.{assign_token, big_first, big_more}
 use Rattle.fort_tree.specs.Flats.{prefixed as with_prefix}
 use Rattle.fort_tree.specs.Yield.{said_expr, said_flat_part, said_generator, said_head, said_expr_list, said_flat, said_next_expr, said_operand, said_run}
 use Rattle.fort_tree.proofs.SaysFlats.{says-Flat, says-Assign, says-Open, says-OpenAssign, says-Atomic, says-Tryatomic, says-Throw, says-Fn, says-Big, says-Parallel, says-Sequential, says_flat, says-Run, says-Infix, says_operand, says_expr_list, says_next_expr}
-use Rattle.fort_reading.specs.Parser.{Row, Outcome, Read, Failed, and_then, accept_run, next_of, many_run, Eater, Parser}
+use Rattle.fort_reading.specs.Parser.{Row, next_of, Eater}
 use Rattle.fort_reading.specs.Words.{is_mark, is_word, sees}
-use Rattle.fort_reading.proofs.Laws.{Only, only_read, only_failed, only_then, only_if, only_many, only_more}
+use Rattle.fort_reading.proofs.Laws.{Only, only_read, only_failed, only_then, only_if, only_many}
 use Rattle.fort_reading.proofs.Taking.{prefix_token, only_prefix, only_sign, only_name, only_mark, only_word, only_assign, only_big}
-use Rattle.fort_reading.proofs.Yields.{Yields, YieldsAll, YieldsMaybe, both, left_true, right_true, true_right, only_list, left_out, stands_there, all_after}
+use Rattle.fort_reading.proofs.Yields.{Yields, YieldsMaybe, both, left_true, right_true, true_right, only_list, left_out, stands_there, all_after}
 use Rattle.fort_parse_types.proofs.Sound.{sound_maybe_parameters}
 use Rattle.fort_parse.specs.Beginnings.{is_prefix, is_infix_kind, begins_flat_part, begins_head, assigns}
 use Rattle.fort_parse.specs.Flats.{prefixed, operand, infix_part, flat_part, flat_parts, flat, sequential, parallel, generator, reduction, big_reduction, function, word_head, head_for, head, open_assign, opened, assigned, assign, flat_more, expr_from, expr, next_expr, next_exprs, expr_list, maybe_list}
-use Rattle.fort_parse.proofs.Statements.{allowing, YieldsUnit, RunLaws, FlatLaws}
+use Rattle.fort_parse.proofs.Statements.{allowing, YieldsUnit, RunLaws}
 
 -- ts is the tokens of the tree and then rest, and the rules hold in it, also where more new lines may stand
 record YieldsPart (names : Spellings) (x : Said) (lines blocks : Bool) (ts rest : List Token) : Type 0 where
@@ -118,7 +103,8 @@ join_parts : (names : Spellings) (lines blocks : Bool) (xs ys : List FlatPart) (
     → (ts ≡ all_tokens (map said_flat_part (xs ++ ys)) ++ rest) × (all_obey names (allowing lines blocks) (map said_flat_part (xs ++ ys)) ≡ true)
 join_parts names lines blocks xs ys ts mid rest h k = (
   h.tokens ∙ ap (λ (u : Row). all_tokens (map said_flat_part xs) ++ u) k.tokens ∙ sym (appended xs ys rest),
-  append_obeys names (allowing lines blocks) xs ys (h.obeys lines (true_right lines)) (k.obeys lines (narrow lines)))
+  append_obeys names (allowing lines blocks) xs ys (h.obeys lines (true_right lines)) (k.obeys lines (narrow lines)),
+)
 
 module _ (names : Spellings) {n : ℕ} (run : Bool → Eater Run n) (laws : RunLaws names run) where
   sound_prefixed : (blocks : Bool) (ts : Row) → Only Operand ((prefixed names run blocks).parser.run ts) (λ o rest. YieldsUnit names (said_operand o) blocks ts rest)

@@ -1,67 +1,43 @@
 -- The tokens of each atom and run are read as it, where what follows them does not continue it.
-use Rattle.std.proofs.Common.{◌≡◌, ℕ, zero, suc, Bool, true, false, cond, List, [], ◌∷◌, ◌++◌, append_assoc, Option, Some, None, refl, sym, ap, subst, ◌∙◌, arith, rules}
-use Rattle.std.specs.Prelude.{map, option_map, ◌&&◌, ◌||◌, not}
-use Rattle.fort_ops.specs.declared.op.Op.{Op}
-use Rattle.fort_ops.specs.declared.op.Op.TheVariants as op
+use Rattle.std.proofs.Common.{◌≡◌, ℕ, zero, suc, Bool, true, false, List, [], ◌∷◌, ◌++◌, append_assoc, Option, Some, None, refl, ◌∙◌}
+use Rattle.std.specs.Prelude.{map, ◌&&◌, ◌||◌}
 use Rattle.fort_token.specs.declared.token.Kind.{Kind}
 use Rattle.fort_token.specs.declared.token.Kind.TheVariants as kind
 use Rattle.fort_token.specs.declared.token.Token.{Token}
-use Rattle.fort_token.specs.declared.marks.Mark.{Mark}
 use Rattle.fort_token.specs.declared.marks.Mark.TheVariants as mark
-use Rattle.fort_token.specs.declared.reserved.Reserved.{Reserved}
 use Rattle.fort_token.specs.declared.reserved.Reserved.TheVariants as reserved
 use Rattle.fort_tree.specs.declared.spot.Spot.{Spot}
 use Rattle.fort_tree.specs.declared.spot.Name.{Name}
-use Rattle.fort_tree.specs.declared.spot.Sign.{Sign}
-use Rattle.fort_tree.specs.declared.expr.AssignSign.{AssignSign}
 use Rattle.fort_tree.specs.declared.expr.Atom.{Atom}
 use Rattle.fort_tree.specs.declared.expr.Atom.TheVariants as an_atom
-use Rattle.fort_tree.specs.declared.expr.Big.{Big}
-use Rattle.fort_tree.specs.declared.expr.Big.TheVariants as big_word
 use Rattle.fort_tree.specs.declared.expr.Expr.{Expr}
-use Rattle.fort_tree.specs.declared.expr.Expr.TheVariants as an_expr
-use Rattle.fort_tree.specs.declared.expr.FlatPart.{FlatPart}
-use Rattle.fort_tree.specs.declared.expr.FlatPart.TheVariants as a_flat_part
-use Rattle.fort_tree.specs.declared.expr.Generator.{Generator}
-use Rattle.fort_tree.specs.declared.expr.Generator.TheVariants as a_generator
-use Rattle.fort_tree.specs.declared.expr.Head.{Head}
-use Rattle.fort_tree.specs.declared.expr.Head.TheVariants as a_head
 use Rattle.fort_tree.specs.declared.expr.Postfix.{Postfix}
-use Rattle.fort_tree.specs.declared.expr.Postfix.TheVariants as a_postfix
-use Rattle.fort_tree.specs.declared.expr.Prefix.{Prefix}
-use Rattle.fort_tree.specs.declared.expr.Prefix.TheVariants as a_prefix
 use Rattle.fort_tree.specs.declared.expr.RunPart.{RunPart}
-use Rattle.fort_tree.specs.declared.expr.RunPart.TheVariants as a_run_part
-use Rattle.fort_tree.specs.declared.expr.ExprList.{ExprList, out-ExprList, roll-ExprList}
-use Rattle.fort_tree.specs.declared.expr.Flat.{Flat, out-Flat, roll-Flat}
-use Rattle.fort_tree.specs.declared.expr.NextExpr.{NextExpr, out-NextExpr, roll-NextExpr}
-use Rattle.fort_tree.specs.declared.expr.Operand.{Operand, out-Operand, roll-Operand}
-use Rattle.fort_tree.specs.declared.expr.Run.{Run, out-Run, roll-Run}
+use Rattle.fort_tree.specs.declared.expr.Run.{Run}
 use Rattle.fort_tree.specs.declared.delimited.Delimited.{Delimited}
-use Rattle.fort_tree.specs.declared.delimited.Delimited.TheVariants as a_delimited
 use Rattle.fort_tree.specs.declared.types.TypeTree.{TypeTree}
 use Rattle.std.specs.Prelude.{codes}
-use Rattle.fort_tree.specs.Tokens.{Spellings, token, marked, word, named, operator, is_empty, is_dot, is_open_paren, is_spelled}
-use Rattle.fort_tree.specs.Said.{Said, Allowed, tokens_of, all_tokens, all_obey, maybe_tokens, maybe_obeys, gap_of, elsewhere, in_brackets}
+use Rattle.fort_tree.specs.Tokens.{Spellings, token, marked, word, named, is_empty, is_open_paren, is_spelled}
+use Rattle.fort_tree.specs.Said.{Said, tokens_of, all_tokens, all_obey, elsewhere, in_brackets}
 use Rattle.fort_tree.specs.Types.{said_type}
-use Rattle.fort_tree.specs.Flats.{alone, is_one, is_field, begins_with_paren, calls_are_whole}
-use Rattle.fort_tree.specs.Yield.{said_atom, said_delimited, said_expr, said_expr_list, said_postfix, said_run_part, said_run}
+use Rattle.fort_tree.specs.Flats.{is_field, calls_are_whole}
+use Rattle.fort_tree.specs.Yield.{said_atom, said_delimited, said_expr, said_postfix, said_run_part, said_run}
 use Rattle.fort_tree.proofs.CasesFlats.{cases_atom, cases_postfix, cases_run_part, cases_run}
 use Rattle.fort_tree.proofs.CasesBlocks.{cases_delimited}
 use Rattle.fort_tree.proofs.SaysFlats.{says_run, says-Atom, says-Postfix, says-Subscript, says-Power, says-Field, says-Call, says-Name, says-Number, says-Text, says-True, says-False, says-Self_, says-Parens, says-Delimited, says-ArrayFill}
 use Rattle.fort_tree.proofs.SaysBlocks.{says-Do, says-If, says-While, says-For, says-Case, says-Typecase, says-Try}
-use Rattle.fort_reading.specs.Parser.{Row, Outcome, Read, Failed, and_then, accept_run, next_of, many_run, Eater, Parser}
-use Rattle.fort_reading.specs.Words.{is_mark, is_word, same_mark, is_called, spot_of, sees, sees_tight}
+use Rattle.fort_reading.specs.Parser.{Row, next_of, many_run, Eater}
+use Rattle.fort_reading.specs.Words.{is_mark, same_mark, is_called, sees, sees_tight}
 use Rattle.fort_reading.proofs.Laws.{Gets, reads, ends, gets_then, gets_accept}
-use Rattle.fort_reading.proofs.Taking.{gets_name, gets_mark, gets_word, gets_power, gets_tight_mark, gets_tight_name, gets_tight_called, is_mark_at}
-use Rattle.fort_reading.proofs.Yields.{both, left_true, right_true, true_right, false_right, is_not, not_true, all_after}
+use Rattle.fort_reading.proofs.Taking.{gets_mark, gets_word, gets_power, gets_tight_mark, gets_tight_name, gets_tight_called, is_mark_at}
+use Rattle.fort_reading.proofs.Yields.{left_true, right_true, true_right, false_right, is_not, not_true, all_after}
 use Rattle.fort_parse_types.proofs.Complete.{complete_type_tree, type_stops, type_stops_at}
 use Rattle.fort_parse.specs.Beginnings.{begins_atom, begins_postfix, begins_run_part}
-use Rattle.fort_parse.specs.Runs.{literal_of, is_next_tight, parens, fill_value, fill_size, array_fill, form_atom, do_atom, word_atom, mark_atom, atom_for, atom, subscript, tight_atom, method_call, dotted, mark_postfix, postfix_for, postfix, run_part, run_parts, run_level}
+use Rattle.fort_parse.specs.Runs.{literal_of, is_next_tight, parens, fill_value, fill_size, array_fill, form_atom, do_atom, atom_for, atom, subscript, tight_atom, method_call, dotted, postfix, run_part, run_parts, run_level}
 use Rattle.fort_parse.proofs.Statements.{allowing, RunLaws, FlatLaws, FormLaws}
 use Rattle.fort_parse.proofs.Firsts.{atom_begins, atom_not_postfix}
 use Rattle.fort_parse.proofs.Stops.{mark_ends_expr}
-use Rattle.fort_parse.proofs.RunSound.{paren_same, atom_no_field, sound_level}
+use Rattle.fort_parse.proofs.RunSound.{paren_same, sound_level}
 
 literal_name : (n : Name) → literal_of (named n) ≡ Some (an_atom.Name n)
 unfolding literal_of

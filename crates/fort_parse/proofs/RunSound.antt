@@ -1,7 +1,6 @@
 -- What the productions of atoms and runs read is the tokens of the trees that they answer, and the rules hold in these.
-use Rattle.std.proofs.Common.{◌≡◌, ℕ, zero, suc, Bool, true, false, cond, List, [], ◌∷◌, ◌++◌, append_assoc, Option, Some, None, refl, sym, ap, subst, ◌∙◌, arith, rules}
-use Rattle.std.specs.Prelude.{map, option_map, ◌&&◌, ◌||◌, not}
-use Rattle.fort_ops.specs.declared.op.Op.{Op}
+use Rattle.std.proofs.Common.{◌≡◌, ℕ, Bool, true, false, List, [], ◌∷◌, ◌++◌, append_assoc, Some, None, refl, sym, ap, subst, ◌∙◌}
+use Rattle.std.specs.Prelude.{map, ◌&&◌, not}
 use Rattle.fort_ops.specs.declared.op.Op.TheVariants as op
 use Rattle.fort_token.specs.declared.token.Kind.{Kind}
 use Rattle.fort_token.specs.declared.token.Kind.TheVariants as kind
@@ -12,49 +11,30 @@ use Rattle.fort_token.specs.declared.reserved.Reserved.{Reserved}
 use Rattle.fort_token.specs.declared.reserved.Reserved.TheVariants as reserved
 use Rattle.fort_tree.specs.declared.spot.Spot.{Spot}
 use Rattle.fort_tree.specs.declared.spot.Name.{Name}
-use Rattle.fort_tree.specs.declared.spot.Sign.{Sign}
-use Rattle.fort_tree.specs.declared.expr.AssignSign.{AssignSign}
 use Rattle.fort_tree.specs.declared.expr.Atom.{Atom}
 use Rattle.fort_tree.specs.declared.expr.Atom.TheVariants as an_atom
-use Rattle.fort_tree.specs.declared.expr.Big.{Big}
-use Rattle.fort_tree.specs.declared.expr.Big.TheVariants as big_word
 use Rattle.fort_tree.specs.declared.expr.Expr.{Expr}
-use Rattle.fort_tree.specs.declared.expr.Expr.TheVariants as an_expr
-use Rattle.fort_tree.specs.declared.expr.FlatPart.{FlatPart}
-use Rattle.fort_tree.specs.declared.expr.FlatPart.TheVariants as a_flat_part
-use Rattle.fort_tree.specs.declared.expr.Generator.{Generator}
-use Rattle.fort_tree.specs.declared.expr.Generator.TheVariants as a_generator
-use Rattle.fort_tree.specs.declared.expr.Head.{Head}
-use Rattle.fort_tree.specs.declared.expr.Head.TheVariants as a_head
 use Rattle.fort_tree.specs.declared.expr.Postfix.{Postfix}
 use Rattle.fort_tree.specs.declared.expr.Postfix.TheVariants as a_postfix
-use Rattle.fort_tree.specs.declared.expr.Prefix.{Prefix}
-use Rattle.fort_tree.specs.declared.expr.Prefix.TheVariants as a_prefix
 use Rattle.fort_tree.specs.declared.expr.RunPart.{RunPart}
 use Rattle.fort_tree.specs.declared.expr.RunPart.TheVariants as a_run_part
-use Rattle.fort_tree.specs.declared.expr.ExprList.{ExprList, out-ExprList, roll-ExprList}
-use Rattle.fort_tree.specs.declared.expr.Flat.{Flat, out-Flat, roll-Flat}
-use Rattle.fort_tree.specs.declared.expr.NextExpr.{NextExpr, out-NextExpr, roll-NextExpr}
-use Rattle.fort_tree.specs.declared.expr.Operand.{Operand, out-Operand, roll-Operand}
-use Rattle.fort_tree.specs.declared.expr.Run.{Run, out-Run, roll-Run}
-use Rattle.fort_tree.specs.declared.delimited.Delimited.{Delimited}
-use Rattle.fort_tree.specs.declared.delimited.Delimited.TheVariants as a_delimited
+use Rattle.fort_tree.specs.declared.expr.Run.{Run}
 use Rattle.fort_tree.specs.declared.types.TypeTree.{TypeTree}
-use Rattle.fort_tree.specs.Tokens.{Spellings, token, marked, word, named, operator, is_empty, is_line, is_dot, is_open_paren}
-use Rattle.fort_tree.specs.Said.{Said, Allowed, tokens_of, all_tokens, all_obey, maybe_tokens, maybe_obeys, gap_of, elsewhere, in_brackets}
+use Rattle.fort_tree.specs.Tokens.{Spellings, token, marked, word, named, operator, is_empty, is_dot, is_open_paren}
+use Rattle.fort_tree.specs.Said.{Said, Allowed, tokens_of, all_tokens, all_obey, gap_of, elsewhere, in_brackets}
 use Rattle.fort_tree.specs.Types.{said_type}
-use Rattle.fort_tree.specs.Flats.{alone, is_one, is_field, begins_with_paren, calls_are_whole}
-use Rattle.fort_tree.specs.Yield.{said_atom, said_delimited, said_expr, said_expr_list, said_postfix, said_run_part, said_run}
+use Rattle.fort_tree.specs.Flats.{alone, is_field, begins_with_paren, calls_are_whole}
+use Rattle.fort_tree.specs.Yield.{said_atom, said_expr, said_run_part, said_run}
 use Rattle.fort_tree.proofs.SaysFlats.{says_run, says-Atom, says-Postfix, says-Subscript, says-Power, says-Field, says-Call, says-Name, says-Number, says-Text, says-True, says-False, says-Self_, says-Parens, says-Delimited, says-ArrayFill}
-use Rattle.fort_reading.specs.Parser.{Row, Outcome, Read, Failed, and_then, accept_run, next_of, many_run, Eater, Parser}
-use Rattle.fort_reading.specs.Words.{is_mark, is_word, same_mark, is_called, spot_of, sees, sees_tight}
+use Rattle.fort_reading.specs.Parser.{Row, accept_run, next_of, Eater}
+use Rattle.fort_reading.specs.Words.{is_mark, same_mark, is_called, spot_of, sees, sees_tight}
 use Rattle.fort_reading.proofs.Laws.{Only, only_read, only_failed, only_then, only_if, only_many, only_more, only_accept}
-use Rattle.fort_reading.proofs.Taking.{only_name, only_mark, only_word, only_power, only_tight_mark, only_tight_name, only_tight_called, is_mark_is, not_this}
-use Rattle.fort_reading.proofs.Yields.{Yields, YieldsMaybe, both, left_true, right_true, false_right, is_not, all_after}
+use Rattle.fort_reading.proofs.Taking.{only_mark, only_word, only_power, only_tight_mark, only_tight_name, only_tight_called}
+use Rattle.fort_reading.proofs.Yields.{both, left_true, false_right, all_after}
 use Rattle.fort_parse_types.proofs.Sound.{sound_type_tree}
 use Rattle.fort_parse.specs.Beginnings.{begins_atom, begins_postfix, begins_run_part}
 use Rattle.fort_parse.specs.Runs.{word_literal, literal_in, literal_of, is_next_tight, parens, fill_value, fill_size, array_fill, form_atom, do_atom, word_atom, mark_atom, atom_for, atom, subscript, tight_atom, method_call, dotted, mark_postfix, postfix_for, postfix, run_part, run_parts, run_level}
-use Rattle.fort_parse.proofs.Statements.{allowing, YieldsUnit, RunLaws, FlatLaws, FormLaws}
+use Rattle.fort_parse.proofs.Statements.{allowing, YieldsUnit, FlatLaws, FormLaws}
 use Rattle.fort_parse.proofs.Firsts.{atom_begins}
 
 -- ---- atoms of one token
@@ -200,7 +180,7 @@ module _ (names : Spellings) {n : ℕ} (run : Bool → Eater Run n) (flats : Fla
       only_then _ _ _ _ (flats.sound_expr true mid2) (λ value mid3 k.
       only_then _ _ _ _ (only_mark mark.CloseParen mid3) (λ value_right rest l.
       let after : ts ≡ marked mark.Dot dot ∷ named fill ∷ marked mark.OpenParen value_left ∷ (tokens_of (said_expr value) ++ marked mark.CloseParen value_right ∷ rest) =
-          h.0 ∙ ap (λ (u : Row). marked mark.Dot dot ∷ u) (h1.0 ∙ ap (λ (u : Row). named fill ∷ u) (h2.0 ∙ ap (λ (u : Row). marked mark.OpenParen value_left ∷ u) (k.tokens ∙ ap (λ (u : Row). tokens_of (said_expr value) ++ u) l))) in
+      h.0 ∙ ap (λ (u : Row). marked mark.Dot dot ∷ u) (h1.0 ∙ ap (λ (u : Row). named fill ∷ u) (h2.0 ∙ ap (λ (u : Row). marked mark.OpenParen value_left ∷ u) (k.tokens ∙ ap (λ (u : Row). tokens_of (said_expr value) ++ u) l))) in
       only_read _ _ rest (rw (says-ArrayFill array left element right size_left size size_right dot fill value_left value value_right) (record {
         tokens = is ∙ (rw after (simp append_assoc refl));
         obeys = λ lines. both _ _ (both _ _ g1 (both _ _ g2 (both _ _ h.1 (both _ _ h1.1.0 h2.1)))) (both _ _ h1.1.1 (both _ _ oe (both _ _ os k.obeys)));

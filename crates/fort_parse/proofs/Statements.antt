@@ -1,11 +1,10 @@
 -- What the laws of the productions say, in one place, so that each file of laws can be read and checked by itself. A parser of runs
 -- that keeps the laws of runs makes parsers of flat expressions, of expressions, of blocks and again of runs that keep theirs.
-use Rattle.std.specs.Prelude.{◌≡◌, ℕ, Bool, true, false, ◌&&◌, not, List, [], ◌∷◌, ◌++◌, Option, Some, None, map, option_map}
+use Rattle.std.specs.Prelude.{◌≡◌, ℕ, Bool, true, false, ◌&&◌, not, List, [], ◌∷◌, ◌++◌, Option, Some, None, option_map}
 use Rattle.fort_token.specs.declared.token.Token.{Token}
 use Rattle.fort_token.specs.declared.marks.Mark.TheVariants as mark
 use Rattle.fort_tree.specs.declared.spot.Spot.{Spot}
 use Rattle.fort_tree.specs.declared.spot.Name.{Name}
-use Rattle.fort_tree.specs.declared.expr.Atom.{Atom}
 use Rattle.fort_tree.specs.declared.expr.Expr.{Expr}
 use Rattle.fort_tree.specs.declared.expr.ExprList.{ExprList}
 use Rattle.fort_tree.specs.declared.expr.Flat.{Flat}
@@ -22,13 +21,12 @@ use Rattle.fort_tree.specs.Tokens.{Spellings, marked, word, named}
 use Rattle.fort_tree.specs.Tokens.{colon as at_colon}
 use Rattle.fort_tree.specs.Types.{said_type}
 use Rattle.fort_tree.specs.Blocks.{initial_token}
-use Rattle.fort_tree.specs.Said.{Said, SaidEntry, SaidElse, Allowed, tokens_of, all_tokens, all_obey, maybe_tokens, maybe_obeys, entries_tokens, entries_obey, else_tokens, else_obeys, last_semicolon, has_entry, is_there, elsewhere, before_do, in_brackets}
-use Rattle.fort_tree.specs.Flats.{expr_step}
+use Rattle.fort_tree.specs.Said.{Said, Allowed, tokens_of, maybe_tokens, maybe_obeys, elsewhere, in_brackets}
 use Rattle.fort_tree.specs.Yield.{said_run, said_operand, said_flat, said_generator, said_head, said_expr, said_expr_list, said_variable, said_delimited}
-use Rattle.fort_reading.specs.Parser.{Row, Eater, Parser, next_of}
-use Rattle.fort_reading.specs.Words.{sees, is_mark}
+use Rattle.fort_reading.specs.Parser.{Row, Eater, next_of}
+use Rattle.fort_reading.specs.Words.{sees}
 use Rattle.fort_reading.proofs.Laws.{Only, Gets}
-use Rattle.fort_reading.proofs.Yields.{Yields, YieldsAll, YieldsMaybe}
+use Rattle.fort_reading.proofs.Yields.{Yields, YieldsMaybe}
 use Rattle.fort_parse.specs.Beginnings.{begins_atom, begins_run_part, begins_flat_part, begins_head, assigns}
 use Rattle.fort_parse.specs.Flats.{operand, flat, generator, head, opened, expr_from, expr, maybe_list}
 use Rattle.fort_parse.specs.Blocks.{variable_from}
@@ -87,7 +85,6 @@ pub record FlatLaws (names : Spellings) {n : ℕ} (run : Bool → Eater Run n) :
   pub sound_expr_from : (lines : Bool) (o : Operand) (ts mid : Row) → YieldsUnit names (said_operand o) true ts mid → Only Expr ((expr_from names run lines o).run mid) (λ e rest. Yields names (said_expr e) (allowing lines true) ts rest)
   pub sound_expr : (lines : Bool) (ts : Row) → Only Expr ((expr names run lines).parser.run ts) (λ e rest. Yields names (said_expr e) (allowing lines true) ts rest)
   pub sound_maybe_list : (ts : Row) → Only (Option ExprList) ((maybe_list names run).run ts) (λ l rest. YieldsMaybe names (option_map said_expr_list l) in_brackets ts rest)
-
   pub complete_operand : (lines blocks : Bool) (o : Operand) (rest : Row) → (said_operand o).obeys names (allowing lines blocks) ≡ true → begins_run_part blocks (next_of rest) ≡ false
       → Gets Operand ((operand names run blocks).parser.run (tokens_of (said_operand o) ++ rest)) o rest
   pub complete_flat : (blocks : Bool) (f : Flat) (rest : Row) → (said_flat f).obeys names (allowing false blocks) ≡ true → flat_stops false blocks (next_of rest) ≡ true
@@ -121,7 +118,6 @@ pub record FormLaws (names : Spellings) {n : ℕ} (run : Bool → Eater Run n) :
   pub sound_delimited : (blocks : Bool) (ts : Row) → sees (begins_atom blocks) (next_of ts) ≡ true
       → Only Delimited ((delimited names run).parser.run ts) (λ d rest. YieldsUnit names (said_delimited d) blocks ts rest)
   pub sound_variable_from : (var : Option Spot) (name : Name) (ts : Row) → Only Variable ((variable_from names run var name).run ts) (λ v rest. YieldsVariable names var name v ts rest)
-
   pub complete_delimited : (lines blocks : Bool) (d : Delimited) (rest : Row) → (said_delimited d).obeys names (allowing lines blocks) ≡ true
       → Gets Delimited ((delimited names run).parser.run (tokens_of (said_delimited d) ++ rest)) d rest
   -- behind its name

@@ -1,5 +1,5 @@
 -- The tokens with which parts of an expression begin.
-use Rattle.std.specs.Prelude.{Bool, true, false, ◌&&◌, ◌||◌, not, if◌then◌else◌, Option, Some, None}
+use Rattle.std.specs.Prelude.{Bool, true, false, ◌&&◌, ◌||◌, not, Option, Some, None}
 use Rattle.fort_ops.specs.declared.op.Op.{Op}
 use Rattle.fort_ops.specs.declared.op.Op.TheVariants as op
 use Rattle.fort_token.specs.declared.token.Kind.{Kind}

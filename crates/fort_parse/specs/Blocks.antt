@@ -1,38 +1,16 @@
 -- The productions of blocks and of the parts of the forms that end with `end` as parsers, over one of runs.
-use Rattle.std.specs.Prelude.{ℕ, zero, suc, Bool, true, false, ◌&&◌, List, [], ◌∷◌, ◌++◌, Option, Some, None, codes}
-use Rattle.fort_token.specs.declared.token.Kind.{Kind}
-use Rattle.fort_token.specs.declared.token.Kind.TheVariants as kind
+use Rattle.std.specs.Prelude.{ℕ, Bool, true, false, ◌&&◌, List, [], ◌∷◌, Option, Some, None}
 use Rattle.fort_token.specs.declared.token.Token.{Token}
-use Rattle.fort_token.specs.declared.marks.Mark.{Mark}
 use Rattle.fort_token.specs.declared.marks.Mark.TheVariants as mark
-use Rattle.fort_token.specs.declared.reserved.Reserved.{Reserved}
 use Rattle.fort_token.specs.declared.reserved.Reserved.TheVariants as reserved
 use Rattle.fort_tree.specs.declared.spot.Spot.{Spot}
 use Rattle.fort_tree.specs.declared.spot.Name.{Name}
-use Rattle.fort_tree.specs.declared.spot.Sign.{Sign}
-use Rattle.fort_tree.specs.declared.declarations.Parameters.{Parameters}
 use Rattle.fort_tree.specs.declared.types.TypeTree.{TypeTree}
-use Rattle.fort_tree.specs.declared.expr.Atom.{Atom}
-use Rattle.fort_tree.specs.declared.expr.Atom.TheVariants as an_atom
-use Rattle.fort_tree.specs.declared.expr.Expr.{Expr}
-use Rattle.fort_tree.specs.declared.expr.Expr.TheVariants as an_expr
-use Rattle.fort_tree.specs.declared.expr.FlatPart.{FlatPart}
-use Rattle.fort_tree.specs.declared.expr.FlatPart.TheVariants as a_flat_part
-use Rattle.fort_tree.specs.declared.expr.Generator.{Generator}
-use Rattle.fort_tree.specs.declared.expr.Generator.TheVariants as a_generator
-use Rattle.fort_tree.specs.declared.expr.Head.{Head}
-use Rattle.fort_tree.specs.declared.expr.Head.TheVariants as a_head
-use Rattle.fort_tree.specs.declared.expr.Postfix.{Postfix}
-use Rattle.fort_tree.specs.declared.expr.Postfix.TheVariants as a_postfix
-use Rattle.fort_tree.specs.declared.expr.RunPart.{RunPart}
-use Rattle.fort_tree.specs.declared.expr.RunPart.TheVariants as a_run_part
 use Rattle.fort_tree.specs.declared.declarations.Variable.{Variable, roll-Variable}
 use Rattle.fort_tree.specs.declared.delimited.Also.{Also, roll-Also}
 use Rattle.fort_tree.specs.declared.delimited.BlockItem.{BlockItem, out-BlockItem, roll-BlockItem}
 use Rattle.fort_tree.specs.declared.delimited.CaseClause.{CaseClause, out-CaseClause, roll-CaseClause}
 use Rattle.fort_tree.specs.declared.delimited.Catch.{Catch, roll-Catch}
-use Rattle.fort_tree.specs.declared.delimited.Delimited.{Delimited}
-use Rattle.fort_tree.specs.declared.delimited.Delimited.TheVariants as a_delimited
 use Rattle.fort_tree.specs.declared.delimited.Elif.{Elif, roll-Elif}
 use Rattle.fort_tree.specs.declared.delimited.ElseBlock.{ElseBlock, roll-ElseBlock}
 use Rattle.fort_tree.specs.declared.delimited.ElseClause.{ElseClause, roll-ElseClause}
@@ -41,16 +19,12 @@ use Rattle.fort_tree.specs.declared.delimited.Item.{Item}
 use Rattle.fort_tree.specs.declared.delimited.Item.TheVariants as an_item
 use Rattle.fort_tree.specs.declared.delimited.NextGenerator.{NextGenerator, roll-NextGenerator}
 use Rattle.fort_tree.specs.declared.delimited.TypeClause.{TypeClause, out-TypeClause, roll-TypeClause}
-use Rattle.fort_tree.specs.declared.expr.ExprList.{ExprList, roll-ExprList}
-use Rattle.fort_tree.specs.declared.expr.Flat.{Flat, roll-Flat}
-use Rattle.fort_tree.specs.declared.expr.NextExpr.{NextExpr, roll-NextExpr}
-use Rattle.fort_tree.specs.declared.expr.Operand.{Operand, roll-Operand}
-use Rattle.fort_tree.specs.declared.expr.Run.{Run, roll-Run}
-use Rattle.fort_tree.specs.Tokens.{Spellings, is_empty}
-use Rattle.fort_tree.specs.Said.{Allowed}
-use Rattle.fort_reading.specs.Parser.{Parser, Eater, pure, wrong, ◌>>=◌, fork, fork_eater, token, accept, choose, no_eater, no_budget, ◌>>>◌, ◌>>|◌, chain, many, many_more, same_budget}
-use Rattle.fort_reading.specs.Words.{is_mark, is_word, is_range, is_eq, is_power, spot_of, spot_if, tight, name_of, called_of, sign_of, prefix_of, assign_of, initial_of, big_of, sees, sees_tight}
-use Rattle.fort_parse_types.specs.Types.{type_tree, maybe_parameters}
+use Rattle.fort_tree.specs.declared.expr.Operand.{Operand}
+use Rattle.fort_tree.specs.declared.expr.Run.{Run}
+use Rattle.fort_tree.specs.Tokens.{Spellings}
+use Rattle.fort_reading.specs.Parser.{Parser, Eater, pure, wrong, ◌>>=◌, fork, fork_eater, token, accept, ◌>>|◌, chain, many, same_budget}
+use Rattle.fort_reading.specs.Words.{is_mark, is_word, is_range, is_eq, spot_if, name_of, initial_of, sees}
+use Rattle.fort_parse_types.specs.Types.{type_tree}
 use Rattle.fort_parse.specs.declared.plain.PlainNames.{PlainNames}
 use Rattle.fort_parse.specs.Beginnings.{begins_head, begins_item, begins_case_clause, begins_type_clause, begins_else}
 use Rattle.fort_parse.specs.Plain.{plain_name, plain_names}

@@ -1,12 +1,9 @@
 -- The tokens of declarations and components are read as them.
-use Rattle.std.proofs.Common.{◌≡◌, ℕ, zero, suc, Bool, true, false, cond, List, [], ◌∷◌, ◌++◌, append_assoc, Option, Some, None, refl, sym, ap, subst, ◌∙◌, arith, rules}
-use Rattle.std.specs.Prelude.{map, option_map, ◌&&◌, ◌||◌, not}
-use Rattle.fort_ops.specs.declared.op.Op.{Op}
-use Rattle.fort_ops.specs.declared.op.Op.TheVariants as op
+use Rattle.std.proofs.Common.{◌≡◌, ℕ, Bool, true, false, List, [], ◌∷◌, ◌++◌, append_assoc, Option, Some, None, refl, sym, subst}
+use Rattle.std.specs.Prelude.{map, option_map, ◌&&◌, ◌||◌}
 use Rattle.fort_token.specs.declared.token.Kind.{Kind}
 use Rattle.fort_token.specs.declared.token.Kind.TheVariants as kind
 use Rattle.fort_token.specs.declared.token.Token.{Token}
-use Rattle.fort_token.specs.declared.marks.Mark.{Mark}
 use Rattle.fort_token.specs.declared.marks.Mark.TheVariants as mark
 use Rattle.fort_token.specs.declared.reserved.Reserved.{Reserved}
 use Rattle.fort_token.specs.declared.reserved.Reserved.TheVariants as reserved
@@ -26,7 +23,6 @@ use Rattle.fort_tree.specs.declared.declarations.Object.{Object}
 use Rattle.fort_tree.specs.declared.declarations.ObjectEntry.{ObjectEntry}
 use Rattle.fort_tree.specs.declared.declarations.ObjectMember.{ObjectMember}
 use Rattle.fort_tree.specs.declared.declarations.ObjectMember.TheVariants as object_member
-use Rattle.fort_tree.specs.declared.declarations.ObjectParameters.{ObjectParameters}
 use Rattle.fort_tree.specs.declared.declarations.Trait.{Trait}
 use Rattle.fort_tree.specs.declared.declarations.TraitEntry.{TraitEntry}
 use Rattle.fort_tree.specs.declared.declarations.TraitMember.{TraitMember}
@@ -38,31 +34,30 @@ use Rattle.fort_tree.specs.declared.declarations.InitialSign.{InitialSign}
 use Rattle.fort_tree.specs.declared.declarations.Comprises.{Comprises}
 use Rattle.fort_tree.specs.declared.declarations.Excludes.{Excludes}
 use Rattle.std.specs.Prelude.{codes}
-use Rattle.fort_tree.specs.Tokens.{Spellings, marked, word, named, colon, is_spelled, is_line}
-use Rattle.fort_tree.specs.Said.{Said, Allowed, SaidEntry, tokens_of, all_tokens, maybe_tokens, maybe_obeys, gap_of, entries_tokens, entries_obey, semicolon_tokens, elsewhere, is_there}
+use Rattle.fort_tree.specs.Tokens.{Spellings, marked, word, named, colon, is_spelled}
+use Rattle.fort_tree.specs.Said.{Said, Allowed, SaidEntry, tokens_of, maybe_tokens, entries_tokens, entries_obey, semicolon_tokens, elsewhere, is_there}
 use Rattle.fort_tree.specs.Types.{said_type}
 use Rattle.fort_tree.specs.Blocks.{after_var, initial_token, variable_step}
 use Rattle.fort_tree.specs.Yield.{said_variable, said_expr}
-use Rattle.fort_tree.specs.Declarations.{name_first, name_more, name_fits, is_opr, method_parameter_count, extends_tokens, excludes_tokens, comprises_tokens, said_object_parameters, said_function, said_method, said_trait_member, said_trait_entry, said_trait, said_object_member, said_object_entry, said_object, said_declaration, said_declared}
+use Rattle.fort_tree.specs.Declarations.{name_first, name_more, is_opr, method_parameter_count, extends_tokens, excludes_tokens, comprises_tokens, said_object_parameters, said_function, said_method, said_trait_member, said_trait_entry, said_trait, said_object_member, said_object_entry, said_object, said_declaration, said_declared}
 use Rattle.fort_tree.specs.Types.{parameter_count, said_parameters}
 use Rattle.fort_tree.specs.Component.{export_tokens, export_obeys, yield, obeys}
 use Rattle.fort_tree.proofs.CasesBlocks.{cases_variable}
 use Rattle.fort_tree.proofs.SaysBlocks.{says_variable}
-use Rattle.fort_reading.specs.Parser.{Row, Read, and_then, accept_run, next_of, many_run}
-use Rattle.fort_reading.specs.Words.{is_mark, is_word, is_called, same_mark, same_word, sees}
-use Rattle.fort_reading.proofs.Laws.{Gets, reads, ends, gets_then}
-use Rattle.fort_reading.proofs.Taking.{gets_name, gets_mark, gets_word, gets_colon, gets_called, not_word, not_mark}
-use Rattle.fort_reading.proofs.Yields.{both, left_true, right_true}
+use Rattle.fort_reading.specs.Parser.{Row, Read, and_then, next_of}
+use Rattle.fort_reading.specs.Words.{is_mark, is_word, is_called, same_word, sees}
+use Rattle.fort_reading.proofs.Laws.{Gets, reads, gets_then}
+use Rattle.fort_reading.proofs.Taking.{gets_name, gets_word, gets_colon, gets_called, not_word, not_mark}
+use Rattle.fort_reading.proofs.Yields.{left_true, right_true}
 use Rattle.fort_parse_types.proofs.Complete.{complete_type_tree}
-use Rattle.fort_parse.specs.Beginnings.{begins_apart_of}
 use Rattle.fort_parse.specs.Blocks.{is_ended}
-use Rattle.fort_parse.proofs.Entries.{StopsAfter, StopsLast, stops_last, first_apart, gets_entries}
-use Rattle.fort_syntax.specs.Names.{opr_name, extends, excludes, comprises, object_parameters}
-use Rattle.fort_syntax.specs.Methods.{function_from, operator_from, method_from, operator_method_from}
-use Rattle.fort_syntax.specs.Declarations.{begins_trait_member, begins_object_member, begins_declaration_kind, begins_trait_entry, begins_object_entry, begins_declared, trait_field, trait_operator, trait_named, trait_member_at, trait_entry, trait_entries, trait_from, object_variable, object_var, object_operator, object_named, object_member_at, object_entry, object_entries, object_rest, object_from, variable_declaration, var_declaration, operator_declaration, named_declaration, word_declaration, declaration_for, declaration_at, declared, declarations, export_from, export, component, nothing_after, whole}
+use Rattle.fort_parse.proofs.Entries.{StopsAfter, stops_last, first_apart, gets_entries}
+use Rattle.fort_syntax.specs.Names.{opr_name}
+use Rattle.fort_syntax.specs.Methods.{operator_method_from}
+use Rattle.fort_syntax.specs.Declarations.{begins_trait_member, begins_object_member, begins_declaration_kind, begins_trait_entry, begins_object_entry, begins_declared, trait_field, trait_operator, trait_named, trait_member_at, trait_entry, trait_entries, trait_from, object_variable, object_var, object_operator, object_named, object_member_at, object_entry, object_entries, object_rest, object_from, variable_declaration, var_declaration, operator_declaration, named_declaration, declaration_at, declared, declarations, export_from, export, component}
 use Rattle.fort_syntax.proofs.Parts.{PartLaws}
 use Rattle.fort_syntax.proofs.Followers.{Follows, Ended, ended, declaration_follows, trait_follows, object_follows, end_follows, end_begins_no_declaration, end_begins_no_trait_member, end_begins_no_object_member}
-use Rattle.fort_syntax.proofs.NamesComplete.{name_no_mark, name_no_word, sees_mark, sees_word, opr_of, complete_semicolon, complete_opr_name, complete_extends, complete_excludes, complete_comprises, complete_object_parameters}
+use Rattle.fort_syntax.proofs.NamesComplete.{name_no_word, sees_mark, sees_word, opr_of, complete_semicolon, complete_opr_name, complete_extends, complete_excludes, complete_comprises, complete_object_parameters}
 use Rattle.fort_syntax.proofs.MethodsComplete.{function_end, method_behind, method_tokens, complete_function_from, complete_operator_from, complete_method_from, complete_operator_method}
 
 -- ---- what they begin with

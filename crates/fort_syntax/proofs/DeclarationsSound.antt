@@ -1,12 +1,9 @@
 -- What declarations and components are read from is their tokens, and the rules on gaps and names hold in them.
-use Rattle.std.proofs.Common.{◌≡◌, ℕ, zero, suc, Bool, true, false, cond, List, [], ◌∷◌, ◌++◌, append_assoc, Option, Some, None, refl, sym, ap, subst, ◌∙◌, arith, rules}
-use Rattle.std.specs.Prelude.{map, option_map, ◌&&◌, ◌||◌, not}
-use Rattle.fort_ops.specs.declared.op.Op.{Op}
-use Rattle.fort_ops.specs.declared.op.Op.TheVariants as op
+use Rattle.std.proofs.Common.{◌≡◌, ℕ, Bool, true, false, List, [], ◌∷◌, ◌++◌, append_assoc, Option, Some, None, refl, ap, ◌∙◌}
+use Rattle.std.specs.Prelude.{map, option_map}
 use Rattle.fort_token.specs.declared.token.Kind.{Kind}
 use Rattle.fort_token.specs.declared.token.Kind.TheVariants as kind
 use Rattle.fort_token.specs.declared.token.Token.{Token}
-use Rattle.fort_token.specs.declared.marks.Mark.{Mark}
 use Rattle.fort_token.specs.declared.marks.Mark.TheVariants as mark
 use Rattle.fort_token.specs.declared.reserved.Reserved.{Reserved}
 use Rattle.fort_token.specs.declared.reserved.Reserved.TheVariants as reserved
@@ -17,43 +14,35 @@ use Rattle.fort_tree.specs.declared.declarations.Declaration.{Declaration}
 use Rattle.fort_tree.specs.declared.declarations.Declaration.TheVariants as declaration
 use Rattle.fort_tree.specs.declared.declarations.Declared.{Declared}
 use Rattle.fort_tree.specs.declared.declarations.Export.{Export}
-use Rattle.fort_tree.specs.declared.declarations.Extends.{Extends}
-use Rattle.fort_tree.specs.declared.declarations.Function.{Function}
-use Rattle.fort_tree.specs.declared.declarations.FunctionName.{FunctionName}
-use Rattle.fort_tree.specs.declared.declarations.FunctionName.TheVariants as function_name
 use Rattle.fort_tree.specs.declared.declarations.Method.{Method}
 use Rattle.fort_tree.specs.declared.declarations.Object.{Object}
 use Rattle.fort_tree.specs.declared.declarations.ObjectEntry.{ObjectEntry}
 use Rattle.fort_tree.specs.declared.declarations.ObjectMember.{ObjectMember}
 use Rattle.fort_tree.specs.declared.declarations.ObjectMember.TheVariants as object_member
-use Rattle.fort_tree.specs.declared.declarations.ObjectParameters.{ObjectParameters}
 use Rattle.fort_tree.specs.declared.declarations.Trait.{Trait}
 use Rattle.fort_tree.specs.declared.declarations.TraitEntry.{TraitEntry}
 use Rattle.fort_tree.specs.declared.declarations.TraitMember.{TraitMember}
 use Rattle.fort_tree.specs.declared.declarations.TraitMember.TheVariants as trait_member
 use Rattle.fort_tree.specs.declared.declarations.Variable.{Variable}
 use Rattle.std.specs.Prelude.{codes}
-use Rattle.fort_tree.specs.Tokens.{Spellings, marked, word, named, colon, is_spelled, is_line}
-use Rattle.fort_tree.specs.Said.{Said, SaidEntry, tokens_of, all_tokens, maybe_tokens, maybe_obeys, gap_of, entries_tokens, entries_obey, semicolon_tokens, elsewhere, is_there}
-use Rattle.fort_tree.specs.Types.{said_type}
+use Rattle.fort_tree.specs.Tokens.{Spellings, word, named, colon, is_spelled}
+use Rattle.fort_tree.specs.Said.{Said, tokens_of, maybe_tokens, entries_tokens, semicolon_tokens, elsewhere}
 use Rattle.fort_tree.specs.Yield.{said_variable}
-use Rattle.fort_tree.specs.Declarations.{extends_tokens, excludes_tokens, comprises_tokens, said_object_parameters, said_function, said_method, said_trait_member, said_trait_entry, said_trait, said_object_member, said_object_entry, said_object, said_declaration, said_declared}
+use Rattle.fort_tree.specs.Declarations.{extends_tokens, excludes_tokens, comprises_tokens, said_object_parameters, said_trait_member, said_trait_entry, said_trait, said_object_member, said_object_entry, said_object, said_declaration, said_declared}
 use Rattle.fort_tree.specs.Component.{export_tokens, export_obeys, yield, obeys}
-use Rattle.fort_reading.specs.Parser.{Row, accept_run, next_of, many_run}
+use Rattle.fort_reading.specs.Parser.{Row, next_of}
 use Rattle.fort_reading.specs.Words.{is_mark, is_word, is_called, sees}
-use Rattle.fort_reading.proofs.Laws.{Only, only_read, only_failed, only_then, only_if, only_more}
-use Rattle.fort_reading.proofs.Taking.{only_name, only_mark, only_word, only_colon, only_called}
-use Rattle.fort_reading.proofs.Yields.{Yields, YieldsMaybe, both, left_true, right_true}
+use Rattle.fort_reading.proofs.Laws.{Only, only_read, only_failed, only_then, only_if}
+use Rattle.fort_reading.proofs.Taking.{only_name, only_word, only_colon, only_called}
+use Rattle.fort_reading.proofs.Yields.{Yields, both}
 use Rattle.fort_parse_types.proofs.Sound.{sound_type_tree}
 use Rattle.fort_parse.specs.Beginnings.{begins_apart_of}
 use Rattle.fort_parse.specs.Blocks.{is_ended}
 use Rattle.fort_parse.proofs.Statements.{YieldsVariable}
 use Rattle.fort_parse.proofs.Entries.{YieldsEntry, YieldsEntries, begun, only_entries}
-use Rattle.fort_syntax.specs.Names.{extends, excludes, comprises, object_parameters}
-use Rattle.fort_syntax.specs.Methods.{function_from, operator_from, method_from, operator_method_from}
-use Rattle.fort_syntax.specs.Declarations.{begins_trait_member, begins_object_member, begins_declaration_kind, begins_trait_entry, begins_object_entry, begins_declared, trait_field, trait_operator, trait_named, trait_member_at, trait_entry, trait_entries, trait_from, object_variable, object_var, object_operator, object_named, object_member_at, object_entry, object_entries, object_rest, object_from, variable_declaration, var_declaration, operator_declaration, named_declaration, word_declaration, declaration_for, declaration_at, declared, declarations, export_from, export, component, nothing_after, whole}
+use Rattle.fort_syntax.specs.Declarations.{begins_trait_member, begins_object_member, begins_declaration_kind, begins_trait_entry, begins_object_entry, begins_declared, trait_field, trait_operator, trait_named, trait_member_at, trait_entry, trait_entries, trait_from, object_variable, object_var, object_operator, object_named, object_member_at, object_entry, object_entries, object_rest, object_from, variable_declaration, var_declaration, operator_declaration, named_declaration, word_declaration, declaration_for, declaration_at, declared, declarations, export_from, export, component}
 use Rattle.fort_syntax.proofs.Parts.{PartLaws}
-use Rattle.fort_syntax.proofs.NamesSound.{YieldsName, sound_semicolon, sound_opr_name, sound_extends, sound_excludes, sound_comprises, sound_object_parameters}
+use Rattle.fort_syntax.proofs.NamesSound.{sound_semicolon, sound_opr_name, sound_extends, sound_excludes, sound_comprises, sound_object_parameters}
 use Rattle.fort_syntax.proofs.MethodsSound.{YieldsMethod, sound_function_from, sound_operator_from, sound_method_from, sound_operator_method}
 
 spelled : (names : Spellings) (name : Name) → is_called (codes "Executable") names name ≡ true → is_spelled "Executable" names name ≡ true
@@ -114,7 +103,7 @@ module _ (names : Spellings) (n : ℕ) (parts : PartLaws names n) where
       only_then _ _ _ _ (sound_trait_entries mid3) (λ members mid4 k.
       only_then _ _ _ _ (only_word reserved.End mid4) (λ end rest l.
       let after : ts ≡ named name ∷ (extends_tokens above ++ (excludes_tokens apart ++ (comprises_tokens below ++ (entries_tokens (map said_trait_entry members) ++ word reserved.End end ∷ rest)))) =
-          h ∙ ap (λ (u : Row). named name ∷ u) (h1 ∙ ap (λ (u : Row). extends_tokens above ++ u) (h2 ∙ ap (λ (u : Row). excludes_tokens apart ++ u) (h3 ∙ ap (λ (u : Row). comprises_tokens below ++ u) (k.tokens ∙ ap (λ (u : Row). entries_tokens (map said_trait_entry members) ++ u) l)))) in
+      h ∙ ap (λ (u : Row). named name ∷ u) (h1 ∙ ap (λ (u : Row). extends_tokens above ++ u) (h2 ∙ ap (λ (u : Row). excludes_tokens apart ++ u) (h3 ∙ ap (λ (u : Row). comprises_tokens below ++ u) (k.tokens ∙ ap (λ (u : Row). entries_tokens (map said_trait_entry members) ++ u) l)))) in
       only_read _ _ rest (record { tokens = rw after (simp append_assoc refl); obeys = k.obeys })))))))
 
   -- ---- objects
@@ -173,7 +162,7 @@ module _ (names : Spellings) (n : ℕ) (parts : PartLaws names n) where
       only_then _ _ _ _ (sound_object_entries mid2) (λ members mid3 k.
       only_then _ _ _ _ (only_word reserved.End mid3) (λ end rest l.
       let after : ts ≡ named name ∷ (maybe_tokens (option_map said_object_parameters p) ++ (extends_tokens above ++ (entries_tokens (map said_object_entry members) ++ word reserved.End end ∷ rest))) =
-          h ∙ ap (λ (u : Row). named name ∷ u) (k1.tokens ∙ ap (λ (u : Row). maybe_tokens (option_map said_object_parameters p) ++ u) (h2 ∙ ap (λ (u : Row). extends_tokens above ++ u) (k.tokens ∙ ap (λ (u : Row). entries_tokens (map said_object_entry members) ++ u) l))) in
+      h ∙ ap (λ (u : Row). named name ∷ u) (k1.tokens ∙ ap (λ (u : Row). maybe_tokens (option_map said_object_parameters p) ++ u) (h2 ∙ ap (λ (u : Row). extends_tokens above ++ u) (k.tokens ∙ ap (λ (u : Row). entries_tokens (map said_object_entry members) ++ u) l))) in
       only_read _ _ rest (record { tokens = rw after (simp append_assoc refl); obeys = both _ _ k1.obeys k.obeys }))))))
 
   -- ---- declarations
@@ -253,5 +242,5 @@ module _ (names : Spellings) (n : ℕ) (parts : PartLaws names n) where
       only_then _ _ _ _ (sound_declarations mid2) (λ list mid3 k.
       only_then _ _ _ _ (only_word reserved.End mid3) (λ end rest l.
       let after : ts ≡ word reserved.Component at ∷ named name ∷ (export_tokens exported ++ (entries_tokens (map said_declared list) ++ word reserved.End end ∷ rest)) =
-          h ∙ ap (λ (u : Row). word reserved.Component at ∷ u) (h1 ∙ ap (λ (u : Row). named name ∷ u) (k1.0 ∙ ap (λ (u : Row). export_tokens exported ++ u) (k.tokens ∙ ap (λ (u : Row). entries_tokens (map said_declared list) ++ u) l))) in
+      h ∙ ap (λ (u : Row). word reserved.Component at ∷ u) (h1 ∙ ap (λ (u : Row). named name ∷ u) (k1.0 ∙ ap (λ (u : Row). export_tokens exported ++ u) (k.tokens ∙ ap (λ (u : Row). entries_tokens (map said_declared list) ++ u) l))) in
       only_read _ _ rest (record { tokens = rw after (simp append_assoc refl); obeys = both _ _ k1.1 k.obeys; spellings = refl; texts_are = refl }))))))

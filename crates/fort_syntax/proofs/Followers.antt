@@ -1,32 +1,26 @@
 -- What may follow a declaration or a member without a `;`.
-use Rattle.std.proofs.Common.{◌≡◌, ℕ, zero, suc, Bool, true, false, cond, List, [], ◌∷◌, ◌++◌, append_assoc, Option, Some, None, refl, sym, ap, subst, ◌∙◌, arith, rules}
-use Rattle.std.specs.Prelude.{map, option_map, ◌&&◌, ◌||◌, not}
-use Rattle.fort_ops.specs.declared.op.Op.{Op}
+use Rattle.std.proofs.Common.{◌≡◌, Bool, true, false, ◌++◌, Option, Some, None, refl}
+use Rattle.std.specs.Prelude.{◌||◌}
 use Rattle.fort_ops.specs.declared.op.Op.TheVariants as op
 use Rattle.fort_token.specs.declared.token.Kind.{Kind}
 use Rattle.fort_token.specs.declared.token.Kind.TheVariants as kind
 use Rattle.fort_token.specs.declared.token.Token.{Token}
-use Rattle.fort_token.specs.declared.marks.Mark.{Mark}
 use Rattle.fort_token.specs.declared.marks.Mark.TheVariants as mark
-use Rattle.fort_token.specs.declared.reserved.Reserved.{Reserved}
 use Rattle.fort_token.specs.declared.reserved.Reserved.TheVariants as reserved
 use Rattle.fort_tree.specs.declared.spot.Spot.{Spot}
-use Rattle.fort_tree.specs.declared.spot.Name.{Name}
-use Rattle.fort_tree.specs.declared.spot.NextName.{NextName}
-use Rattle.fort_tree.specs.declared.spot.Sign.{Sign}
-use Rattle.fort_tree.specs.Tokens.{marked, word, is_line, is_empty}
+use Rattle.fort_tree.specs.Tokens.{marked, word, is_line}
 use Rattle.fort_tree.specs.Said.{semicolon_tokens}
 use Rattle.fort_reading.specs.Parser.{Row, next_of}
-use Rattle.fort_reading.specs.Words.{is_mark, is_word, is_eq, same_mark, same_word, sees}
+use Rattle.fort_reading.specs.Words.{is_mark, is_eq, same_mark, sees}
 use Rattle.fort_reading.proofs.Taking.{not_mark, not_this, is_eq_is}
 use Rattle.fort_reading.proofs.Yields.{both, false_right}
 use Rattle.fort_parse_types.proofs.Complete.{type_stops, type_stops_at}
-use Rattle.fort_parse.specs.Beginnings.{begins_atom, begins_postfix, is_infix_kind, assigns, begins_apart_of}
-use Rattle.fort_parse.proofs.Statements.{flat_stops, expr_stops}
+use Rattle.fort_parse.specs.Beginnings.{assigns, begins_apart_of}
+use Rattle.fort_parse.proofs.Statements.{expr_stops}
 use Rattle.fort_parse.proofs.FormFirsts.{line_stops}
 use Rattle.fort_parse.proofs.Stops.{mark_ends_expr, word_ends_expr}
 use Rattle.fort_parse.proofs.Entries.{StopsAfter}
-use Rattle.fort_syntax.specs.Declarations.{word_begins_declaration, begins_declaration_kind, word_begins_trait_member, begins_trait_member, word_begins_object_member, begins_object_member}
+use Rattle.fort_syntax.specs.Declarations.{begins_declaration_kind, begins_trait_member, begins_object_member}
 
 -- what ends a declaration or a member
 pub record Follows (next : Option Token) : Type 0 where

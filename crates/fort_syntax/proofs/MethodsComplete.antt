@@ -1,19 +1,12 @@
 -- The tokens of functions and methods are read as them.
-use Rattle.std.proofs.Common.{◌≡◌, ℕ, zero, suc, Bool, true, false, cond, List, [], ◌∷◌, ◌++◌, append_assoc, Option, Some, None, refl, sym, ap, subst, ◌∙◌, arith, rules, inl, inr, ◌⊎◌}
+use Rattle.std.proofs.Common.{◌≡◌, ℕ, zero, suc, Bool, true, false, List, [], ◌∷◌, ◌++◌, append_assoc, Option, Some, None, refl, sym, subst, arith, inl, inr, ◌⊎◌}
 use Rattle.std.specs.Prelude.{map, option_map, ◌&&◌, ◌||◌, not}
 use Rattle.fort_ops.specs.declared.op.Op.{Op}
 use Rattle.fort_ops.specs.declared.op.Op.TheVariants as op
-use Rattle.fort_token.specs.declared.token.Kind.{Kind}
-use Rattle.fort_token.specs.declared.token.Kind.TheVariants as kind
-use Rattle.fort_token.specs.declared.token.Token.{Token}
-use Rattle.fort_token.specs.declared.marks.Mark.{Mark}
 use Rattle.fort_token.specs.declared.marks.Mark.TheVariants as mark
-use Rattle.fort_token.specs.declared.reserved.Reserved.{Reserved}
 use Rattle.fort_token.specs.declared.reserved.Reserved.TheVariants as reserved
 use Rattle.fort_tree.specs.declared.spot.Spot.{Spot}
 use Rattle.fort_tree.specs.declared.spot.Name.{Name}
-use Rattle.fort_tree.specs.declared.spot.NextName.{NextName}
-use Rattle.fort_tree.specs.declared.spot.Sign.{Sign}
 use Rattle.fort_tree.specs.declared.expr.Expr.{Expr}
 use Rattle.fort_tree.specs.declared.types.TypeTree.{TypeTree}
 use Rattle.fort_tree.specs.declared.declarations.Function.{Function}
@@ -30,20 +23,20 @@ use Rattle.fort_tree.specs.declared.declarations.Parameter.{Parameter}
 use Rattle.fort_tree.specs.declared.declarations.Parameters.{Parameters}
 use Rattle.std.specs.Prelude.{◌+◌, ◌==◌, length}
 use Rattle.std.proofs.lemmas.Bool.{eqb-true}
-use Rattle.fort_tree.specs.Tokens.{Spellings, marked, word, named, colon, equals, may_declare}
-use Rattle.fort_tree.specs.Said.{Said, tokens_of, all_tokens, all_obey, maybe_tokens, maybe_obeys, elsewhere, is_there}
+use Rattle.fort_tree.specs.Tokens.{Spellings, marked, word, colon, equals, may_declare}
+use Rattle.fort_tree.specs.Said.{tokens_of, all_tokens, all_obey, maybe_tokens, maybe_obeys, elsewhere, is_there}
 use Rattle.fort_tree.specs.Types.{said_type, said_parameter, said_next_parameter, said_parameters, parameter_count}
 use Rattle.fort_tree.specs.Yield.{said_expr}
 use Rattle.fort_tree.specs.Declarations.{name_first, name_more, name_fits, is_opr, said_function, said_method_parameter, said_next_method_parameter, said_method_parameters, self_count, next_self_count, selves, method_parameter_count, body_tokens, body_obeys, selves_fit, said_method}
-use Rattle.fort_reading.specs.Parser.{Row, accept_run, next_of, many_run}
-use Rattle.fort_reading.specs.Words.{is_mark, is_word, is_eq, same_mark, same_word, sees}
+use Rattle.fort_reading.specs.Parser.{Row, next_of, many_run}
+use Rattle.fort_reading.specs.Words.{is_mark, is_eq, same_mark, sees}
 use Rattle.fort_reading.proofs.Laws.{Gets, reads, ends, gets_then}
-use Rattle.fort_reading.proofs.Taking.{gets_name, gets_mark, gets_word, gets_colon, gets_equals, is_eq_at}
-use Rattle.fort_reading.proofs.Yields.{both, left_true, right_true, false_right, true_right, is_not, all_after, next_stops}
+use Rattle.fort_reading.proofs.Taking.{gets_mark, gets_word, gets_colon, gets_equals, is_eq_at}
+use Rattle.fort_reading.proofs.Yields.{left_true, right_true, false_right, all_after}
 use Rattle.fort_parse_types.proofs.Complete.{type_stops, type_stops_at, stops_at_comma, stops_at_close, complete_type_tree, complete_parameter, complete_next_parameter, complete_maybe_parameters}
 use Rattle.fort_parse.proofs.Statements.{expr_stops}
-use Rattle.fort_syntax.specs.Names.{takes_one, takes_two, sees_second}
-use Rattle.fort_syntax.specs.Methods.{is_self, function_rest, function_from, if_enough, no_second, operator_others, operator_parameters, operator_from, self_parameter, plain_parameter, sees_self, method_parameter_at, next_method_parameter, next_method_parameters, method_list, maybe_method_list, plain_second, self_second, self_first, sees_plain, plain_first, operator_list, with_body, method_body, method_rest, method_from, operator_method_from}
+use Rattle.fort_syntax.specs.Names.{takes_one, takes_two}
+use Rattle.fort_syntax.specs.Methods.{is_self, function_rest, function_from, no_second, operator_others, operator_parameters, operator_from, self_parameter, plain_parameter, sees_self, method_parameter_at, next_method_parameter, next_method_parameters, method_list, maybe_method_list, plain_second, self_second, self_first, sees_plain, plain_first, operator_list, with_body, method_body, method_rest, method_from, operator_method_from}
 use Rattle.fort_syntax.proofs.Parts.{PartLaws}
 use Rattle.fort_syntax.proofs.Followers.{Ended}
 use Rattle.fort_syntax.proofs.NamesComplete.{name_no_mark, name_no_word, sees_mark, sees_word}

@@ -1,19 +1,11 @@
 -- What functions and methods are read from is their tokens, and the rules on operators and `self` hold in them.
-use Rattle.std.proofs.Common.{◌≡◌, ℕ, zero, suc, Bool, true, false, cond, List, [], ◌∷◌, ◌++◌, append_assoc, Option, Some, None, refl, sym, ap, subst, ◌∙◌, arith, rules, inl, inr, ◌⊎◌}
+use Rattle.std.proofs.Common.{◌≡◌, ℕ, Bool, true, false, List, [], ◌∷◌, ◌++◌, append_assoc, Option, Some, None, refl, ap, ◌∙◌, arith, inl, inr, ◌⊎◌}
 use Rattle.std.specs.Prelude.{map, option_map, ◌&&◌, ◌||◌, not}
-use Rattle.fort_ops.specs.declared.op.Op.{Op}
-use Rattle.fort_ops.specs.declared.op.Op.TheVariants as op
-use Rattle.fort_token.specs.declared.token.Kind.{Kind}
-use Rattle.fort_token.specs.declared.token.Kind.TheVariants as kind
 use Rattle.fort_token.specs.declared.token.Token.{Token}
-use Rattle.fort_token.specs.declared.marks.Mark.{Mark}
 use Rattle.fort_token.specs.declared.marks.Mark.TheVariants as mark
-use Rattle.fort_token.specs.declared.reserved.Reserved.{Reserved}
 use Rattle.fort_token.specs.declared.reserved.Reserved.TheVariants as reserved
 use Rattle.fort_tree.specs.declared.spot.Spot.{Spot}
 use Rattle.fort_tree.specs.declared.spot.Name.{Name}
-use Rattle.fort_tree.specs.declared.spot.NextName.{NextName}
-use Rattle.fort_tree.specs.declared.spot.Sign.{Sign}
 use Rattle.fort_tree.specs.declared.declarations.Function.{Function}
 use Rattle.fort_tree.specs.declared.declarations.FunctionName.{FunctionName}
 use Rattle.fort_tree.specs.declared.declarations.FunctionName.TheVariants as function_name
@@ -26,19 +18,19 @@ use Rattle.fort_tree.specs.declared.declarations.NextMethodParameter.{NextMethod
 use Rattle.fort_tree.specs.declared.declarations.NextParameter.{NextParameter}
 use Rattle.fort_tree.specs.declared.declarations.Parameter.{Parameter}
 use Rattle.fort_tree.specs.declared.declarations.Parameters.{Parameters}
-use Rattle.std.specs.Prelude.{◌+◌, ◌==◌, length}
+use Rattle.std.specs.Prelude.{◌+◌, length}
 use Rattle.fort_tree.specs.Tokens.{Spellings, marked, word, named, colon, equals}
-use Rattle.fort_tree.specs.Said.{Said, tokens_of, all_tokens, all_obey, maybe_tokens, maybe_obeys, elsewhere, is_there}
+use Rattle.fort_tree.specs.Said.{tokens_of, maybe_tokens, maybe_obeys, elsewhere, is_there}
 use Rattle.fort_tree.specs.Types.{said_type, said_parameter, said_next_parameter, said_parameters, parameter_count}
 use Rattle.fort_tree.specs.Yield.{said_expr}
-use Rattle.fort_tree.specs.Declarations.{name_first, name_more, name_fits, is_opr, said_function, said_method_parameter, said_next_method_parameter, said_method_parameters, self_count, next_self_count, selves, method_parameter_count, body_tokens, body_obeys, selves_fit, said_method}
-use Rattle.fort_reading.specs.Parser.{Row, accept_run, next_of, many_run}
-use Rattle.fort_reading.specs.Words.{is_mark, is_word, is_eq, sees}
+use Rattle.fort_tree.specs.Declarations.{name_first, name_more, name_fits, said_function, said_method_parameter, said_next_method_parameter, said_method_parameters, self_count, next_self_count, selves, method_parameter_count, body_tokens, body_obeys, selves_fit, said_method}
+use Rattle.fort_reading.specs.Parser.{Row, next_of}
+use Rattle.fort_reading.specs.Words.{is_mark, is_eq, sees}
 use Rattle.fort_reading.proofs.Laws.{Only, only_read, only_failed, only_then, only_if, only_many, only_more}
-use Rattle.fort_reading.proofs.Taking.{only_name, only_mark, only_word, only_colon, only_equals}
-use Rattle.fort_reading.proofs.Yields.{Yields, YieldsAll, YieldsMaybe, both, left_true, right_true, no_more, one_more, only_list, left_out, stands_there, all_after}
+use Rattle.fort_reading.proofs.Taking.{only_mark, only_word, only_colon, only_equals}
+use Rattle.fort_reading.proofs.Yields.{Yields, YieldsAll, YieldsMaybe, both, left_true, no_more, one_more, left_out, stands_there}
 use Rattle.fort_parse_types.proofs.Sound.{sound_type_tree, sound_parameter, sound_next_parameter, sound_maybe_parameters}
-use Rattle.fort_syntax.specs.Names.{takes_one, takes_two, sees_second}
+use Rattle.fort_syntax.specs.Names.{takes_one, sees_second}
 use Rattle.fort_syntax.specs.Methods.{is_self, function_rest, function_from, if_enough, no_second, operator_others, operator_parameters, operator_from, self_parameter, plain_parameter, sees_self, method_parameter_at, next_method_parameter, next_method_parameters, method_list, maybe_method_list, plain_second, self_second, self_first, sees_plain, plain_first, operator_list, with_body, method_body, method_rest, method_from, operator_method_from}
 use Rattle.fort_syntax.proofs.Parts.{PartLaws}
 use Rattle.fort_syntax.proofs.NamesSound.{is_well_named, fits_one, fits_two}

@@ -1,10 +1,9 @@
 -- The tokens of names of types, of functions and of the parameters of objects are read as them.
-use Rattle.std.proofs.Common.{◌≡◌, ℕ, zero, suc, Bool, true, false, cond, List, [], ◌∷◌, ◌++◌, append_assoc, Option, Some, None, refl, sym, ap, subst, ◌∙◌, arith, rules}
-use Rattle.std.specs.Prelude.{map, option_map, ◌&&◌, ◌||◌, not}
+use Rattle.std.proofs.Common.{◌≡◌, ℕ, zero, suc, Bool, true, false, List, [], ◌∷◌, ◌++◌, append_assoc, Option, Some, None, refl}
+use Rattle.std.specs.Prelude.{option_map}
 use Rattle.fort_ops.specs.declared.op.Op.{Op}
 use Rattle.fort_ops.specs.declared.op.Op.TheVariants as op
 use Rattle.fort_token.specs.declared.token.Kind.{Kind}
-use Rattle.fort_token.specs.declared.token.Kind.TheVariants as kind
 use Rattle.fort_token.specs.declared.token.Token.{Token}
 use Rattle.fort_token.specs.declared.marks.Mark.{Mark}
 use Rattle.fort_token.specs.declared.marks.Mark.TheVariants as mark
@@ -27,19 +26,19 @@ use Rattle.fort_tree.specs.declared.declarations.ObjectParameter.{ObjectParamete
 use Rattle.fort_tree.specs.declared.declarations.ObjectParameterList.{ObjectParameterList}
 use Rattle.fort_tree.specs.declared.declarations.ObjectParameters.{ObjectParameters}
 use Rattle.std.specs.Prelude.{codes}
-use Rattle.fort_tree.specs.Tokens.{Spellings, token, marked, word, named, signed, operator, colon, is_spelled, is_name, may_declare}
-use Rattle.fort_tree.specs.Said.{Said, Allowed, tokens_of, all_tokens, all_obey, maybe_tokens, maybe_obeys, semicolon_tokens, elsewhere}
+use Rattle.fort_tree.specs.Tokens.{Spellings, marked, word, named, signed, is_spelled, may_declare}
+use Rattle.fort_tree.specs.Said.{Said, Allowed, tokens_of, maybe_tokens, maybe_obeys, semicolon_tokens, elsewhere}
 use Rattle.fort_tree.specs.Types.{said_type}
 use Rattle.fort_tree.specs.Blocks.{after_var, next_names_tokens}
-use Rattle.fort_tree.specs.Declarations.{name_first, name_more, name_fits, is_opr, names_tokens, extends_tokens, excludes_tokens, comprises_tokens, said_object_parameter, said_next_object_parameter, said_object_parameter_list, said_object_parameters}
-use Rattle.fort_reading.specs.Parser.{Row, accept_run, next_of, many_run}
-use Rattle.fort_reading.specs.Words.{is_mark, is_word, is_called, same_mark, same_word, sees}
+use Rattle.fort_tree.specs.Declarations.{name_more, name_fits, is_opr, names_tokens, extends_tokens, excludes_tokens, comprises_tokens, said_object_parameter, said_next_object_parameter, said_object_parameter_list, said_object_parameters}
+use Rattle.fort_reading.specs.Parser.{Row, next_of, many_run}
+use Rattle.fort_reading.specs.Words.{is_mark, is_word, is_called, same_mark, sees}
 use Rattle.fort_reading.proofs.Laws.{Gets, reads, ends, gets_then, gets_accept}
 use Rattle.fort_reading.proofs.Taking.{gets_name, gets_mark, gets_word, gets_colon, gets_called, is_mark_at, is_word_at}
-use Rattle.fort_reading.proofs.Yields.{both, left_true, right_true, gets_list, next_stops}
+use Rattle.fort_reading.proofs.Yields.{left_true, right_true, gets_list, next_stops}
 use Rattle.fort_parse_types.proofs.Complete.{type_stops, stops_at_comma, stops_at_close, complete_type_tree}
 use Rattle.fort_parse.proofs.Entries.{StopsAfter}
-use Rattle.fort_syntax.specs.Names.{is_declarable, declared_if, declared_of, semicolon, juxtaposition_name, operator_name, opr_name, next_name, next_names, braces, type_names, extends, excludes, comprises, object_typed, var_parameter, object_parameter, next_object_parameter, next_object_parameters, object_parameter_list, maybe_object_list, object_parens, object_parameters}
+use Rattle.fort_syntax.specs.Names.{is_declarable, declared_of, semicolon, juxtaposition_name, operator_name, opr_name, next_name, next_names, braces, type_names, extends, excludes, comprises, object_typed, var_parameter, object_parameter, next_object_parameter, next_object_parameters, object_parameter_list, maybe_object_list, object_parens, object_parameters}
 use Rattle.fort_syntax.proofs.Followers.{Follows}
 
 sees_at : (f : Kind → Bool) (t : Token) (b : Bool) → f t.kind ≡ b → sees f (Some t) ≡ b

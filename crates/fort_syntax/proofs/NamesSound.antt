@@ -1,14 +1,11 @@
 -- What the productions of names of types, of functions and of the parameters of objects are read from is their tokens.
-use Rattle.std.proofs.Common.{◌≡◌, ℕ, zero, suc, Bool, true, false, cond, List, [], ◌∷◌, ◌++◌, append_assoc, Option, Some, None, refl, sym, ap, subst, ◌∙◌, arith, rules}
-use Rattle.std.specs.Prelude.{map, option_map, ◌&&◌, ◌||◌, not}
+use Rattle.std.proofs.Common.{◌≡◌, ℕ, Bool, true, false, cond, List, ◌∷◌, ◌++◌, append_assoc, Option, Some, None, refl, ap, ◌∙◌}
+use Rattle.std.specs.Prelude.{option_map}
 use Rattle.fort_ops.specs.declared.op.Op.{Op}
-use Rattle.fort_ops.specs.declared.op.Op.TheVariants as op
 use Rattle.fort_token.specs.declared.token.Kind.{Kind}
 use Rattle.fort_token.specs.declared.token.Kind.TheVariants as kind
 use Rattle.fort_token.specs.declared.token.Token.{Token}
-use Rattle.fort_token.specs.declared.marks.Mark.{Mark}
 use Rattle.fort_token.specs.declared.marks.Mark.TheVariants as mark
-use Rattle.fort_token.specs.declared.reserved.Reserved.{Reserved}
 use Rattle.fort_token.specs.declared.reserved.Reserved.TheVariants as reserved
 use Rattle.fort_tree.specs.declared.spot.Spot.{Spot}
 use Rattle.fort_tree.specs.declared.spot.Name.{Name}
@@ -26,16 +23,15 @@ use Rattle.fort_tree.specs.declared.declarations.ObjectParameter.{ObjectParamete
 use Rattle.fort_tree.specs.declared.declarations.ObjectParameterList.{ObjectParameterList}
 use Rattle.fort_tree.specs.declared.declarations.ObjectParameters.{ObjectParameters}
 use Rattle.std.specs.Prelude.{codes}
-use Rattle.fort_tree.specs.Tokens.{Spellings, token, marked, word, named, signed, operator, colon, is_spelled, is_name, may_declare}
-use Rattle.fort_tree.specs.Said.{Said, tokens_of, all_tokens, all_obey, maybe_tokens, maybe_obeys, semicolon_tokens, elsewhere}
-use Rattle.fort_tree.specs.Types.{said_type}
-use Rattle.fort_tree.specs.Blocks.{after_var, next_names_tokens}
+use Rattle.fort_tree.specs.Tokens.{Spellings, token, marked, word, named, signed, operator, colon, is_spelled, is_name}
+use Rattle.fort_tree.specs.Said.{tokens_of, maybe_tokens, semicolon_tokens, elsewhere}
+use Rattle.fort_tree.specs.Blocks.{next_names_tokens}
 use Rattle.fort_tree.specs.Declarations.{name_first, name_more, name_fits, is_opr, names_tokens, extends_tokens, excludes_tokens, comprises_tokens, said_object_parameter, said_next_object_parameter, said_object_parameter_list, said_object_parameters}
-use Rattle.fort_reading.specs.Parser.{Row, accept_run, next_of, many_run}
+use Rattle.fort_reading.specs.Parser.{Row, accept_run, next_of}
 use Rattle.fort_reading.specs.Words.{is_mark, is_word, is_called, spot_of, sees}
-use Rattle.fort_reading.proofs.Laws.{Only, only_read, only_failed, only_then, only_if, only_many, only_more, only_token}
+use Rattle.fort_reading.proofs.Laws.{Only, only_read, only_then, only_if, only_many, only_token}
 use Rattle.fort_reading.proofs.Taking.{only_name, only_mark, only_word, only_colon, only_called}
-use Rattle.fort_reading.proofs.Yields.{Yields, YieldsAll, YieldsMaybe, both, left_true, right_true, only_list, left_out, stands_there}
+use Rattle.fort_reading.proofs.Yields.{Yields, YieldsMaybe, both, only_list, left_out, stands_there}
 use Rattle.fort_parse_types.proofs.Sound.{sound_type_tree}
 use Rattle.fort_syntax.specs.Names.{is_declarable, declared_if, declared_in, declared_of, takes_one, takes_two, semicolon, juxtaposition_name, operator_name, opr_name, next_name, next_names, braces, type_names, extends, excludes, comprises, object_typed, var_parameter, object_parameter, next_object_parameter, next_object_parameters, object_parameter_list, maybe_object_list, object_parens, object_parameters}
 

@@ -1,19 +1,7 @@
 -- What the laws of declarations ask of the parsers of expressions and of variables.
-use Rattle.std.proofs.Common.{◌≡◌, ℕ, zero, suc, Bool, true, false, cond, List, [], ◌∷◌, ◌++◌, append_assoc, Option, Some, None, refl, sym, ap, subst, ◌∙◌, arith, rules}
-use Rattle.std.specs.Prelude.{map, option_map, ◌&&◌, ◌||◌, not}
-use Rattle.fort_ops.specs.declared.op.Op.{Op}
-use Rattle.fort_ops.specs.declared.op.Op.TheVariants as op
-use Rattle.fort_token.specs.declared.token.Kind.{Kind}
-use Rattle.fort_token.specs.declared.token.Kind.TheVariants as kind
-use Rattle.fort_token.specs.declared.token.Token.{Token}
-use Rattle.fort_token.specs.declared.marks.Mark.{Mark}
-use Rattle.fort_token.specs.declared.marks.Mark.TheVariants as mark
-use Rattle.fort_token.specs.declared.reserved.Reserved.{Reserved}
-use Rattle.fort_token.specs.declared.reserved.Reserved.TheVariants as reserved
+use Rattle.std.proofs.Common.{◌≡◌, ℕ, true, false, ◌∷◌, ◌++◌, Option}
 use Rattle.fort_tree.specs.declared.spot.Spot.{Spot}
 use Rattle.fort_tree.specs.declared.spot.Name.{Name}
-use Rattle.fort_tree.specs.declared.spot.NextName.{NextName}
-use Rattle.fort_tree.specs.declared.spot.Sign.{Sign}
 use Rattle.fort_tree.specs.declared.expr.Expr.{Expr}
 use Rattle.fort_tree.specs.declared.types.TypeTree.{TypeTree}
 use Rattle.fort_tree.specs.declared.declarations.InitialSign.{InitialSign}
@@ -23,7 +11,7 @@ use Rattle.fort_tree.specs.Tokens.{colon as at_colon}
 use Rattle.fort_tree.specs.Said.{tokens_of, elsewhere}
 use Rattle.fort_tree.specs.Types.{said_type}
 use Rattle.fort_tree.specs.Blocks.{initial_token}
-use Rattle.fort_tree.specs.Yield.{said_expr, said_variable}
+use Rattle.fort_tree.specs.Yield.{said_expr}
 use Rattle.fort_reading.specs.Parser.{Row, next_of}
 use Rattle.fort_reading.proofs.Laws.{Only, Gets}
 use Rattle.fort_reading.proofs.Yields.{Yields}

@@ -1,20 +1,17 @@
 -- Whole token lists: each is read as the one component that has them, or has none, and the fault stands no earlier than it must.
-use Rattle.std.proofs.Common.{◌≡◌, ◌≢◌, ℕ, zero, suc, ◌+◌, ◌≤◌, Bool, true, false, List, [], ◌∷◌, ◌++◌, length, Option, Some, None, refl, sym, ap, subst, ◌∙◌, append_assoc, arith, inl, inr}
+use Rattle.std.proofs.Common.{◌≡◌, ℕ, ◌+◌, false, List, [], ◌∷◌, ◌++◌, length, Some, None, refl, sym, ap, subst, ◌∙◌, append_assoc, arith, inl, inr}
 use Rattle.std.proofs.lemmas.List.{append-nil}
-use Rattle.fort_base.specs.declared.refusal.Place.{Place}
 use Rattle.fort_token.specs.declared.token.Token.{Token}
 use Rattle.fort_token.specs.declared.token.Tokens.{Tokens}
 use Rattle.fort_tree.specs.declared.declarations.Component.{Component}
 use Rattle.fort_tree.specs.Tokens.{Spellings}
-use Rattle.fort_tree.specs.Said.{elsewhere}
-use Rattle.fort_tree.specs.Component.{HasTree, yield, obeys}
-use Rattle.fort_reading.specs.declared.fault.Fault.{Fault}
-use Rattle.fort_reading.specs.declared.fault.Fault.TheVariants.{Syntax, TooDeep, Memory}
-use Rattle.fort_reading.specs.Parser.{Row, Outcome, Read, Failed, next_of, Seen, Locally}
+use Rattle.fort_tree.specs.Component.{HasTree, yield}
+use Rattle.fort_reading.specs.declared.fault.Fault.TheVariants.{Syntax, TooDeep}
+use Rattle.fort_reading.specs.Parser.{Row, Outcome, Read, Failed, next_of, Locally}
 use Rattle.fort_reading.proofs.Laws.{Only, only_then, only_read, only_failed, Gets, reads, ends, gets_then}
 use Rattle.fort_parse.proofs.AllRuns.{sound_expr_at, complete_expr_at, sound_variable_at, complete_variable_at}
 use Rattle.fort_syntax.specs.Declarations.{component, nothing_after, whole}
-use Rattle.fort_syntax.specs.Answer.{HasNone, with_list, BeginsNone, StopsAt, EndsAt, IsEmpty, IsFault, AtMostOne}
+use Rattle.fort_syntax.specs.Answer.{HasNone, StopsAt, IsFault, AtMostOne, last_token, place_or_first, fault_place}
 use Rattle.fort_syntax.proofs.Parts.{PartLaws}
 use Rattle.fort_syntax.proofs.DeclarationsSound.{YieldsComponent, sound_component}
 use Rattle.fort_syntax.proofs.DeclarationsComplete.{complete_component}
@@ -77,7 +74,11 @@ pub stops_at : (names : Spellings) (n : ℕ) (texts : List (List ℕ)) (ts : Row
 stops_at names n texts ts t m h =
     let s = subst (λ o. Locally (whole names n texts).run ts o) h ((whole names n texts).local ts) in
     record {
-      front = s.front; token = t; rest = m; whole = s.whole; place = refl;
+      front = s.front;
+      token = t;
+      rest = m;
+      whole = s.whole;
+      place = refl;
       none = λ others c has.
           let same : (s.front ++ t ∷ []) ++ others ≡ s.front ++ (t ∷ others) = append_assoc s.front (t ∷ []) others in
           not_wrong (t ∷ others) (whole_gets names n texts (s.front ++ (t ∷ others)) c (subst (λ (u : Row). HasTree (of_row names texts u) c) same has)) (s.same t m others refl);
@@ -93,3 +94,20 @@ pub at_most_one : AtMostOne
 at_most_one tokens c d h k =
     let n = length tokens.list + 1 in
     by_first d (whole_gets tokens.names n tokens.texts tokens.list c h) (λ x e. read_is x [] (whole_gets tokens.names n tokens.texts tokens.list d k) e) (not_deep tokens.names tokens.texts tokens.list)
+
+-- ---- where no token is left
+
+-- the last of some tokens ends them
+ends_with : (t : Token) (ts : Row) → (front : Row) × (last : Token) × (t ∷ ts ≡ front ++ last ∷ []) × (last_token (t ∷ ts) ≡ Some last)
+ends_with t [] = ([], t, refl, refl)
+ends_with t (u ∷ us) = let h = ends_with u us in (t ∷ h.0, h.1, ap (λ (x : Row). t ∷ x) h.2, h.3)
+
+ends_early : (names : Spellings) (texts : List (List ℕ)) (ts : Row) → IsFault (of_row names texts ts) (fault_place ts None)
+ends_early names texts [] = inr (inr (record { none = refl; place = refl }))
+ends_early names texts (t ∷ ts) =
+    let h = ends_with t ts in
+    inr (inl (record { front = h.0; token = h.1; whole = h.2; place = ap place_or_first (sym h.3) }))
+
+pub fault_at : (names : Spellings) (n : ℕ) (texts : List (List ℕ)) (ts new : Row) → (whole names n texts).run ts ≡ Failed Syntax new → IsFault (of_row names texts ts) (fault_place ts (next_of new))
+fault_at names n texts ts [] h = ends_early names texts ts
+fault_at names n texts ts (t ∷ m) h = inl (stops_at names n texts ts t m h)

@@ -1,8 +1,7 @@
 -- The chapter "Grammar": what reading a token list answers: its one component, or the first broken rule of 202, 201 and 203 with
 -- its place. The code reads the tokens once, from left to right.
-use Rattle.std.specs.Prelude.{◌≡◌, ◌⊎◌, ℕ, List, [], ◌∷◌, ◌++◌, Result, Ok, Err}
+use Rattle.std.specs.Prelude.{◌≡◌, ◌⊎◌, ℕ, List, [], ◌∷◌, ◌++◌, Option, Some, None, Result, Ok, Err}
 use Rattle.fort_base.specs.declared.refusal.Place.{Place}
-use Rattle.fort_base.specs.declared.refusal.Rule.{Rule}
 use Rattle.fort_base.specs.declared.refusal.CheckFault.{CheckFault}
 use Rattle.fort_base.specs.declared.refusal.CheckFault.TheVariants as a_fault
 use Rattle.fort_token.specs.declared.token.Token.{Token}
@@ -62,6 +61,28 @@ pub data Breaks (tokens : Tokens) : ℕ → Place → Type 0 where
   TooDeep : {at : Place} → FirstDeep tokens.list at → Breaks tokens 202 at
   Syntax : {at : Place} → AllShallow tokens.list → HasNone tokens → IsFault tokens at → Breaks tokens 201 at
   TooMany : {at : Place} → AllShallow tokens.list → (c : Component) → HasTree tokens c → BreaksLimit c at → Breaks tokens 203 at
+
+-- What reading answers, depth and limits aside: the one tree, or 201 at a fault of tokens that have none.
+abbrev pub Reading : Tokens → Result Component CheckFault → Type 0
+Reading tokens (Ok c) = HasTree tokens c × ((other : Component) → HasTree tokens other → other ≡ c)
+Reading tokens (Err (a_fault.Refused rule at)) = (rule.0 ≡ 201) × HasNone tokens × IsFault tokens at
+Reading tokens (Err a_fault.Memory) = Unit {0}
+
+-- the last of some tokens
+abbrev pub last_token : List Token → Option Token
+last_token [] = None
+last_token (t ∷ []) = Some t
+last_token (t ∷ u ∷ ts) = last_token (u ∷ ts)
+
+-- the place of a token, or the first one of a file
+abbrev pub place_or_first : Option Token → Place
+place_or_first (Some t) = t.place
+place_or_first None = record { line = 1; column = 1 }
+
+-- the place of a fault, by the token that is next there
+abbrev pub fault_place : List Token → Option Token → Place
+fault_place ts (Some t) = t.place
+fault_place ts None = place_or_first (last_token ts)
 
 -- What is answered is what the tokens have.
 abbrev pub Answers : Tokens → Result Component CheckFault → Type 0

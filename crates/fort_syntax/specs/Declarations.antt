@@ -1,25 +1,18 @@
 -- The productions of declarations and components as parsers.
-use Rattle.std.specs.Prelude.{ℕ, zero, suc, Bool, true, false, ◌&&◌, ◌||◌, not, if◌then◌else◌, List, [], ◌∷◌, Option, Some, None, codes}
-use Rattle.fort_ops.specs.declared.op.Op.{Op}
-use Rattle.fort_ops.specs.declared.op.Op.TheVariants as op
+use Rattle.std.specs.Prelude.{ℕ, Bool, true, false, List, Option, Some, None, codes}
 use Rattle.fort_token.specs.declared.token.Kind.{Kind}
 use Rattle.fort_token.specs.declared.token.Kind.TheVariants as kind
 use Rattle.fort_token.specs.declared.token.Token.{Token}
-use Rattle.fort_token.specs.declared.marks.Mark.{Mark}
 use Rattle.fort_token.specs.declared.marks.Mark.TheVariants as mark
 use Rattle.fort_token.specs.declared.reserved.Reserved.{Reserved}
 use Rattle.fort_token.specs.declared.reserved.Reserved.TheVariants as reserved
 use Rattle.fort_tree.specs.declared.spot.Spot.{Spot}
 use Rattle.fort_tree.specs.declared.spot.Name.{Name}
-use Rattle.fort_tree.specs.declared.spot.NextName.{NextName}
-use Rattle.fort_tree.specs.declared.spot.Sign.{Sign}
 use Rattle.fort_tree.specs.declared.declarations.Component.{Component}
 use Rattle.fort_tree.specs.declared.declarations.Declaration.{Declaration}
 use Rattle.fort_tree.specs.declared.declarations.Declaration.TheVariants as declaration
 use Rattle.fort_tree.specs.declared.declarations.Declared.{Declared}
 use Rattle.fort_tree.specs.declared.declarations.Export.{Export}
-use Rattle.fort_tree.specs.declared.declarations.Extends.{Extends}
-use Rattle.fort_tree.specs.declared.declarations.FunctionName.{FunctionName}
 use Rattle.fort_tree.specs.declared.declarations.FunctionName.TheVariants as function_name
 use Rattle.fort_tree.specs.declared.declarations.Object.{Object}
 use Rattle.fort_tree.specs.declared.declarations.ObjectEntry.{ObjectEntry}
@@ -30,9 +23,9 @@ use Rattle.fort_tree.specs.declared.declarations.Trait.{Trait}
 use Rattle.fort_tree.specs.declared.declarations.TraitEntry.{TraitEntry}
 use Rattle.fort_tree.specs.declared.declarations.TraitMember.{TraitMember}
 use Rattle.fort_tree.specs.declared.declarations.TraitMember.TheVariants as trait_member
-use Rattle.fort_tree.specs.Tokens.{Spellings, is_name}
-use Rattle.fort_reading.specs.Parser.{Parser, Eater, pure, wrong, ◌>>=◌, look, fork, fork_eater, token, accept, choose, no_eater, ◌>>>◌, ◌>>|◌, chain, many, same_budget}
-use Rattle.fort_reading.specs.Words.{is_mark, is_word, is_range, is_eq, spot_of, spot_if, name_of, called_of, sees}
+use Rattle.fort_tree.specs.Tokens.{Spellings}
+use Rattle.fort_reading.specs.Parser.{Parser, Eater, pure, wrong, ◌>>=◌, look, fork, fork_eater, token, accept, choose, no_eater, ◌>>|◌, chain, same_budget}
+use Rattle.fort_reading.specs.Words.{is_mark, is_word, is_range, spot_if, name_of, called_of, sees}
 use Rattle.fort_parse_types.specs.Types.{type_tree}
 use Rattle.fort_parse.specs.Beginnings.{begins_apart_of}
 use Rattle.fort_parse.specs.Blocks.{is_ended}

@@ -1,22 +1,12 @@
 -- The productions of functions and methods as parsers. Where an operator is declared, the number of its parameters and the `self`
 -- among them are asked at the token where they can fail first.
-use Rattle.std.specs.Prelude.{ℕ, zero, suc, Bool, true, false, ◌&&◌, ◌||◌, not, if◌then◌else◌, List, [], ◌∷◌, Option, Some, None, codes}
-use Rattle.fort_ops.specs.declared.op.Op.{Op}
-use Rattle.fort_ops.specs.declared.op.Op.TheVariants as op
-use Rattle.fort_token.specs.declared.token.Kind.{Kind}
-use Rattle.fort_token.specs.declared.token.Kind.TheVariants as kind
+use Rattle.std.specs.Prelude.{ℕ, Bool, true, false, ◌&&◌, ◌||◌, not, List, [], ◌∷◌, Option, Some, None}
 use Rattle.fort_token.specs.declared.token.Token.{Token}
-use Rattle.fort_token.specs.declared.marks.Mark.{Mark}
 use Rattle.fort_token.specs.declared.marks.Mark.TheVariants as mark
-use Rattle.fort_token.specs.declared.reserved.Reserved.{Reserved}
 use Rattle.fort_token.specs.declared.reserved.Reserved.TheVariants as reserved
 use Rattle.fort_tree.specs.declared.spot.Spot.{Spot}
-use Rattle.fort_tree.specs.declared.spot.Name.{Name}
-use Rattle.fort_tree.specs.declared.spot.NextName.{NextName}
-use Rattle.fort_tree.specs.declared.spot.Sign.{Sign}
 use Rattle.fort_tree.specs.declared.declarations.Function.{Function}
 use Rattle.fort_tree.specs.declared.declarations.FunctionName.{FunctionName}
-use Rattle.fort_tree.specs.declared.declarations.FunctionName.TheVariants as function_name
 use Rattle.fort_tree.specs.declared.declarations.Method.{Method}
 use Rattle.fort_tree.specs.declared.declarations.MethodBody.{MethodBody}
 use Rattle.fort_tree.specs.declared.declarations.MethodParameter.{MethodParameter}
@@ -24,11 +14,10 @@ use Rattle.fort_tree.specs.declared.declarations.MethodParameter.TheVariants as 
 use Rattle.fort_tree.specs.declared.declarations.MethodParameters.{MethodParameters}
 use Rattle.fort_tree.specs.declared.declarations.NextMethodParameter.{NextMethodParameter}
 use Rattle.fort_tree.specs.declared.declarations.NextParameter.{NextParameter}
-use Rattle.fort_tree.specs.declared.declarations.Parameter.{Parameter}
 use Rattle.fort_tree.specs.declared.declarations.Parameters.{Parameters}
 use Rattle.fort_tree.specs.Tokens.{Spellings}
-use Rattle.fort_reading.specs.Parser.{Parser, Eater, pure, wrong, ◌>>=◌, look, fork, fork_eater, token, accept, choose, no_eater, ◌>>>◌, ◌>>|◌, chain, many, same_budget}
-use Rattle.fort_reading.specs.Words.{is_mark, is_word, is_range, is_eq, spot_of, spot_if, name_of, called_of, sees}
+use Rattle.fort_reading.specs.Parser.{Parser, Eater, pure, wrong, ◌>>=◌, fork, fork_eater, token, accept, ◌>>|◌, chain, same_budget}
+use Rattle.fort_reading.specs.Words.{is_mark, is_word, is_range, is_eq, spot_if, sees}
 use Rattle.fort_parse_types.specs.Types.{type_tree, parameter, next_parameter, maybe_parameters}
 use Rattle.fort_parse.specs.Runs.{expr_at}
 use Rattle.fort_syntax.specs.Names.{takes_one, takes_two, sees_second}

@@ -1,13 +1,11 @@
 -- The productions of names of types, of the names of functions and of parameters as parsers.
-use Rattle.std.specs.Prelude.{ℕ, zero, suc, Bool, true, false, ◌&&◌, ◌||◌, not, if◌then◌else◌, List, [], ◌∷◌, Option, Some, None, codes}
+use Rattle.std.specs.Prelude.{ℕ, Bool, true, false, ◌&&◌, if◌then◌else◌, List, Option, Some, None, codes}
 use Rattle.fort_ops.specs.declared.op.Op.{Op}
 use Rattle.fort_ops.specs.declared.op.Op.TheVariants as op
 use Rattle.fort_token.specs.declared.token.Kind.{Kind}
 use Rattle.fort_token.specs.declared.token.Kind.TheVariants as kind
 use Rattle.fort_token.specs.declared.token.Token.{Token}
-use Rattle.fort_token.specs.declared.marks.Mark.{Mark}
 use Rattle.fort_token.specs.declared.marks.Mark.TheVariants as mark
-use Rattle.fort_token.specs.declared.reserved.Reserved.{Reserved}
 use Rattle.fort_token.specs.declared.reserved.Reserved.TheVariants as reserved
 use Rattle.fort_tree.specs.declared.spot.Spot.{Spot}
 use Rattle.fort_tree.specs.declared.spot.Name.{Name}
@@ -25,8 +23,8 @@ use Rattle.fort_tree.specs.declared.declarations.ObjectParameter.{ObjectParamete
 use Rattle.fort_tree.specs.declared.declarations.ObjectParameterList.{ObjectParameterList}
 use Rattle.fort_tree.specs.declared.declarations.ObjectParameters.{ObjectParameters}
 use Rattle.fort_tree.specs.Tokens.{Spellings, is_name, may_declare}
-use Rattle.fort_reading.specs.Parser.{Parser, Eater, pure, wrong, ◌>>=◌, look, fork, fork_eater, token, accept, choose, no_eater, ◌>>>◌, ◌>>|◌, chain, many, same_budget}
-use Rattle.fort_reading.specs.Words.{is_mark, is_word, is_range, is_eq, spot_of, spot_if, name_of, called_of, sees}
+use Rattle.fort_reading.specs.Parser.{Parser, Eater, pure, ◌>>=◌, fork, fork_eater, token, accept, ◌>>|◌, many}
+use Rattle.fort_reading.specs.Words.{is_mark, is_word, is_range, spot_of, spot_if, name_of, called_of, sees}
 use Rattle.fort_parse_types.specs.Types.{type_tree}
 
 -- ---- what `opr` may declare
