@@ -1,0 +1,8 @@
+//! The meets of two declared types: the highest declared types below both, over the rows of a hierarchy.
+#![tactic(auto)]
+
+mod meeting;
+#[cfg(test)]
+mod tests;
+
+pub use meeting::meets;
