@@ -1,0 +1,4 @@
+pub mod Earliest
+pub mod Heads
+pub mod Sentences
+pub mod Walks
