@@ -1,3 +1,5 @@
 pub mod First
 pub mod Lists
 pub mod ByRows
+pub mod SeenLaws
+pub mod NamesWalk
