@@ -63,9 +63,14 @@ both_told h table a r t l w = (there, back)
         (s.0, n.0, (s.1, s.2, n.1), path_of h table.below a s.0 t.below s.3, elim n.2 as (λ _. (n.0 ≡ length h) ⊎ Path h a n.0) [ inl e ↦ inl e | inr q ↦ inr (path_of h table.below a n.0 t.below q) ])
 
     back : IsBelowBoth h a → IsTrue r
-    back v = w.1 (v.0, v.2.0, v.2.1, set_of h table.below a v.0 t.below l v.3,
-        some_of (λ n. (n ≡ length h) ⊎ IsTrue (is_set table.below a n)) v.2.0.excludes v.1 v.2.2
-        (elim v.4 as (λ _. (v.1 ≡ length h) ⊎ IsTrue (is_set table.below a v.1)) [ inl e ↦ inl e | inr p ↦ inr (set_of h table.below a v.1 t.below l p) ]))
+    back v = w.1 (
+      v.0,
+      v.2.0,
+      v.2.1,
+      set_of h table.below a v.0 t.below l v.3,
+      some_of (λ n. (n ≡ length h) ⊎ IsTrue (is_set table.below a n)) v.2.0.excludes v.1 v.2.2
+          (elim v.4 as (λ _. (v.1 ≡ length h) ⊎ IsTrue (is_set table.below a v.1)) [ inl e ↦ inl e | inr p ↦ inr (set_of h table.below a v.1 t.below l p) ]),
+    )
 
 pub unlisted_told : (h : Hierarchy) (a : ℕ) (d : Declared) (r : Bool) → slice_get h a ≡ Some d → IsTrue r ↔ SomeUnlisted h d.extends a → IsTrue r ↔ IsNotListed h a
 unlisted_told h a d r e w = (there, back)

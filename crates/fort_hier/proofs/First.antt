@@ -43,19 +43,19 @@ first_more Q to None kept place q u k f = subst (IsFirst (Among Q (to + 1))) (sy
 })
 first_more Q to (Some best) kept place q u k f = elim k as (λ _. IsFirst (Among Q (to + 1)) kept) [
   | inl w ↦ subst (IsFirst (Among Q (to + 1))) (sym w.1) (record {
-      breaks = (f.breaks.0, let l = f.breaks.1 in omega arith, f.breaks.2);
-      none_before = λ other v b. elim (near v.0 to v.1) as (λ _. ⊥) [
-        | inl l ↦ f.none_before other (v.0, l, v.2) b
-        | inr e ↦ (let s : other ≡ place = u other (subst (λ z. Q z other) e v.2) in not_itself best (through best place best w.0 (subst (λ z. IsBefore z best) s b)))
-      ];
-    })
+    breaks = (f.breaks.0, let l = f.breaks.1 in omega arith, f.breaks.2);
+    none_before = λ other v b. elim (near v.0 to v.1) as (λ _. ⊥) [
+      | inl l ↦ f.none_before other (v.0, l, v.2) b
+      | inr e ↦ (let s : other ≡ place = u other (subst (λ z. Q z other) e v.2) in not_itself best (through best place best w.0 (subst (λ z. IsBefore z best) s b)))
+    ];
+  })
   | inr w ↦ subst (IsFirst (Among Q (to + 1))) (sym w.1) (record {
-      breaks = (to, omega arith, q);
-      none_before = λ other v b. elim (near v.0 to v.1) as (λ _. ⊥) [
-        | inl l ↦ not_before other best place (f.none_before other (v.0, l, v.2)) w.0 b
-        | inr e ↦ not_itself place (subst (λ z. IsBefore z place) (u other (subst (λ z. Q z other) e v.2)) b)
-      ];
-    })
+    breaks = (to, omega arith, q);
+    none_before = λ other v b. elim (near v.0 to v.1) as (λ _. ⊥) [
+      | inl l ↦ not_before other best place (f.none_before other (v.0, l, v.2)) w.0 b
+      | inr e ↦ not_itself place (subst (λ z. IsBefore z place) (u other (subst (λ z. Q z other) e v.2)) b)
+    ];
+  })
 ]
   where
     through : (a b c : Place) → IsBefore a b → IsBefore b c → IsBefore a c

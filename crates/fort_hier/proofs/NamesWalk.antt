@@ -72,17 +72,22 @@ module _ (names : List Spelling) (tops : List Top) where
   here : (i : ℕ) (t : Top) (place : Place) → slice_get tops i ≡ Some t → D (length built_in + i) place
       → ClashesWith (built_in ++ map (called names) (take i tops)) (spelling names t.name) t.is_function × (place ≡ t.name.spot.place)
   here i t place e w = let g : slice_get (all_called names tops) (length built_in + i) ≡ Some (called names t) = at_is (called names) built_in tops i t e in
-      let s : called names t ≡ w.0 = same (all_called names tops) (length built_in + i) (called names t) w.0 g w.1 in
-      (subst (λ l. ClashesWith l (spelling names t.name) t.is_function) (front_is (called names) built_in tops i)
-          (subst (λ (z : Called). ClashesWith (take (length built_in + i) (all_called names tops)) z.spelling z.is_function) (sym s) w.2),
-       let p : Some place ≡ Some t.name.spot.place = sym w.3 ∙ ap (λ (z : Called). z.place) (sym s) in cc)
+      let s : called names t ≡ w.0 = same (all_called names tops) (length built_in + i) (called names t) w.0 g w.1 in (
+        subst (λ l. ClashesWith l (spelling names t.name) t.is_function) (front_is (called names) built_in tops i)
+            (subst (λ (z : Called). ClashesWith (take (length built_in + i) (all_called names tops)) z.spelling z.is_function) (sym s) w.2),
+        let p : Some place ≡ Some t.name.spot.place = sym w.3 ∙ ap (λ (z : Called). z.place) (sym s) in cc,
+      )
     where
       same : (xs : List Called) (k : ℕ) (x y : Called) → slice_get xs k ≡ Some x → slice_get xs k ≡ Some y → x ≡ y
       same xs k x y p q = cc
 
   there : (i : ℕ) (t : Top) → slice_get tops i ≡ Some t → ClashesWith (built_in ++ map (called names) (take i tops)) (spelling names t.name) t.is_function → D (length built_in + i) t.name.spot.place
-  there i t e c = (called names t, at_is (called names) built_in tops i t e,
-      subst (λ l. ClashesWith l (spelling names t.name) t.is_function) (sym (front_is (called names) built_in tops i)) c, refl)
+  there i t e c = (
+    called names t,
+    at_is (called names) built_in tops i t e,
+    subst (λ l. ClashesWith l (spelling names t.name) t.is_function) (sym (front_is (called names) built_in tops i)) c,
+    refl,
+  )
 
   next : (i : ℕ) → (length built_in + i) + 1 ≡ length built_in + (i + 1)
   next i = omega arith
@@ -103,7 +108,7 @@ module _ (names : List Spelling) (tops : List Top) where
 
 -- ---- the map along the walk
 
-take_all : {X : Type 0} (xs : List X) (n : ℕ) → length xs ≤ n → take n xs ≡ xs
+pub take_all : {X : Type 0} (xs : List X) (n : ℕ) → length xs ≤ n → take n xs ≡ xs
 take_all [] zero l = refl
 take_all [] (suc n) l = refl
 take_all (x ∷ xs) zero l = absurd (omega arith)
@@ -136,7 +141,7 @@ pub functions_step : (old new : Seen) (n : ℕ) (word : Spelling) → n < 6 → 
     → HoldsSeen (map type_called type_spellings ++ map function_called (take (n + 1) function_spellings)) new
 functions_step old new n word l e h s = let k = functions_count in
     subst (λ z. HoldsSeen z new) (append_assoc (map type_called type_spellings) (map function_called (take n function_spellings)) (function_called (get_or function_spellings n []) ∷ [])
-        ∙ ap (λ z. map type_called type_spellings ++ z) (next_of function_called function_spellings n (omega arith)))
+    ∙ ap (λ z. map type_called type_spellings ++ z) (next_of function_called function_spellings n (omega arith)))
     (h (map type_called type_spellings ++ map function_called (take n function_spellings)) (function_called (get_or function_spellings n [])) s (sym e) refl)
 
 pub functions_first : (seen : Seen) → HoldsSeen (map type_called type_spellings) seen → HoldsSeen (map type_called type_spellings ++ map function_called (take 0 function_spellings)) seen

@@ -10,8 +10,11 @@ use Rattle.fort_hier.specs.Seen.{seen_as, Stands, Functions, Others, Known, Hold
 
 -- a name clashes exactly where functions don't have the spelling alone
 clash_by : (before : List Called) (s : Spelling) (f b : Bool) → Known before s (Some b) → IsTrue (not (b && f)) ↔ ClashesWith before s f
-clash_by before s true true k = (λ e. let g : false ≡ true = e in absurd cc, λ w. let g : w.0.is_function ≡ true = k.1.each w.0 w.1 w.2 in let h : (w.0.is_function && true) ≡ false = w.3 in
-    let i : (true && true) ≡ false = ap (λ z. z && true) (sym g) ∙ h in absurd cc)
+clash_by before s true true k = (
+  λ e. let g : false ≡ true = e in absurd cc,
+  λ w. let g : w.0.is_function ≡ true = k.1.each w.0 w.1 w.2 in let h : (w.0.is_function && true) ≡ false = w.3 in
+      let i : (true && true) ≡ false = ap (λ z. z && true) (sym g) ∙ h in absurd cc,
+)
 clash_by before s false true k = (λ e. (k.0.name, k.0.within, k.0.spelled, ap (λ z. z && false) (k.1.each k.0.name k.0.within k.0.spelled)), λ w. refl)
 clash_by before s f false k = (λ e. (k.stands.name, k.stands.within, k.stands.spelled, ap (λ z. z && f) k.other), λ w. refl)
 
@@ -34,25 +37,40 @@ known_keep before x v None n k = λ w. elim (Contains-push_cases before x w.name
   | inl d ↦ k (record { name = w.name; within = d; spelled = w.spelled })
   | inr e ↦ n (ap (λ (z : Called). z.spelling) e ∙ w.spelled)
 ]
-known_keep before x v (Some true) n k = (more_stands before x v k.0, record { each = λ y w q. elim (Contains-push_cases before x y w) as (λ _. y.is_function ≡ true) [
-  | inl d ↦ k.1.each y d q
-  | inr e ↦ absurd (n (ap (λ (z : Called). z.spelling) e ∙ q))
-] })
+known_keep before x v (Some true) n k = (
+  more_stands before x v k.0,
+  record {
+    each = λ y w q. elim (Contains-push_cases before x y w) as (λ _. y.is_function ≡ true) [
+      | inl d ↦ k.1.each y d q
+      | inr e ↦ absurd (n (ap (λ (z : Called). z.spelling) e ∙ q))
+    ];
+  },
+)
 known_keep before x v (Some false) n k = record { stands = more_stands before x v k.stands; other = k.other }
 
 -- the spelling of the new name
 known_new : (before : List Called) (x : Called) (s : Spelling) → x.spelling ≡ s → Known before s None → (b : Bool) → x.is_function ≡ b → Known (before ++ x ∷ []) s (Some b)
-known_new before x s p k true f = (record { name = x; within = Contains-push before x; spelled = p }, record { each = λ y w q. elim (Contains-push_cases before x y w) as (λ _. y.is_function ≡ true) [
-  | inl d ↦ absurd (k (record { name = y; within = d; spelled = q }))
-  | inr e ↦ ap (λ (z : Called). z.is_function) (sym e) ∙ f
-] })
+known_new before x s p k true f = (
+  record { name = x; within = Contains-push before x; spelled = p },
+  record {
+    each = λ y w q. elim (Contains-push_cases before x y w) as (λ _. y.is_function ≡ true) [
+      | inl d ↦ absurd (k (record { name = y; within = d; spelled = q }))
+      | inr e ↦ ap (λ (z : Called). z.is_function) (sym e) ∙ f
+    ];
+  },
+)
 known_new before x s p k false f = record { stands = record { name = x; within = Contains-push before x; spelled = p }; other = f }
 
 known_again : (before : List Called) (x : Called) (s : Spelling) (b : Bool) → x.spelling ≡ s → Known before s (Some b) → (f : Bool) → x.is_function ≡ f → Known (before ++ x ∷ []) s (Some (b && f))
-known_again before x s true p k true f = (more_stands before x s k.0, record { each = λ y w q. elim (Contains-push_cases before x y w) as (λ _. y.is_function ≡ true) [
-  | inl d ↦ k.1.each y d q
-  | inr e ↦ ap (λ (z : Called). z.is_function) (sym e) ∙ f
-] })
+known_again before x s true p k true f = (
+  more_stands before x s k.0,
+  record {
+    each = λ y w q. elim (Contains-push_cases before x y w) as (λ _. y.is_function ≡ true) [
+      | inl d ↦ k.1.each y d q
+      | inr e ↦ ap (λ (z : Called). z.is_function) (sym e) ∙ f
+    ];
+  },
+)
 known_again before x s true p k false f = record { stands = record { name = x; within = Contains-push before x; spelled = p }; other = f }
 known_again before x s false p k g f = record { stands = more_stands before x s k.stands; other = k.other }
 

@@ -1,4 +1,4 @@
--- The chapter "Refusals", places: of several places of one rule the earliest is reported. The code keeps the earliest so far.
+-- The chapter "Types", the rules of a hierarchy: of several places of one rule the earliest is reported. The code keeps the earliest so far.
 use Rattle.std.specs.Prelude.{◌≡◌, ◌⊎◌, ◌<◌, ℕ, Option, Some, None}
 use Rattle.fort_base.specs.declared.refusal.Place.{Place}
 use Rattle.fort_tree.specs.Limits.{IsBefore}

@@ -1,4 +1,4 @@
--- The chapter "Types", declarations: the heads of a component's types. The code walks the declarations once.
+-- The chapter "Types", names at the top: the heads of a component's types. The code walks the declarations once.
 use Rattle.std.specs.Prelude.{ℕ, ◌+◌, List, [], ◌∷◌, ◌++◌, Option, Some, None, map}
 use Rattle.fort_types.specs.declared.hierarchy.Kind.TheVariants as a_kind
 use Rattle.fort_tree.specs.declared.declarations.Component.{Component}

@@ -1,4 +1,4 @@
--- The chapter "Types", names: the names at the top of a component. The code walks the declarations once.
+-- The chapter "Types", names at the top: the names at the top of a component. The code walks the declarations once.
 use Rattle.std.specs.Prelude.{Bool, true, false, ◌||◌, cond, List, [], ◌∷◌, ◌++◌, Option, Some, None}
 use Rattle.std.specs.List.{flat_map}
 use Rattle.fort_tree.specs.declared.declarations.Component.{Component}

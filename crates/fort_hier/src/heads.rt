@@ -117,7 +117,12 @@ fn names_in(alloc: Global, names: &Names) -> Result<List<Name>, Memory>
 {
     match names {
         Names::One(name) => one_name(alloc, *name),
-        Names::Braces { left: _, first, others, right: _ } => {
+        Names::Braces {
+            left: _,
+            first,
+            others,
+            right: _,
+        } => {
             let mut list = one_name(alloc, *first)?;
             add_names(others.as_slice(), &mut list)?;
             Ok(list)

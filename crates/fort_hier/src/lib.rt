@@ -4,10 +4,17 @@
 mod duplicates;
 mod earliest;
 mod heads;
+mod lowest;
+mod numbers;
 mod seen;
 mod sentences;
 mod spelled;
+#[cfg(test)]
+mod tests;
 mod tops;
+mod types;
+mod unknown;
 mod walks;
 
+pub use lowest::{BrokenSentence, lowest_broken};
 pub use sentences::{Sentence, first_broken};

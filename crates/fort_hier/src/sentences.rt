@@ -70,11 +70,7 @@ fn is_on_cycle(types: &[Declared], table: &TypeTable, a: usize) -> bool
     requires inside { a < length types.now }
     ensures { IsTrue result ↔ IsOnCycle types.now a }
 {
-    any_set(
-        table.below.as_slice(),
-        types[a].extends.as_slice(),
-        a,
-    )
+    any_set(table.below.as_slice(), types[a].extends.as_slice(), a)
 }
 
 /// Whether a type extends an object or a leaf.
@@ -112,9 +108,5 @@ fn lists_other(types: &[Declared], table: &TypeTable, a: usize) -> bool
     requires inside { a < length types.now }
     ensures { IsTrue result ↔ ListsOther types.now a }
 {
-    any_not_set(
-        table.below.as_slice(),
-        types[a].comprises.as_slice(),
-        a,
-    )
+    any_not_set(table.below.as_slice(), types[a].comprises.as_slice(), a)
 }

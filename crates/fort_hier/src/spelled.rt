@@ -8,6 +8,9 @@ use fort_tree::Name;
 /// How many names of types are built in, `Any` among them.
 pub const TYPE_NAMES: usize = 18;
 
+/// How many of these are names of declared types.
+pub const DECLARED_NAMES: usize = 17;
+
 /// How many names of functions are built in.
 pub const FUNCTION_NAMES: usize = 6;
 

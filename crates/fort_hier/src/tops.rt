@@ -51,7 +51,10 @@ fn add_top(declaration: &Declaration, list: &mut List<Top>) -> Result<(), Memory
 fn add_named(name: Name, list: &mut List<Top>) -> Result<(), Memory>
     ensures { OnOk result (list.new ≡ list.old ++ named_top name) }
 {
-    list.push(Top { name, is_function: false })
+    list.push(Top {
+        name,
+        is_function: false,
+    })
 }
 
 /// Adds the name of a function, where it has one and no operator.
@@ -59,7 +62,10 @@ fn add_function(name: FunctionName, list: &mut List<Top>) -> Result<(), Memory>
     ensures { OnOk result (list.new ≡ list.old ++ function_top name) }
 {
     match name {
-        FunctionName::Name(name) => list.push(Top { name, is_function: true }),
+        FunctionName::Name(name) => list.push(Top {
+            name,
+            is_function: true,
+        }),
         FunctionName::Operator(_, _) => Ok(()),
         FunctionName::Juxtaposition(_, _) => Ok(()),
     }
@@ -81,7 +87,11 @@ fn add_trait_member(member: &TraitMember, list: &mut List<Top>) -> Result<(), Me
 {
     match member {
         TraitMember::Method(method) => add_method(method, list),
-        TraitMember::Field { name: _, colon: _, ty: _ } => Ok(()),
+        TraitMember::Field {
+            name: _,
+            colon: _,
+            ty: _,
+        } => Ok(()),
     }
 }
 

@@ -1,0 +1,189 @@
+//! Hierarchies that are worked out by hand, and large ones.
+use crate::lowest::lowest_broken;
+use crate::sentences::Sentence;
+use fort_base::{List, Memory, Place};
+use fort_types::{Declared, Kind, rows};
+use std::alloc::Global;
+use std::process::Abort;
+use std::test::Fail;
+
+fn declared(alloc: Global, kind: Kind, lists: [&[usize]; 3]) -> Result<Declared, Memory> {
+    Ok(Declared {
+        kind,
+        extends: List::from_slice(alloc, lists[0])?,
+        excludes: List::from_slice(alloc, lists[1])?,
+        comprises: List::from_slice(alloc, lists[2])?,
+    })
+}
+
+/// A place for each type but the first, line by line.
+fn places(alloc: Global, count: usize) -> Result<List<Place>, Memory> {
+    let mut list = List::new(alloc);
+    let mut line = 1;
+    for _ in 0..count {
+        list.push(Place { line, column: 7 })?;
+        if line < 1_000_000 {
+            line += 1;
+        }
+    }
+    Ok(list)
+}
+
+/// The number of the broken sentence and its line, or 0 and 0.
+fn broken(rt: &impl Abort, alloc: Global, types: &[Declared]) -> Result<(u32, u32), Memory> {
+    assert!(rt; types.len() > 0);
+    let table = rows(alloc, types)?;
+    let places = places(alloc, types.len() - 1)?;
+    assert!(rt; places.len() <= types.len());
+    Ok(match lowest_broken(types, &table, places.as_slice()) {
+        Some(found) => (number(found.sentence), found.place.line),
+        None => (0, 0),
+    })
+}
+
+fn number(sentence: Sentence) -> u32 {
+    match sentence {
+        Sentence::Cyclic => 403,
+        Sentence::ExtendsObject => 404,
+        Sentence::ExtendsExcluded => 405,
+        Sentence::NotComprised => 406,
+        Sentence::ComprisedNotBelow => 407,
+    }
+}
+
+/// `Object`, and three types whose lists are given.
+fn three(
+    alloc: Global,
+    kinds: [Kind; 3],
+    lists: [[&[usize]; 3]; 3],
+) -> Result<List<Declared>, Memory> {
+    let mut types = List::new(alloc);
+    types.push(declared(alloc, Kind::Trait, [&[], &[], &[]])?)?;
+    for i in 0..3 {
+        types.push(declared(alloc, kinds[i], lists[i])?)?;
+    }
+    Ok(types)
+}
+
+const TRAITS: [Kind; 3] = [Kind::Trait, Kind::Trait, Kind::Trait];
+
+#[test]
+fn each_sentence_is_broken_at_its_type(rt: HostRuntime) -> Result<(), Fail> {
+    let none: &[usize] = &[];
+    let object: &[usize] = &[0];
+    let rows = [
+        (
+            [[object, none, none], [&[1], none, none], [&[2], none, none]],
+            (0, 0),
+        ),
+        (
+            [[&[2], none, none], [&[1], none, none], [&[2], none, none]],
+            (403, 1),
+        ),
+        (
+            [
+                [object, none, none],
+                [object, &[1], none],
+                [&[1, 2], none, none],
+            ],
+            (405, 3),
+        ),
+        (
+            [
+                [object, &[4], none],
+                [object, none, none],
+                [&[2], none, none],
+            ],
+            (405, 1),
+        ),
+        (
+            [[object, none, &[2]], [&[1], none, none], [&[1], none, none]],
+            (406, 3),
+        ),
+        (
+            [
+                [object, none, &[2]],
+                [object, none, none],
+                [object, none, none],
+            ],
+            (407, 1),
+        ),
+        (
+            [
+                [object, none, &[2]],
+                [object, &[2], none],
+                [object, none, none],
+            ],
+            (405, 2),
+        ),
+    ];
+    for (lists, wanted) in rows {
+        let types = three(rt.alloc(), TRAITS, lists)?;
+        assert_eq!(rt; broken(&rt, rt.alloc(), types.as_slice())?, wanted);
+    }
+    let kinds = [Kind::Trait, Kind::Object, Kind::Trait];
+    let types = three(
+        rt.alloc(),
+        kinds,
+        [[object, none, none], [&[1], none, none], [&[2], none, none]],
+    )?;
+    assert_eq!(rt; broken(&rt, rt.alloc(), types.as_slice())?, (404, 3));
+    Ok(())
+}
+
+#[test]
+fn a_chain_of_1024_types_declared_against_its_order_is_quick(rt: HostRuntime) -> Result<(), Fail> {
+    let alloc = rt.alloc();
+    let mut types = List::new(alloc);
+    types.push(declared(alloc, Kind::Trait, [&[], &[], &[]])?)?;
+    for number in 1..1025 {
+        let above = if number == 1024 { 0 } else { number + 1 };
+        types.push(declared(alloc, Kind::Trait, [&[above], &[], &[]])?)?;
+    }
+    assert_eq!(rt; broken(&rt, alloc, types.as_slice())?, (0, 0));
+    Ok(())
+}
+
+#[test]
+fn a_wide_tree_of_1024_types_is_quick(rt: HostRuntime) -> Result<(), Fail> {
+    let alloc = rt.alloc();
+    let mut types = List::new(alloc);
+    types.push(declared(alloc, Kind::Trait, [&[], &[], &[]])?)?;
+    for _ in 1..1025 {
+        types.push(declared(alloc, Kind::Object, [&[0], &[], &[]])?)?;
+    }
+    assert_eq!(rt; broken(&rt, alloc, types.as_slice())?, (0, 0));
+    Ok(())
+}
+
+#[test]
+fn a_lattice_of_32_names_a_list_is_quick(rt: HostRuntime) -> Result<(), Fail> {
+    let alloc = rt.alloc();
+    let mut types = List::new(alloc);
+    types.push(declared(alloc, Kind::Trait, [&[], &[], &[]])?)?;
+    for number in 1..1025usize {
+        let mut above = List::new(alloc);
+        above.push(0)?;
+        for back in 1..32usize {
+            if back < number {
+                above.push(number - back)?;
+            }
+        }
+        types.push(declared(alloc, Kind::Trait, [above.as_slice(), &[], &[]])?)?;
+    }
+    assert_eq!(rt; broken(&rt, alloc, types.as_slice())?, (0, 0));
+    Ok(())
+}
+
+#[test]
+fn a_cycle_of_1024_types_is_refused_at_its_earliest(rt: HostRuntime) -> Result<(), Fail> {
+    let alloc = rt.alloc();
+    let mut types = List::new(alloc);
+    types.push(declared(alloc, Kind::Trait, [&[], &[], &[]])?)?;
+    for number in 1..1025 {
+        let above = if number == 1024 { 1 } else { number + 1 };
+        types.push(declared(alloc, Kind::Trait, [&[above], &[], &[]])?)?;
+    }
+    assert_eq!(rt; broken(&rt, alloc, types.as_slice())?, (403, 1));
+    Ok(())
+}
