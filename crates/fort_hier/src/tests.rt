@@ -1,4 +1,4 @@
-//! Hierarchies that are worked out by hand, and large ones.
+//! Long, wide and dense hierarchies.
 use crate::lowest::lowest_broken;
 use crate::sentences::Sentence;
 use fort_base::{List, Memory, Place};
@@ -49,73 +49,6 @@ fn number(sentence: Sentence) -> u32 {
         Sentence::NotComprised => 406,
         Sentence::ComprisedNotBelow => 407,
     }
-}
-
-/// The number and line for `Object` and three types more.
-fn of_three(
-    rt: &impl Abort,
-    alloc: Global,
-    first: Declared,
-    second: Declared,
-    third: Declared,
-) -> Result<(u32, u32), Memory> {
-    let mut types = List::new(alloc);
-    types.push(declared(alloc, Kind::Trait, [&[], &[], &[]])?)?;
-    types.push(first)?;
-    types.push(second)?;
-    types.push(third)?;
-    broken(rt, alloc, types.as_slice())
-}
-
-fn a_trait(
-    alloc: Global,
-    extends: &[usize],
-    excludes: &[usize],
-    comprises: &[usize],
-) -> Result<Declared, Memory> {
-    declared(alloc, Kind::Trait, [extends, excludes, comprises])
-}
-
-#[test]
-fn a_cycle_and_an_object_extended_are_refused(rt: HostRuntime) -> Result<(), Fail> {
-    let alloc = rt.alloc();
-    let first = a_trait(alloc, &[2], &[], &[])?;
-    let second = a_trait(alloc, &[1], &[], &[])?;
-    let third = a_trait(alloc, &[2], &[], &[])?;
-    assert_eq!(rt; of_three(&rt, alloc, first, second, third)?, (403, 1));
-    let first = a_trait(alloc, &[0], &[], &[])?;
-    let second = declared(alloc, Kind::Object, [&[1], &[], &[]])?;
-    let third = a_trait(alloc, &[2], &[], &[])?;
-    assert_eq!(rt; of_three(&rt, alloc, first, second, third)?, (404, 3));
-    Ok(())
-}
-
-#[test]
-fn both_sides_of_an_exclusion_are_refused(rt: HostRuntime) -> Result<(), Fail> {
-    let alloc = rt.alloc();
-    let first = a_trait(alloc, &[0], &[], &[])?;
-    let second = a_trait(alloc, &[0], &[1], &[])?;
-    let third = a_trait(alloc, &[1, 2], &[], &[])?;
-    assert_eq!(rt; of_three(&rt, alloc, first, second, third)?, (405, 3));
-    let first = a_trait(alloc, &[0], &[4], &[])?;
-    let second = a_trait(alloc, &[0], &[], &[])?;
-    let third = a_trait(alloc, &[2], &[], &[])?;
-    assert_eq!(rt; of_three(&rt, alloc, first, second, third)?, (405, 1));
-    Ok(())
-}
-
-#[test]
-fn lists_of_comprises_are_asked(rt: HostRuntime) -> Result<(), Fail> {
-    let alloc = rt.alloc();
-    let first = a_trait(alloc, &[0], &[], &[2])?;
-    let second = a_trait(alloc, &[1], &[], &[])?;
-    let third = a_trait(alloc, &[1], &[], &[])?;
-    assert_eq!(rt; of_three(&rt, alloc, first, second, third)?, (406, 3));
-    let first = a_trait(alloc, &[0], &[], &[2])?;
-    let second = a_trait(alloc, &[0], &[], &[])?;
-    let third = a_trait(alloc, &[0], &[], &[])?;
-    assert_eq!(rt; of_three(&rt, alloc, first, second, third)?, (407, 1));
-    Ok(())
 }
 
 #[test]
