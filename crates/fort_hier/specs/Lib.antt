@@ -1,0 +1,9 @@
+pub mod Earliest
+pub mod Heads
+pub mod Names
+pub mod Numbers
+pub mod Seen
+pub mod Sentences
+pub mod Lowest
+pub mod Tops
+pub mod Walks
