@@ -32,6 +32,7 @@ rule_name n =
     if n == 105 then codes "BadEscape" else
     if n == 106 then codes "NumberTooLarge" else
     if n == 107 then codes "TooManyTokens" else
+    if n == 202 then codes "TooDeep" else
     if n == 901 then codes "NotBuilt" else []
 
 -- FILE:LINE:COLUMN: rule NUMBER NAME

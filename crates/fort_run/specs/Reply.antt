@@ -5,6 +5,8 @@ use Rattle.fort_base.specs.declared.refusal.Rule.{Rule}
 use Rattle.fort_base.specs.declared.refusal.Place.{Place}
 use Rattle.fort_token.specs.declared.token.Tokens.{Tokens}
 use Rattle.fort_lex.specs.Files.{HasTokens, BreaksRule}
+use Rattle.fort_tree.specs.Openers.{AllShallow, FirstDeep}
+use Rattle.fort_limits.specs.declared.TheConstants.{TOO_DEEP}
 use Rattle.fort_port.specs.Outside.{Holding, Untold, Absent, Held, Rose}
 use Rattle.fort_run.specs.Words.{IsRun, IsNoCommand}
 use Rattle.fort_run.specs.Greeting.{IsGreeting}
@@ -26,21 +28,31 @@ IsFile (Held file) bytes = bytes ≡ file
 abbrev pub file_limit : ℕ
 file_limit = 1048576
 
--- The file prints this text: its tokens are a greeting.
+-- The file prints this text: none of its tokens stands too deep, and they are a greeting.
 pub record Prints (file text : List ℕ) : Type 0 where
   pub tokens : Tokens
   pub has : HasTokens file tokens
+  pub shallow : AllShallow tokens.list
   pub greets : IsGreeting tokens text
 
--- The file breaks no rule of its tokens, and isn't built yet: its tokens are no greeting.
+-- A token of the file stands too deep, and the first that does stands at the place.
+pub record IsDeep (file : List ℕ) (place : Place) : Type 0 where
+  pub tokens : Tokens
+  pub has : HasTokens file tokens
+  pub first : FirstDeep tokens.list place
+
+-- The file breaks no rule that is asked so far, and isn't built yet: its tokens are no greeting.
 pub record IsNotBuilt (file : List ℕ) : Type 0 where
   pub tokens : Tokens
   pub has : HasTokens file tokens
+  pub shallow : AllShallow tokens.list
   pub other : (text : List ℕ) → IsGreeting tokens text → ⊥
 
--- The file is refused by this rule, at this place: a rule of its tokens that it breaks, or 901 at 1:1.
+-- The file is refused by this rule, at this place: a rule of its tokens that it breaks; or 202 where the first token
+-- stands that is too deep; or 901 at 1:1.
 pub data IsRefused (file : List ℕ) (rule : Rule) (place : Place) : Type 0 where
   breaks : BreaksRule file rule place → IsRefused file rule place
+  too_deep : IsDeep file place → rule ≡ TOO_DEEP → IsRefused file rule place
   not_built : IsNotBuilt file → rule ≡ record { 0 = 901 } → place ≡ record { line = 1; column = 1 } → IsRefused file rule place
 
 -- What a call means to say, for its words, what the shelf tells, and its counts of faults before and after.

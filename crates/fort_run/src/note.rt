@@ -41,6 +41,7 @@ fn name_of(rule: Rule) -> &'static [u8]
         105 => b"BadEscape",
         106 => b"NumberTooLarge",
         107 => b"TooManyTokens",
+        202 => b"TooDeep",
         901 => b"NotBuilt",
         _ => b"",
     }

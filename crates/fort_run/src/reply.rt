@@ -11,6 +11,7 @@ use crate::note::refusal_note;
 use crate::reader::greeting;
 use fort_base::{Bytes, CheckFault, List, Memory, Place, Rule};
 use fort_lex::{Tokens, tokens};
+use fort_limits::{TOO_DEEP, first_deep};
 use fort_port::Shelf;
 use std::alloc::Global;
 
@@ -98,7 +99,7 @@ pub(crate) fn reply_to<F: Shelf>(
     }
 }
 
-/// What is to say of the file of that name: the rules of its tokens come first, then rule 901.
+/// What is to say of the file of that name: the rules of its tokens come first, then rule 202, then rule 901.
 fn judged(alloc: Global, name: Bytes, file: &Bytes) -> Result<Answer, Memory>
     requires { length file.now ≤ file_limit }
     ensures { IfOk result (Judges name file.now) }
@@ -123,6 +124,9 @@ fn refused_by(name: Bytes, fault: CheckFault) -> Result<Answer, Memory>
 fn greeted(alloc: Global, name: Bytes, tokens: &Tokens) -> Result<Answer, Memory>
     ensures { IfOk result (λ a. (file : Seq ℕ) → HasTokens file tokens.now → Judges name file a) }
 {
+    if let Some(place) = first_deep(tokens.list.as_slice()) {
+        return refused(name, TOO_DEEP, place);
+    }
     match greeting(alloc, tokens)? {
         Some(mut text) => {
             text.push(b'\n')?;

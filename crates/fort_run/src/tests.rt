@@ -133,6 +133,11 @@ fn a_broken_rule_of_the_tokens_is_named_with_its_place(rt: HostRuntime) -> Resul
         "",
         "T.fss:2:1: rule 101 NotUtf8\n",
     )?;
+    let deep = padded(rt.alloc(), "", "(", 102)?;
+    let at_102 = "T.fss:1:102: rule 202 TooDeep\n";
+    expect(&rt, &run, &deep, 100, 1, "", at_102)?;
+    let shallow = padded(rt.alloc(), "", "(", 101)?;
+    expect(&rt, &run, &shallow, 100, 1, "", NOT_BUILT)?;
     let most = padded(rt.alloc(), "", "1 ", 524_288)?;
     expect(&rt, &run, &most, 100_000, 1, "", NOT_BUILT)?;
     let more = padded(rt.alloc(), "", "1 ", 524_290)?;
