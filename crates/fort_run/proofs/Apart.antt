@@ -1,5 +1,5 @@
 -- A file that prints a text is not refused.
-use Rattle.std.proofs.Common.{ℕ, ◌<◌, ◌≤◌, List, ◌≡◌, subst, arith}
+use Rattle.std.proofs.Common.{ℕ, ◌<◌, ◌≤◌, List, subst, arith}
 use Rattle.fort_base.specs.declared.refusal.Rule.{Rule}
 use Rattle.fort_base.specs.declared.refusal.Place.{Place}
 use Rattle.fort_lex.proofs.Uniqueness.{one_list_of_tokens, list_or_fault}
