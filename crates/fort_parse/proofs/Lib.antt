@@ -1,4 +1,5 @@
 pub mod Names
+pub mod Ended
 pub mod Statements
 pub mod Firsts
 pub mod FlatSound

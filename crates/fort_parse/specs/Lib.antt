@@ -3,3 +3,4 @@ pub mod Plain
 pub mod Flats
 pub mod Blocks
 pub mod Runs
+pub mod Nests

@@ -2,6 +2,12 @@
 #![tactic(auto)]
 
 mod beginnings;
+mod blocks;
+mod flats;
+mod grammar;
 mod plain;
+mod reader;
+mod runs;
 
 pub use plain::PlainNames;
+pub use reader::ExprGrammar;
