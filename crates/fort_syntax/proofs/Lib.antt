@@ -1,4 +1,5 @@
 pub mod Parts
+mod Takes
 pub mod NamesSound
 pub mod MethodsSound
 pub mod DeclarationsSound
@@ -7,3 +8,4 @@ pub mod NamesComplete
 pub mod MethodsComplete
 pub mod DeclarationsComplete
 pub mod Theorem
+pub mod Answering
