@@ -1,0 +1,4 @@
+mod Rows
+mod Expressions
+mod NoParts
+mod TokenPlaces
