@@ -1,0 +1,4 @@
+pub mod MentionsTypes
+pub mod MentionsFlats
+pub mod MentionsBlocks
+pub mod Steps

@@ -1,0 +1,4 @@
+pub mod Mentioned
+pub mod Mentions
+pub mod Mentioning
+pub mod TypeNames
