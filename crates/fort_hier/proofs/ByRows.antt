@@ -1,10 +1,10 @@
 -- From the rows to the sentences.
-use Rattle.std.proofs.Common.{◌≡◌, ◌≢◌, ◌<◌, ◌≤◌, ◌⊎◌, inl, inr, ◌↔◌, ℕ, zero, suc, Bool, true, false, IsTrue, List, [], ◌∷◌, length, get_or, Some, refl, sym, ap, ◌∙◌, subst, arith}
+use Rattle.std.proofs.Common.{◌≡◌, ◌≢◌, ◌<◌, ◌⊎◌, inl, inr, ◌↔◌, ℕ, zero, suc, Bool, IsTrue, List, [], ◌∷◌, length, get_or, Some, refl, sym, ap, ◌∙◌, subst, arith}
 use Rattle.std.specs.List.{slice_get, Contains}
 use Rattle.std.proofs.lemmas.Option.{slice_get_within, slice_get-get_or, get_or_from_slice_get}
 use Rattle.fort_base.specs.declared.table.TypeTable.{TypeTable}
 use Rattle.fort_types.specs.declared.hierarchy.Declared.{Declared}
-use Rattle.fort_types.specs.Hierarchy.{Hierarchy, Path, Extends, Leaf, Excludes, Lists}
+use Rattle.fort_types.specs.Hierarchy.{Hierarchy, Path, Leaf}
 use Rattle.fort_types.specs.Table.{is_set, IsExact, HasRows}
 use Rattle.fort_types.proofs.Bits.{set_inside}
 use Rattle.fort_types.proofs.Paths.{end_inside, start_inside}

@@ -1,9 +1,9 @@
 -- The earliest place of a list that is walked.
-use Rattle.std.proofs.Common.{◌≡◌, ◌<◌, ◌≤◌, ◌+◌, ◌⊎◌, inl, inr, ℕ, List, Option, Some, None, refl, sym, ap, ◌∙◌, subst, arith}
+use Rattle.std.proofs.Common.{◌≡◌, ◌<◌, ◌+◌, ◌⊎◌, inl, inr, ℕ, List, Option, Some, None, sym, subst, arith}
 use Rattle.std.specs.List.{slice_get}
 use Rattle.fort_base.specs.declared.refusal.Place.{Place}
 use Rattle.fort_tree.specs.Limits.{IsBefore}
-use Rattle.fort_hier.specs.Earliest.{IsEarliest, IsFirst, Keeps}
+use Rattle.fort_hier.specs.Earliest.{IsFirst, Keeps}
 
 -- What breaks a rule among the first ones.
 abbrev pub Among : (ℕ → Place → Type 0) → ℕ → Place → Type 0

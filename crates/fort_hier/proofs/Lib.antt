@@ -5,3 +5,7 @@ pub mod ByRows
 pub mod SeenLaws
 pub mod NamesWalk
 pub mod NumberLaws
+pub mod Reported
+pub mod Soundness
+pub mod AcceptedLaws
+pub mod FirstFound

@@ -1,12 +1,10 @@
 -- Lists that a loop builds.
-use Rattle.std.proofs.Common.{◌≡◌, ◌<◌, ◌≤◌, ◌+◌, ℕ, zero, suc, List, [], ◌∷◌, ◌++◌, Bool, false, ◌||◌, length, get_or, drop, take, map, Some, refl, sym, ap, ◌∙◌, subst, append_assoc, add-one, arith}
+use Rattle.std.proofs.Common.{◌≡◌, ◌≤◌, ◌+◌, ℕ, zero, suc, List, [], ◌∷◌, ◌++◌, false, ◌||◌, length, drop, map, Some, refl, sym, ap, ◌∙◌, append_assoc, add-one, arith}
 use Rattle.std.specs.List.{slice_get, flat_map}
 use Rattle.std.proofs.lemmas.List.{append-nil}
 use Rattle.fort_tree.specs.declared.declarations.Declared.{Declared}
-use Rattle.fort_tree.specs.declared.spot.Name.{Name}
-use Rattle.fort_tree.specs.declared.spot.NextName.{NextName}
 use Rattle.fort_hier.specs.declared.heads.Head.{Head}
-use Rattle.fort_hier.specs.Heads.{name_of, head_of, heads_from}
+use Rattle.fort_hier.specs.Heads.{head_of, heads_from}
 use Rattle.fort_hier.specs.Tops.{is_self, has_self}
 use Rattle.fort_tree.specs.declared.declarations.NextMethodParameter.{NextMethodParameter}
 

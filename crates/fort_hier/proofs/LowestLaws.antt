@@ -1,16 +1,16 @@
 -- From one sentence on to the next.
-use Rattle.std.proofs.Common.{◌≡◌, ◌≢◌, ◌<◌, ◌≤◌, ◌+◌, ◌⊎◌, inl, inr, ℕ, List, Option, Some, None, refl, sym, ap, ◌∙◌, subst, arith}
+use Rattle.std.proofs.Common.{◌≡◌, ◌≤◌, ◌+◌, ◌⊎◌, inl, inr, ℕ, List, Option, Some, None, refl, sym, ◌∙◌, subst, arith}
 use Rattle.fort_base.specs.declared.refusal.Place.{Place}
 use Rattle.fort_types.specs.Hierarchy.{Hierarchy}
 use Rattle.fort_hier.specs.declared.lowest.BrokenSentence.{BrokenSentence}
 use Rattle.fort_hier.specs.declared.sentences.Sentence.{Sentence}
 use Rattle.fort_hier.specs.declared.sentences.Sentence.TheVariants as sentence
-use Rattle.fort_hier.specs.Earliest.{IsEarliest, IsFirst}
+use Rattle.fort_hier.specs.Earliest.{IsEarliest}
 use Rattle.fort_hier.specs.Sentences.{BreaksAt}
 use Rattle.fort_hier.specs.Lowest.{rule_number, IsLowest, IsLowestFrom}
 
 -- a sentence by its number
-only : (s t : Sentence) → rule_number s ≡ rule_number t → s ≡ t
+pub only : (s t : Sentence) → rule_number s ≡ rule_number t → s ≡ t
 only sentence.Cyclic sentence.Cyclic e = refl
 only sentence.Cyclic sentence.ExtendsObject e = absurd (omega arith)
 only sentence.Cyclic sentence.ExtendsExcluded e = absurd (omega arith)

@@ -1,22 +1,21 @@
 -- The numbers of spellings.
-use Rattle.std.proofs.Common.{◌≡◌, ◌<◌, ◌≤◌, ◌+◌, ◌⊎◌, inl, inr, ◌↔◌, ℕ, zero, suc, Bool, true, false, cond, IsTrue, List, [], ◌∷◌, ◌++◌, length, get_or, map, drop, take, Option, Some, None, refl, sym, ap, ◌∙◌, subst, append_assoc, add-one, arith}
+use Rattle.std.proofs.Common.{◌≡◌, ◌<◌, ◌≤◌, ◌+◌, ◌↔◌, ℕ, zero, suc, Bool, true, false, cond, IsTrue, List, [], ◌∷◌, ◌++◌, length, get_or, map, take, Option, Some, None, refl, sym, ap, ◌∙◌, subst, append_assoc, add-one, arith}
 use Rattle.std.specs.Str.{bytes_eq}
 use Rattle.std.specs.Prelude.{replicate}
 use Rattle.std.specs.List.{slice_get, Contains}
 use Rattle.std.specs.Cmp.Lexicographic.{bytes_decides}
-use Rattle.std.proofs.lemmas.Option.{slice_get_within, slice_get-get_or, get_or_from_slice_get}
+use Rattle.std.proofs.lemmas.Option.{slice_get_within}
 use Rattle.std.proofs.lemmas.List.{append-nil, take_more, map-append}
 use Rattle.std.proofs.Math.ListN.{length-append}
 use Rattle.fort_base.specs.declared.refusal.Place.{Place}
 use Rattle.fort_tree.specs.declared.spot.Name.{Name}
-use Rattle.fort_types.specs.declared.hierarchy.Declared.{Declared}
 use Rattle.fort_hier.specs.declared.heads.Head.{Head}
 use Rattle.fort_hier.specs.declared.numbers.Numbers.{Numbers}
 use Rattle.fort_hier.specs.Earliest.{IsFirst, Keeps}
 use Rattle.fort_hier.specs.Names.{Spelling, spelling, declared_spellings, any_spelling, type_spellings}
-use Rattle.fort_hier.specs.Numbers.{head_spelling, number_of, number, declared_by, built_in_declared, NumberIs, numbered_as, HoldsNumbers, IsUnknown, all_types}
+use Rattle.fort_hier.specs.Numbers.{head_spelling, number_of, NumberIs, numbered_as, HoldsNumbers, IsUnknown, all_types}
 use Rattle.fort_hier.proofs.First.{Among, first_same, first_more, first_all}
-use Rattle.fort_hier.proofs.NamesWalk.{more_of, types_count, take_all}
+use Rattle.fort_hier.proofs.NamesWalk.{more_of, take_all}
 
 -- ---- a spelling more at the end
 
@@ -222,3 +221,17 @@ mapped_step f front done new xs i x y e q n d = n ∙ ap (λ z. done ++ z ∷ []
 
 pub mapped_all : {X Y : Type 0} (f : X → Y) (front done : List Y) (xs : List X) (i : ℕ) → length xs ≤ i → done ≡ front ++ map f (take i xs) → done ≡ front ++ map f xs
 mapped_all f front done xs i l d = d ∙ ap (λ z. front ++ map f z) (take_all xs i l)
+
+-- the names of the built-in declared types, one more and all
+pub declared_step : (done new : List Spelling) (n : ℕ) (word : Spelling) → n < 17 → word ≡ get_or type_spellings n [] → new ≡ done ++ word ∷ [] → done ≡ take n declared_spellings
+    → new ≡ take (n + 1) declared_spellings
+declared_step done new n word l e q d = let c = declared_count in
+    q ∙ ap (λ z. z ++ word ∷ []) d ∙ ap (λ z. take n declared_spellings ++ z ∷ []) (e ∙ type_is n l) ∙ sym (take_more declared_spellings n [] (omega arith))
+
+pub declared_all : (done : List Spelling) (n : ℕ) → 17 ≤ n → done ≡ take n declared_spellings → done ≡ declared_spellings
+declared_all done n l d = let c = declared_count in d ∙ take_all declared_spellings n (omega arith)
+
+-- how many names of types there are
+pub all_long : (names : List Spelling) (heads : List Head) → length (all_types names heads) ≡ 18 + length heads
+all_long names heads = let c = declared_count in let a = length-append (declared_spellings ++ map (head_spelling names) heads) (any_spelling ∷ []) in
+    let b = length-append declared_spellings (map (head_spelling names) heads) in let m = as_long (head_spelling names) heads in omega arith

@@ -1,12 +1,11 @@
 -- What is known of the spellings so far.
-use Rattle.std.proofs.Common.{◌≡◌, ◌⊎◌, inl, inr, ◌↔◌, ℕ, Bool, true, false, not, ◌&&◌, cond, IsTrue, List, [], ◌∷◌, ◌++◌, Option, Some, None, refl, sym, ap, ◌∙◌, subst, arith}
+use Rattle.std.proofs.Common.{◌≡◌, inl, inr, ◌↔◌, Bool, true, false, not, ◌&&◌, cond, IsTrue, List, [], ◌∷◌, ◌++◌, Option, Some, None, refl, sym, ap, ◌∙◌, subst, arith}
 use Rattle.std.specs.Str.{bytes_eq}
-use Rattle.std.specs.List.{Contains}
 use Rattle.std.specs.Cmp.Lexicographic.{bytes_decides}
 use Rattle.std.proofs.lemmas.List.Elements.{Contains-push, Contains-push_cases, Contains-append_left}
 use Rattle.fort_hier.specs.declared.seen.Seen.{Seen}
 use Rattle.fort_hier.specs.Names.{Spelling, Called, ClashesWith}
-use Rattle.fort_hier.specs.Seen.{seen_as, Stands, Functions, Others, Known, HoldsSeen}
+use Rattle.fort_hier.specs.Seen.{seen_as, Stands, Known, HoldsSeen}
 
 -- a name clashes exactly where functions don't have the spelling alone
 clash_by : (before : List Called) (s : Spelling) (f b : Bool) → Known before s (Some b) → IsTrue (not (b && f)) ↔ ClashesWith before s f

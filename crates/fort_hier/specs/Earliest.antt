@@ -1,5 +1,5 @@
 -- The chapter "Types", the rules of a hierarchy: of several places of one rule the earliest is reported. The code keeps the earliest so far.
-use Rattle.std.specs.Prelude.{◌≡◌, ◌⊎◌, ◌<◌, ℕ, Option, Some, None}
+use Rattle.std.specs.Prelude.{◌≡◌, ◌⊎◌, Option, Some, None}
 use Rattle.fort_base.specs.declared.refusal.Place.{Place}
 use Rattle.fort_tree.specs.Limits.{IsBefore}
 

@@ -1,5 +1,6 @@
 -- The chapter "Types", names at the top: the heads of a component's types. The code walks the declarations once.
 use Rattle.std.specs.Prelude.{ℕ, ◌+◌, List, [], ◌∷◌, ◌++◌, Option, Some, None, map}
+use Rattle.fort_base.specs.declared.refusal.Place.{Place}
 use Rattle.fort_types.specs.declared.hierarchy.Kind.TheVariants as a_kind
 use Rattle.fort_tree.specs.declared.declarations.Component.{Component}
 use Rattle.fort_tree.specs.declared.declarations.Comprises.{Comprises}
@@ -63,3 +64,11 @@ heads_from body (d ∷ ds) = head_of body d.declaration ++ heads_from (body + 1)
 -- The heads of a component's types, in source order.
 abbrev pub heads_of : Component → List Head
 heads_of c = heads_from 0 c.declarations
+
+-- the place of a type's name
+abbrev pub head_place : Head → Place
+head_place head = head.name.spot.place
+
+-- the number of a type's declaration
+abbrev pub head_body : Head → Option ℕ
+head_body head = Some head.body

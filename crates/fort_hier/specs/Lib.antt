@@ -7,3 +7,5 @@ pub mod Sentences
 pub mod Lowest
 pub mod Tops
 pub mod Walks
+pub mod Hierarchies
+pub mod Laws

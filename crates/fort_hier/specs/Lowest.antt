@@ -1,5 +1,5 @@
 -- The chapter "Types", the rules of a hierarchy: which broken sentence is reported. The code asks them in the order of their numbers.
-use Rattle.std.specs.Prelude.{◌≡◌, ◌≤◌, ℕ, List, Option, Some, None}
+use Rattle.std.specs.Prelude.{◌≤◌, ℕ, List, Option, Some, None}
 use Rattle.fort_base.specs.declared.refusal.Place.{Place}
 use Rattle.fort_types.specs.Hierarchy.{Hierarchy}
 use Rattle.fort_hier.specs.declared.lowest.BrokenSentence.{BrokenSentence}

@@ -1,5 +1,5 @@
 -- The chapter "Types", names at the top: which names clash. The code keeps the spellings that stood so far in a map.
-use Rattle.std.specs.Prelude.{◌≡◌, ◌<◌, ℕ, Bool, true, false, ◌&&◌, List, [], ◌∷◌, ◌++◌, Option, Some, None, map, take, slice_get, get_or, codes, Contains}
+use Rattle.std.specs.Prelude.{◌≡◌, ℕ, Bool, true, false, ◌&&◌, List, [], ◌∷◌, ◌++◌, Option, Some, None, map, take, slice_get, get_or, codes, Contains}
 use Rattle.fort_base.specs.declared.refusal.Place.{Place}
 use Rattle.fort_tree.specs.declared.spot.Name.{Name}
 use Rattle.fort_hier.specs.declared.tops.Top.{Top}

@@ -1,5 +1,5 @@
 -- The chapter "Types", names at the top: what the map of the spellings that stood so far holds.
-use Rattle.std.specs.Prelude.{◌≡◌, ℕ, Bool, true, false, List, Option, Some, None, Contains}
+use Rattle.std.specs.Prelude.{◌≡◌, Bool, true, false, List, Option, Some, None, Contains}
 use Rattle.std.specs.Str.{bytes_eq}
 use Rattle.indexmap.specs.IndexMap.{get_by}
 use Rattle.fort_hier.specs.Names.{Spelling, Called}

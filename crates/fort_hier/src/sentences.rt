@@ -3,10 +3,11 @@ ghost use Rattle.std.specs.Prelude.{◌≡◌, ◌<◌, ◌≤◌, ◌+◌, ◌�
 ghost use Rattle.fort_types.specs.Table.{HasRows};
 ghost use Rattle.fort_hier.specs.Sentences.{Breaks, BreaksAt, IsOnCycle, ExtendsLeaf, IsBelowBoth, IsNotListed, ListsOther};
 ghost use Rattle.fort_hier.specs.Earliest.{IsFirst};
+ghost use Rattle.fort_hier.specs.Lowest.{rule_number};
 
 use crate::earliest::earlier;
 use crate::walks::{any_excluding, any_leaf, any_not_set, any_set, any_unlisted};
-use fort_base::{Place, TypeTable};
+use fort_base::{Place, Rule, TypeTable};
 use fort_types::Declared;
 
 /// A sentence that no declared type may break.
@@ -22,6 +23,21 @@ pub enum Sentence {
     NotComprised,
     /// 407: who stands in a trait's list is below the trait.
     ComprisedNotBelow,
+}
+
+impl Sentence {
+    /// The rule that refuses a type which breaks the sentence.
+    pub fn rule(self) -> Rule
+        ensures { result.0 ≡ rule_number self }
+    {
+        match self {
+            Sentence::Cyclic => Rule(403),
+            Sentence::ExtendsObject => Rule(404),
+            Sentence::ExtendsExcluded => Rule(405),
+            Sentence::NotComprised => Rule(406),
+            Sentence::ComprisedNotBelow => Rule(407),
+        }
+    }
 }
 
 /// The earliest place among those of the types that break a sentence, or `None` where no type breaks it.

@@ -1,6 +1,6 @@
 use Rattle.std.proofs.Common.{refl}
 use Rattle.fort_hier.specs.declared.sentences.Sentence.TheVariants as sentence
-use Rattle.fort_hier.proofs.LowestLaws.{found, passed, none_left}
+use Rattle.fort_hier.proofs.LowestLaws.{found, passed}
 use Rattle.fort_hier.proofs.lowest.from_404.Goals as goal
 
 pub returns-in-Some : goal.returns-in-Some

@@ -1,9 +1,8 @@
-use Rattle.std.proofs.Common.{◌≡◌, ◌<◌, ◌+◌, ◌-◌, ℕ, Some, false, true, refl, length, arith}
+use Rattle.std.proofs.Common.{◌≡◌, ◌+◌, ◌-◌, Some, false, true, refl, length, arith}
 use Rattle.std.specs.List.{slice_get}
 use Rattle.std.proofs.lemmas.Option.{slice_get-get_or, slice_get_within}
-use Rattle.fort_base.specs.declared.refusal.Place.{Place}
 use Rattle.fort_hier.specs.Sentences.{Breaks, BreaksAt}
-use Rattle.fort_hier.proofs.First.{Among, first_same, first_more, first_all, same_place}
+use Rattle.fort_hier.proofs.First.{first_same, first_more, first_all, same_place}
 use Rattle.fort_hier.proofs.sentences.first_broken.Goals as goal
 
 pub loop-number-preserved-then-not-breaks : goal.loop-number-preserved-then-not-breaks

@@ -1,6 +1,6 @@
 use Rattle.std.proofs.Common.{◌≡◌, ◌++◌, drop}
 use Rattle.std.specs.List.{flat_map}
-use Rattle.fort_hier.specs.Tops.{trait_top, object_top, declared_top, has_self}
+use Rattle.fort_hier.specs.Tops.{object_top}
 use Rattle.fort_hier.proofs.tops.add_object_members.Given as goal
 
 abbrev pub invariant-loop-entry : goal.invariant-loop-entry

@@ -1,6 +1,5 @@
-use Rattle.std.proofs.Common.{◌≡◌, ◌++◌, drop}
-use Rattle.std.specs.List.{flat_map}
-use Rattle.fort_hier.specs.Tops.{trait_top, object_top, declared_top, has_self}
+use Rattle.std.proofs.Common.{◌≡◌, drop}
+use Rattle.fort_hier.specs.Tops.{has_self}
 use Rattle.fort_hier.proofs.tops.any_self.Given as goal
 
 abbrev pub invariant-loop-next : goal.invariant-loop-next

@@ -1,4 +1,4 @@
-use Rattle.std.proofs.Common.{◌≡◌, ◌++◌, List, length, map, take}
+use Rattle.std.proofs.Common.{◌≡◌, List, length, map, take}
 use Rattle.fort_hier.specs.Names.{Spelling}
 use Rattle.fort_hier.specs.Numbers.{HoldsNumbers, number}
 use Rattle.fort_hier.proofs.types.numbered.Given as goal

@@ -1,8 +1,8 @@
-use Rattle.std.proofs.Common.{◌≡◌, ◌≢◌, ◌<◌, ◌⊎◌, ℕ, IsTrue, get_or, Some, [], length}
-use Rattle.std.specs.List.{slice_get, Contains}
+use Rattle.std.proofs.Common.{◌≡◌, ◌<◌, ℕ, IsTrue, Some, length}
+use Rattle.std.specs.List.{slice_get}
 use Rattle.fort_types.specs.declared.hierarchy.Declared.{Declared}
 use Rattle.fort_types.specs.Table.{is_set}
-use Rattle.fort_hier.specs.Walks.{LeafAt, UnlistedAt, ExcludesAbove}
+use Rattle.fort_hier.specs.Walks.{ExcludesAbove}
 use Rattle.fort_hier.proofs.walks.any_excluding.Given as goal
 
 abbrev pub invariant-loop-t : goal.invariant-loop-t

@@ -1,8 +1,5 @@
-use Rattle.std.proofs.Common.{◌≡◌, ◌≢◌, ◌<◌, ◌⊎◌, ℕ, IsTrue, get_or, Some, [], length}
-use Rattle.std.specs.List.{slice_get, Contains}
-use Rattle.fort_types.specs.declared.hierarchy.Declared.{Declared}
+use Rattle.std.proofs.Common.{◌≡◌, ◌<◌, ◌⊎◌, ℕ, IsTrue, get_or}
 use Rattle.fort_types.specs.Table.{is_set}
-use Rattle.fort_hier.specs.Walks.{LeafAt, UnlistedAt, ExcludesAbove}
 use Rattle.fort_hier.proofs.walks.excludes_above.Given as goal
 
 abbrev pub invariant-loop-n : goal.invariant-loop-n

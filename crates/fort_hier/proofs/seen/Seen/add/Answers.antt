@@ -1,4 +1,4 @@
-use Rattle.std.proofs.Common.{Some, sym}
+use Rattle.std.proofs.Common.{Some}
 use Rattle.std.proofs.lemmas.Map.Text.{hash_map_updates_str}
 use Rattle.fort_hier.proofs.SeenLaws.{clash_known, clash_nobody, held_again, held_new}
 use Rattle.fort_hier.proofs.seen.Seen.add.Goals as goal
