@@ -1,0 +1,66 @@
+-- What keeps the rules breaks none.
+use Rattle.std.proofs.Common.{◌≡◌, ℕ, ◌<◌, ◌≤◌, List, [], ◌∷◌, ◌++◌, length, sym, subst, arith}
+use Rattle.std.specs.List.{Contains}
+use Rattle.fort_base.specs.declared.refusal.Place.{Place}
+use Rattle.fort_base.specs.declared.refusal.Rule.{Rule}
+use Rattle.fort_token.specs.declared.token.Token.{Token}
+use Rattle.fort_token.specs.declared.token.Tokens.{Tokens}
+use Rattle.fort_tree.specs.declared.declarations.Component.{Component}
+use Rattle.fort_tree.specs.declared.grouped.FlatGrouping.{FlatGrouping}
+use Rattle.fort_tree.specs.declared.grouped.Row.{Row}
+use Rattle.fort_tree.specs.Limits.{crowded, flats, BreaksLimit}
+use Rattle.fort_tree.specs.Openers.{AllShallow, FirstDeep, openers_round}
+use Rattle.fort_group.specs.Answers as grouping
+use Rattle.fort_group.specs.Components.{HasGroups, IsFirstBreak}
+use Rattle.fort_group.proofs.Rules.{breaks_none}
+use Rattle.fort_syntax.specs.Answer as grammar
+use Rattle.fort_syntax.specs.Answer.{TooDeep, Syntax, TooMany}
+use Rattle.fort_mention.specs.TypeNames.{type_names}
+use Rattle.fort_hier.specs.Hierarchies.{Broken, IsHierarchy, IsReported}
+use Rattle.fort_front.specs.Front.{IsFormed, Breaks, in_grammar, in_grouping, in_hierarchy, NeverBoth, NeverBothInGrammar}
+
+-- Where no token stands too deep, no first one does.
+none_deep : (ts : List Token) (place : Place) → AllShallow ts → FirstDeep ts place → ⊥
+none_deep ts place shallow d =
+    let within : openers_round d.front d.token ≤ 100 = shallow d.front d.token d.rest d.whole in
+    let deep : 100 < openers_round d.front d.token = d.deep in
+    omega arith
+
+-- Nothing is in an empty list.
+nothing_in : (places : List Place) (place : Place) → places ≡ [] → Contains places place → ⊥
+nothing_in [] place none has = let lt : has.0 < 0 = has.1 in omega arith
+nothing_in (p ∷ ps) place none has = absurd cc
+
+-- A flat expression that has its grouping breaks no rule, whichever stand before it.
+all_grouped : (earlier : List Row) (it : Row) (later : List Row) (groups : List FlatGrouping) (rule : Rule) (place : Place)
+    → HasGroups (earlier ++ it ∷ later) groups → grouping.Breaks it rule place → ⊥
+all_grouped [] it later [] rule place has breaks = absurd has
+all_grouped [] it later (g ∷ gs) rule place has breaks = breaks_none it g.grouped has.1 rule place breaks
+all_grouped (row ∷ rows) it later [] rule place has breaks = absurd has
+all_grouped (row ∷ rows) it later (g ∷ gs) rule place has breaks = all_grouped rows it later gs rule place has.2 breaks
+
+in_grammar_never : (tokens : Tokens) (rule : ℕ) (at : Place) (c : Component) → grammar.IsComponent tokens c → grammar.Breaks tokens rule at → ⊥
+in_grammar_never tokens rule at c is (TooDeep deep) = none_deep tokens.list at is.shallow deep
+in_grammar_never tokens rule at c is (Syntax shallow none fault) = none c is.tree
+in_grammar_never tokens rule at c is (TooMany shallow d tree breaks) =
+    nothing_in (crowded c) at is.small (subst (λ (x : Component). Contains (crowded x) at) (is.only d tree) breaks.0)
+
+pub never_in_grammar : NeverBothInGrammar
+never_in_grammar tokens rule at g breaks = in_grammar_never tokens rule.0 at g.component g.is breaks
+
+in_grouping_never : (tokens : Tokens) (rule : Rule) (at : Place) (c : Component) → IsFormed tokens → grammar.IsComponent tokens c → IsFirstBreak (flats c) rule at → ⊥
+in_grouping_never tokens rule at c f is first =
+    let same : f.component ≡ c = is.only f.component f.is.tree in
+    let has : HasGroups (flats c) f.groups = subst (λ (x : Component). HasGroups (flats x) f.groups) same f.grouped in
+    all_grouped first.earlier first.it first.later f.groups rule at (subst (λ rows. HasGroups rows f.groups) first.order has) first.breaks
+
+in_hierarchy_never : (tokens : Tokens) (rule : Rule) (at : Place) (c : Component) → IsFormed tokens → grammar.IsComponent tokens c
+    → IsReported c (type_names c) rule.0 at → ⊥
+in_hierarchy_never tokens rule at c f is reported =
+    let same : c ≡ f.component = f.is.only c is.tree in
+    f.typed.kept rule.0 at (subst (λ (x : Component). Broken x (type_names x) rule.0 at) same reported.earliest.breaks)
+
+pub never : NeverBoth
+never tokens rule at f (in_grammar breaks) = in_grammar_never tokens rule.0 at f.component f.is breaks
+never tokens rule at f (in_grouping c is first) = in_grouping_never tokens rule at c f is first
+never tokens rule at f (in_hierarchy c groups is grouped reported) = in_hierarchy_never tokens rule at c f is reported

@@ -1,0 +1,62 @@
+-- The chapters "Grammar", "Operators" and "Types", their refusals one after another: what `check_grammar` and `check_tokens` answer.
+use Rattle.std.specs.Prelude.{List, Result, Ok, Err}
+use Rattle.fort_base.specs.declared.refusal.Place.{Place}
+use Rattle.fort_base.specs.declared.refusal.Rule.{Rule}
+use Rattle.fort_base.specs.declared.refusal.CheckFault.{CheckFault}
+use Rattle.fort_base.specs.declared.refusal.CheckFault.TheVariants.{Refused, Memory}
+use Rattle.fort_token.specs.declared.token.Tokens.{Tokens}
+use Rattle.fort_tree.specs.declared.declarations.Component.{Component}
+use Rattle.fort_tree.specs.declared.grouped.FlatGrouping.{FlatGrouping}
+use Rattle.fort_tree.specs.Limits.{flats}
+use Rattle.fort_group.specs.Components.{HasGroups, IsFirstBreak}
+use Rattle.fort_mention.specs.TypeNames.{type_names}
+use Rattle.fort_hier.specs.declared.accepted.Hierarchy.{Hierarchy}
+use Rattle.fort_hier.specs.Hierarchies.{IsHierarchy, IsReported}
+use Rattle.fort_syntax.specs.Answer as grammar
+
+-- The tokens are those of one component, which passes no limit.
+pub record IsGrammatical (tokens : Tokens) : Type 0 where
+  pub component : Component
+  pub is : grammar.IsComponent tokens component
+
+-- The token list breaks this rule of the grammar, at this place: one of 202, 201 and 203.
+abbrev pub BreaksGrammar : Tokens → Rule → Place → Type 0
+BreaksGrammar tokens rule at = grammar.Breaks tokens rule.0 at
+
+-- The rules of the grammar are kept, or this is the one that is reported.
+abbrev pub GrammarAnswers : Tokens → Result (Unit {0}) CheckFault → Type 0
+GrammarAnswers tokens (Ok u) = IsGrammatical tokens
+GrammarAnswers tokens (Err (Refused rule at)) = BreaksGrammar tokens rule at
+GrammarAnswers tokens (Err Memory) = Unit {0}
+
+-- The tokens are those of one component, which passes no limit, each of its flat expressions has its grouping, and its declared
+-- types are a hierarchy.
+pub record IsFormed (tokens : Tokens) : Type 0 where
+  pub component : Component
+  pub is : grammar.IsComponent tokens component
+  pub groups : List FlatGrouping
+  pub grouped : HasGroups (flats component) groups
+  pub types : Hierarchy
+  pub typed : IsHierarchy component (type_names component) types
+
+-- The token list breaks this rule, at this place: one of 202, 201 and 203; or, where it is a component, the first of 301 to 304
+-- that one of its flat expressions breaks; or, where each has its grouping, the lowest of 401 to 407 that its types break.
+pub data Breaks (tokens : Tokens) (rule : Rule) (at : Place) : Type 0 where
+  in_grammar : BreaksGrammar tokens rule at → Breaks tokens rule at
+  in_grouping : (c : Component) → grammar.IsComponent tokens c → IsFirstBreak (flats c) rule at → Breaks tokens rule at
+  in_hierarchy : (c : Component) (groups : List FlatGrouping) → grammar.IsComponent tokens c → HasGroups (flats c) groups
+      → IsReported c (type_names c) rule.0 at → Breaks tokens rule at
+
+-- The rules are kept, or this is the one that is reported.
+abbrev pub Answers : Tokens → Result (Unit {0}) CheckFault → Type 0
+Answers tokens (Ok u) = IsFormed tokens
+Answers tokens (Err (Refused rule at)) = Breaks tokens rule at
+Answers tokens (Err Memory) = Unit {0}
+
+-- No token list keeps the rules of the grammar and breaks one of them.
+abbrev pub NeverBothInGrammar : Type 0
+NeverBothInGrammar = (tokens : Tokens) (rule : Rule) (at : Place) → IsGrammatical tokens → BreaksGrammar tokens rule at → ⊥
+
+-- No token list keeps the rules and breaks one.
+abbrev pub NeverBoth : Type 0
+NeverBoth = (tokens : Tokens) (rule : Rule) (at : Place) → IsFormed tokens → Breaks tokens rule at → ⊥

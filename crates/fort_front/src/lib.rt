@@ -1,0 +1,8 @@
+//! The checks of a component, one phase after another.
+#![tactic(auto)]
+
+mod check;
+mod laws;
+
+pub use check::{check_grammar, check_tokens};
+pub use laws::{never_both, never_both_in_grammar};
