@@ -1,0 +1,9 @@
+pub mod Signs
+pub mod Tables
+pub mod Numbers
+pub mod Texts
+pub mod Words
+pub mod Written
+pub mod Pieces
+pub mod Kept
+pub mod Reading
