@@ -8,8 +8,6 @@ mod meaning;
 mod names;
 mod reserved;
 mod source;
-#[cfg(test)]
-mod tests;
 mod text;
 
 pub use fort_scan::{

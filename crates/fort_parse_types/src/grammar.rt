@@ -212,8 +212,9 @@ impl<'a> TypeGrammar<'a> {
         self.typed(tokens, name)
     }
 
+    /// A further parameter, with the comma before it.
     #[tactic(auto, unfolding(crate::specs::Types::next_parameter))]
-    fn next_parameter(&self, tokens: &mut Cursor<'_>) -> Result<NextParameter, Fault>
+    pub fn next_parameter(&self, tokens: &mut Cursor<'_>) -> Result<NextParameter, Fault>
         ensures { Reads ((spec.next_parameter self.now.names.now self.now.depth).parser.run tokens.old) result tokens.new }
     {
         let comma = tokens.mark(Mark::Comma)?;

@@ -3,8 +3,6 @@
 
 mod grammar;
 mod longest;
-#[cfg(test)]
-mod tests;
 
 pub use grammar::TypeGrammar;
 pub use longest::longest_type;

@@ -2,6 +2,14 @@
 #![tactic(auto)]
 
 #[cfg(test)]
+mod parts;
+#[cfg(test)]
+mod shown;
+#[cfg(test)]
 mod tests;
+#[cfg(test)]
+mod tokens;
+#[cfg(test)]
+mod types;
 #[cfg(test)]
 mod values;

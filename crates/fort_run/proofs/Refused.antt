@@ -1,13 +1,35 @@
--- A file that breaks a rule of its tokens is refused by it.
-use Rattle.std.proofs.Common.{ℕ, List, Err}
+-- A file that breaks a rule is refused by it.
+use Rattle.std.proofs.Common.{ℕ, List, Err, ap}
 use Rattle.fort_base.specs.declared.refusal.CheckFault.{CheckFault}
 use Rattle.fort_base.specs.declared.refusal.CheckFault.TheVariants as a_fault
-use Rattle.fort_lex.specs.Files.{Answers}
-use Rattle.fort_run.specs.Reply.{breaks}
-use Rattle.fort_run.specs.Said.{Judges, StandsBack, RefusedBy}
-use Rattle.fort_run.specs.declared.reply.Answer.{Answer}
+use Rattle.fort_token.specs.declared.token.Tokens.{Tokens}
+use Rattle.fort_lex.specs.Files.{Answers, HasTokens}
+use Rattle.fort_front.specs.Front as front
+use Rattle.fort_run.specs.Reply.{RunSays, Refuses, breaks, ill_formed, ShowSays, ShowsNone, in_tokens, in_grammar}
+use Rattle.fort_run.specs.Said.{said, RefusedBy}
+use Rattle.fort_run.specs.declared.answer.Answer.{Answer}
 
-pub judged_refused : (name file : List ℕ) (fault : CheckFault) (answer : Answer) → Answers file (Err fault) → RefusedBy name fault answer
-    → Judges name file answer
-judged_refused name file (a_fault.Refused rule place) answer broken e = StandsBack rule place (breaks broken) e
-judged_refused name file a_fault.Memory answer broken e = absurd e
+-- A file to run that breaks a rule of its tokens.
+pub tokens_refused : (name file : List ℕ) (fault : CheckFault) (answer : Answer) → Answers file (Err fault) → RefusedBy name fault answer
+    → RunSays name file (said answer)
+tokens_refused name file (a_fault.Refused rule place) answer broken e = Refuses rule place (breaks broken) (ap said e)
+tokens_refused name file a_fault.Memory answer broken e = absurd e
+
+-- A file to run whose tokens break a rule of the grammar, of grouping or of the hierarchy.
+pub form_refused : (name file : List ℕ) (tokens : Tokens) (fault : CheckFault) (answer : Answer) → HasTokens file tokens
+    → front.Answers tokens (Err fault) → RefusedBy name fault answer → RunSays name file (said answer)
+form_refused name file tokens (a_fault.Refused rule place) answer has broken e =
+    Refuses rule place (ill_formed (record { tokens = tokens; has = has; breaks = broken })) (ap said e)
+form_refused name file tokens a_fault.Memory answer has broken e = absurd e
+
+-- A file to show that breaks a rule of its tokens.
+pub tokens_unshown : (name file : List ℕ) (fault : CheckFault) (answer : Answer) → Answers file (Err fault) → RefusedBy name fault answer
+    → ShowSays name file (said answer)
+tokens_unshown name file (a_fault.Refused rule place) answer broken e = ShowsNone rule place (in_tokens broken) (ap said e)
+tokens_unshown name file a_fault.Memory answer broken e = absurd e
+
+-- A file to show whose tokens break a rule of the grammar.
+pub grammar_unshown : (name file : List ℕ) (tokens : Tokens) (fault : CheckFault) (answer : Answer) → HasTokens file tokens
+    → front.GrammarAnswers tokens (Err fault) → RefusedBy name fault answer → ShowSays name file (said answer)
+grammar_unshown name file tokens (a_fault.Refused rule place) answer has broken e = ShowsNone rule place (in_grammar tokens has broken) (ap said e)
+grammar_unshown name file tokens a_fault.Memory answer has broken e = absurd e

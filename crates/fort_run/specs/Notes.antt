@@ -32,7 +32,20 @@ rule_name n =
     if n == 105 then codes "BadEscape" else
     if n == 106 then codes "NumberTooLarge" else
     if n == 107 then codes "TooManyTokens" else
+    if n == 201 then codes "Syntax" else
     if n == 202 then codes "TooDeep" else
+    if n == 203 then codes "TooMany" else
+    if n == 301 then codes "MixedSpacing" else
+    if n == 302 then codes "NoPrecedence" else
+    if n == 303 then codes "SpacingContradicts" else
+    if n == 304 then codes "BadChain" else
+    if n == 401 then codes "DuplicateName" else
+    if n == 402 then codes "UnknownType" else
+    if n == 403 then codes "CyclicExtends" else
+    if n == 404 then codes "ExtendsObject" else
+    if n == 405 then codes "ExtendsExcluded" else
+    if n == 406 then codes "NotComprised" else
+    if n == 407 then codes "ComprisedNotBelow" else
     if n == 901 then codes "NotBuilt" else []
 
 -- FILE:LINE:COLUMN: rule NUMBER NAME

@@ -3,9 +3,11 @@ use Rattle.std.specs.Prelude.{◌≡◌, ℕ, ◌<◌, ◌≤◌, List, ◌⊎�
 use Rattle.fort_base.specs.declared.refusal.Rule.{Rule}
 use Rattle.fort_base.specs.declared.refusal.Place.{Place}
 use Rattle.fort_port.specs.Outside.{Holding, Held, Rose}
-use Rattle.fort_run.specs.Words.{IsRun, IsNoCommand}
+use Rattle.fort_run.specs.declared.command.Command.{Command}
+use Rattle.fort_run.specs.declared.command.Command.TheVariants.{Run, Show}
+use Rattle.fort_run.specs.Words.{IsCommand, IsNoCommand, file_of}
 use Rattle.fort_run.specs.Notes.{want_of_memory}
-use Rattle.fort_run.specs.Reply.{Reply, Means, Prints, IsRefused, file_limit}
+use Rattle.fort_run.specs.Reply.{Reply, Means, Prints, IsRefused, IsShownAs, IsNoComponent, file_limit}
 use Rattle.fort_run.specs.Delivery.{Change, Delivers, TakesOrFails}
 
 -- The outside of a call: its words, what the shelf tells and its counts of faults, and both sinks.
@@ -32,15 +34,21 @@ pub record IsCalm (o : Outside) : Type 0 where
   pub out : Rose o.out.faults_were o.out.faults_are → ⊥
   pub notes : Rose o.notes.faults_were o.notes.faults_are → ⊥
 
+-- The words are this command, and the shelf has this file for it.
+pub record Asks (o : Outside) (command : Command) (file : List ℕ) : Type 0 where
+  pub is : IsCommand o.words command
+  pub held : o.holding (file_of command) ≡ Held file
+
 -- Where no count rose and the shelf tells its bytes, the words and the file decide the status; want of memory aside.
 pub record IsComplete (o : Outside) (status : ℕ) : Type 0 where
   pub no_command : IsNoCommand o.words → (status ≡ 2) ⊎ (status ≡ 7)
-  pub completes : (name file text : List ℕ) → IsRun o.words name → o.holding name ≡ Held file → length file ≤ file_limit → Prints file text
-      → (status ≡ 0) ⊎ (status ≡ 7)
-  pub refused : (name file : List ℕ) (rule : Rule) (place : Place) → IsRun o.words name → o.holding name ≡ Held file → length file ≤ file_limit
+  pub completes : (name file text : List ℕ) → Asks o (Run name) file → length file ≤ file_limit → Prints file text → (status ≡ 0) ⊎ (status ≡ 7)
+  pub refused : (name file : List ℕ) (rule : Rule) (place : Place) → Asks o (Run name) file → length file ≤ file_limit
       → IsRefused file rule place → (status ≡ 1) ⊎ (status ≡ 7)
-  pub too_large : (name file : List ℕ) → IsRun o.words name → o.holding name ≡ Held file → file_limit < length file
-      → (status ≡ 8) ⊎ (status ≡ 7)
+  pub shown : (name file text : List ℕ) → Asks o (Show name) file → length file ≤ file_limit → IsShownAs file text → (status ≡ 0) ⊎ (status ≡ 7)
+  pub no_component : (name file : List ℕ) (rule : Rule) (place : Place) → Asks o (Show name) file → length file ≤ file_limit
+      → IsNoComponent file rule place → (status ≡ 1) ⊎ (status ≡ 7)
+  pub too_large : (command : Command) (file : List ℕ) → Asks o command file → file_limit < length file → (status ≡ 8) ⊎ (status ≡ 7)
 
 -- What is promised of a call.
 pub record Answers (o : Outside) (status : ℕ) : Type 0 where

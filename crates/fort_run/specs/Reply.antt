@@ -5,10 +5,12 @@ use Rattle.fort_base.specs.declared.refusal.Rule.{Rule}
 use Rattle.fort_base.specs.declared.refusal.Place.{Place}
 use Rattle.fort_token.specs.declared.token.Tokens.{Tokens}
 use Rattle.fort_lex.specs.Files.{HasTokens, BreaksRule}
-use Rattle.fort_tree.specs.Openers.{AllShallow, FirstDeep}
-use Rattle.fort_limits.specs.declared.TheConstants.{TOO_DEEP}
+use Rattle.fort_front.specs.Front.{IsGrammatical, BreaksGrammar, IsFormed, Breaks}
+use Rattle.fort_yield.specs.Canonical.{canonical}
 use Rattle.fort_port.specs.Outside.{Holding, Untold, Absent, Held, Rose}
-use Rattle.fort_run.specs.Words.{IsRun, IsNoCommand}
+use Rattle.fort_run.specs.declared.command.Command.{Command}
+use Rattle.fort_run.specs.declared.command.Command.TheVariants.{Run, Show}
+use Rattle.fort_run.specs.Words.{IsCommand, IsNoCommand, file_of}
 use Rattle.fort_run.specs.Greeting.{IsGreeting}
 use Rattle.fort_run.specs.Notes.{line, usage, read_fault, too_large, refusal}
 
@@ -28,47 +30,82 @@ IsFile (Held file) bytes = bytes ≡ file
 abbrev pub file_limit : ℕ
 file_limit = 1048576
 
--- The file prints this text: none of its tokens stands too deep, and they are a greeting.
+-- ---- run
+
+-- The file prints this text: it keeps the rules of its tokens, of the grammar, of grouping and of the hierarchy, and it is a greeting.
 pub record Prints (file text : List ℕ) : Type 0 where
   pub tokens : Tokens
   pub has : HasTokens file tokens
-  pub shallow : AllShallow tokens.list
+  pub formed : IsFormed tokens
   pub greets : IsGreeting tokens text
 
--- A token of the file stands too deep, and the first that does stands at the place.
-pub record IsDeep (file : List ℕ) (place : Place) : Type 0 where
+-- The file has tokens, and they break this rule of the grammar, of grouping or of the hierarchy, at this place.
+pub record IsIllFormed (file : List ℕ) (rule : Rule) (place : Place) : Type 0 where
   pub tokens : Tokens
   pub has : HasTokens file tokens
-  pub first : FirstDeep tokens.list place
+  pub breaks : Breaks tokens rule place
 
 -- The file breaks no rule that is asked so far, and isn't built yet: its tokens are no greeting.
 pub record IsNotBuilt (file : List ℕ) : Type 0 where
   pub tokens : Tokens
   pub has : HasTokens file tokens
-  pub shallow : AllShallow tokens.list
+  pub formed : IsFormed tokens
   pub other : (text : List ℕ) → IsGreeting tokens text → ⊥
 
--- The file is refused by this rule, at this place: a rule of its tokens that it breaks; or 202 where the first token
--- stands that is too deep; or 901 at 1:1.
+-- The file is refused by this rule, at this place: a rule of its tokens that it breaks; or one of the grammar, of grouping or of the hierarchy;
+-- or 901 at 1:1.
 pub data IsRefused (file : List ℕ) (rule : Rule) (place : Place) : Type 0 where
   breaks : BreaksRule file rule place → IsRefused file rule place
-  too_deep : IsDeep file place → rule ≡ TOO_DEEP → IsRefused file rule place
+  ill_formed : IsIllFormed file rule place → IsRefused file rule place
   not_built : IsNotBuilt file → rule ≡ record { 0 = 901 } → place ≡ record { line = 1; column = 1 } → IsRefused file rule place
+
+-- What is said of a file to run.
+pub data RunSays (name file : List ℕ) (reply : Reply) : Type 0 where
+  -- The component runs to its end: 0, and what it prints, a text with a line feed.
+  Completes : (text : List ℕ) → Prints file text → reply ≡ record { status = 0; out = line text; note = [] } → RunSays name file reply
+  -- The component is refused: 1, and where and by which rule.
+  Refuses : (rule : Rule) (place : Place) → IsRefused file rule place → reply ≡ record { status = 1; out = []; note = refusal name rule place }
+      → RunSays name file reply
+
+-- ---- show
+
+-- The file is shown as this text: it keeps the rules of its tokens and of the grammar, and the text is the canonical one of its tokens.
+pub record IsShownAs (file text : List ℕ) : Type 0 where
+  pub tokens : Tokens
+  pub has : HasTokens file tokens
+  pub grammatical : IsGrammatical tokens
+  pub shown : text ≡ canonical tokens
+
+-- The file is no component, by this rule, at this place: a rule of its tokens that it breaks; or one of the grammar that its tokens break.
+pub data IsNoComponent (file : List ℕ) (rule : Rule) (place : Place) : Type 0 where
+  in_tokens : BreaksRule file rule place → IsNoComponent file rule place
+  in_grammar : (tokens : Tokens) → HasTokens file tokens → BreaksGrammar tokens rule place → IsNoComponent file rule place
+
+-- What is said of a file to show.
+pub data ShowSays (name file : List ℕ) (reply : Reply) : Type 0 where
+  -- The file is a component: 0, and its canonical text.
+  Shows : (text : List ℕ) → IsShownAs file text → reply ≡ record { status = 0; out = text; note = [] } → ShowSays name file reply
+  -- It is none: 1, and where and by which rule.
+  ShowsNone : (rule : Rule) (place : Place) → IsNoComponent file rule place → reply ≡ record { status = 1; out = []; note = refusal name rule place }
+      → ShowSays name file reply
+
+-- ---- all commands
+
+-- What a command says of its file, once that is read.
+abbrev pub CommandSays : Command → List ℕ → Reply → Type 0
+CommandSays (Run name) file reply = RunSays name file reply
+CommandSays (Show name) file reply = ShowSays name file reply
 
 -- What a call means to say, for its words, what the shelf tells, and its counts of faults before and after.
 pub data Means (words : List (List ℕ)) (holding : List ℕ → Holding) (before after : ℕ) (reply : Reply) : Type 0 where
-  -- The component runs to its end: 0, and what it prints, a text with a line feed.
-  Completes : (name file text : List ℕ) → IsRun words name → IsFile (holding name) file → length file ≤ file_limit
-      → Prints file text → after ≡ before → reply ≡ record { status = 0; out = line text; note = [] } → Means words holding before after reply
-  -- The component is refused: 1, and where and by which rule.
-  Refuses : (name file : List ℕ) (rule : Rule) (place : Place) → IsRun words name → IsFile (holding name) file → length file ≤ file_limit
-      → IsRefused file rule place → after ≡ before → reply ≡ record { status = 1; out = []; note = refusal name rule place }
-      → Means words holding before after reply
-  -- The words are no command: 2, and the file is not asked for.
+  -- The file was read to its end: what the command says of it.
+  Judged : (command : Command) (file : List ℕ) → IsCommand words command → IsFile (holding (file_of command)) file → length file ≤ file_limit
+      → after ≡ before → CommandSays command file reply → Means words holding before after reply
+  -- The words are no command: 2, and no file is asked for.
   NoCommand : IsNoCommand words → after ≡ before → reply ≡ record { status = 2; out = []; note = usage } → Means words holding before after reply
   -- The shelf's count of faults rose: 3.
-  Unread : (name : List ℕ) → IsRun words name → Rose before after → reply ≡ record { status = 3; out = []; note = read_fault }
+  Unread : (command : Command) → IsCommand words command → Rose before after → reply ≡ record { status = 3; out = []; note = read_fault }
       → Means words holding before after reply
   -- The file goes on behind the limit: 8.
-  TooLarge : (name file : List ℕ) → IsRun words name → IsFile (holding name) file → file_limit < length file → after ≡ before
-      → reply ≡ record { status = 8; out = []; note = too_large } → Means words holding before after reply
+  TooLarge : (command : Command) (file : List ℕ) → IsCommand words command → IsFile (holding (file_of command)) file → file_limit < length file
+      → after ≡ before → reply ≡ record { status = 8; out = []; note = too_large } → Means words holding before after reply

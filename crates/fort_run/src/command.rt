@@ -1,24 +1,57 @@
-ghost use Rattle.std.specs.Prelude.{◌≡◌, ◌↔◌, [], ◌∷◌, map, string_bytes, IsTrue, MatchOption};
-ghost use Rattle.fort_run.specs.Words.{IsRun, IsNoCommand, NamesFile};
+//! The words of a command.
+ghost use Rattle.std.specs.Prelude.{◌≡◌, ◌↔◌, [], ◌∷◌, map, string_bytes, IsTrue, IfOk, MatchOption};
+ghost use Rattle.fort_run.specs.Words.{IsCommand, IsNoCommand, NamesFile, file_of};
 
-/// The file that the words ask to run, or `None` where they are no command.
-pub(crate) fn file_to_run(words: &[String]) -> Option<&[u8]>
-    ensures { MatchOption result (IsNoCommand (map string_bytes words.now)) (λ file. IsRun (map string_bytes words.now) file.now) }
-{
-    match words {
-        [command, file] => named_file(command.as_bytes(), file.as_bytes()),
-        _ => None,
+use fort_base::{Bytes, List, Memory};
+use std::alloc::Global;
+
+/// What the words ask for.
+#[derive(Drop)]
+pub(crate) enum Command {
+    /// `run FILE`
+    Run(Bytes),
+    /// `show FILE`
+    Show(Bytes),
+}
+
+impl Command {
+    ghost use Rattle.std.specs.Prelude.{◌≡◌};
+
+    /// The name of the file that the command reads.
+    pub(crate) fn file(&self) -> &Bytes
+        ensures { result.now ≡ file_of self.now }
+    {
+        match self {
+            Command::Run(file) => file,
+            Command::Show(file) => file,
+        }
     }
 }
 
-/// The second word, where the two are the command to run the file that it names.
-fn named_file<'a>(command: &[u8], file: &'a [u8]) -> Option<&'a [u8]>
-    ensures { MatchOption result (¬ IsRun (command.now ∷ file.now ∷ []) file.now) (λ named. (named.now ≡ file.now) × IsRun (command.now ∷ file.now ∷ []) file.now) }
+/// The command that the words are, or `None` where they are none.
+pub(crate) fn command_of(alloc: Global, words: &[String]) -> Result<Option<Command>, Memory>
+    ensures { IfOk result (λ found. MatchOption found (IsNoCommand (map string_bytes words.now)) (IsCommand (map string_bytes words.now))) }
 {
-    if command == b"run".as_slice() && names_file(file) {
-        Some(file)
+    match words {
+        [word, file] => of_two(alloc, word.as_bytes(), file.as_bytes()),
+        _ => Ok(None),
+    }
+}
+
+/// The command that two words are, or `None` where they are none.
+fn of_two(alloc: Global, word: &[u8], file: &[u8]) -> Result<Option<Command>, Memory>
+    ensures { IfOk result (λ found. MatchOption found (IsNoCommand (word.now ∷ file.now ∷ [])) (IsCommand (word.now ∷ file.now ∷ []))) }
+{
+    if !names_file(file) {
+        return Ok(None);
+    }
+    let name = List::from_slice(alloc, file)?;
+    if word == b"run".as_slice() {
+        Ok(Some(Command::Run(name)))
+    } else if word == b"show".as_slice() {
+        Ok(Some(Command::Show(name)))
     } else {
-        None
+        Ok(None)
     }
 }
 

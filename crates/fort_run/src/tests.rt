@@ -79,7 +79,9 @@ fn expect<R: Threads + Wait + Sync + Abort + AllocGlobal>(
 }
 
 #[test]
-fn a_greeting_is_printed_and_every_other_file_is_not_built(rt: HostRuntime) -> Result<(), Fail> {
+fn a_greeting_is_printed_and_every_other_component_is_not_built(
+    rt: HostRuntime,
+) -> Result<(), Fail> {
     let run = ["run", "T.fss"];
     expect(
         &rt,
@@ -93,19 +95,58 @@ fn a_greeting_is_printed_and_every_other_file_is_not_built(rt: HostRuntime) -> R
     expect(&rt, &run, GREETING.as_bytes(), 1, 0, "Hello, World!\n", "")?;
     let escapes = b"component Ab export Executable run(): () =println( \"a\\tb\\n\\\"\\\\\") end";
     expect(&rt, &run, escapes, 5, 0, "a\tb\n\"\\\n", "")?;
-    expect(&rt, &run, b"", 7, 1, "", NOT_BUILT)?;
     let commented =
         "(* T *) component T(*)\nexport Executable run (): (* () *) () =\nprintln(\n\"\u{e9}\") end";
     expect(&rt, &run, commented.as_bytes(), 100, 0, "\u{e9}\n", "")?;
-    for other in [
-        "component if\nexport Executable\nrun(): () = println(\"\")\nend\n",
-        "component AB\nexport Executable\nrun(): () = println(\"\")\nend\n",
-        "component T\nexport Executable\nrun(): () = println (\"\")\nend\n",
-        "component T\nexport Executable\nrun(): () = println(\"\")\nend x",
-        "component T\nexport Executables\nrun(): () = println(\"\")\nend",
+    let loose = "component T\nexport Executable\nrun(): () = println (\"\")\nend\n";
+    expect(&rt, &run, loose.as_bytes(), 100, 1, "", NOT_BUILT)
+}
+
+#[test]
+fn a_broken_rule_of_a_component_is_named_with_its_place(rt: HostRuntime) -> Result<(), Fail> {
+    let run = ["run", "T.fss"];
+    for (file, note) in [
+        ("", "T.fss:1:1: rule 201 Syntax\n"),
+        (
+            "component if\nexport Executable\nrun(): () = println(\"\")\nend\n",
+            "T.fss:1:11: rule 201 Syntax\n",
+        ),
+        (
+            "component T\nexport Executable\nrun(): () = println(\"\")\nend x",
+            "T.fss:4:5: rule 201 Syntax\n",
+        ),
+        (
+            "component T\nexport Executables\nrun(): () = println(\"\")\nend",
+            "T.fss:2:8: rule 201 Syntax\n",
+        ),
+        (
+            "component T\nrun(): () = println(1 +2)\nend",
+            "T.fss:2:23: rule 301 MixedSpacing\n",
+        ),
+        (
+            "component T\ntrait A end\nrun(): () = println(\"\")\ntrait A end\nend",
+            "T.fss:4:7: rule 401 DuplicateName\n",
+        ),
+        (
+            "component T\ntrait A extends B end\ntrait B extends A end\nrun(): () = println(\"\")\nend",
+            "T.fss:2:7: rule 403 CyclicExtends\n",
+        ),
     ] {
-        expect(&rt, &run, other.as_bytes(), 100, 1, "", NOT_BUILT)?;
+        expect(&rt, &run, file.as_bytes(), 100, 1, "", note)?;
     }
+    let deep = padded(rt.alloc(), "", "(", 102)?;
+    let at_102 = "T.fss:1:102: rule 202 TooDeep\n";
+    expect(&rt, &run, &deep, 100, 1, "", at_102)?;
+    let shallow = padded(rt.alloc(), "", "(", 101)?;
+    expect(
+        &rt,
+        &run,
+        &shallow,
+        100,
+        1,
+        "",
+        "T.fss:1:1: rule 201 Syntax\n",
+    )?;
     Ok(())
 }
 
@@ -133,13 +174,9 @@ fn a_broken_rule_of_the_tokens_is_named_with_its_place(rt: HostRuntime) -> Resul
         "",
         "T.fss:2:1: rule 101 NotUtf8\n",
     )?;
-    let deep = padded(rt.alloc(), "", "(", 102)?;
-    let at_102 = "T.fss:1:102: rule 202 TooDeep\n";
-    expect(&rt, &run, &deep, 100, 1, "", at_102)?;
-    let shallow = padded(rt.alloc(), "", "(", 101)?;
-    expect(&rt, &run, &shallow, 100, 1, "", NOT_BUILT)?;
     let most = padded(rt.alloc(), "", "1 ", 524_288)?;
-    expect(&rt, &run, &most, 100_000, 1, "", NOT_BUILT)?;
+    let at_1 = "T.fss:1:1: rule 201 Syntax\n";
+    expect(&rt, &run, &most, 100_000, 1, "", at_1)?;
     let more = padded(rt.alloc(), "", "1 ", 524_290)?;
     expect(
         &rt,
@@ -150,6 +187,35 @@ fn a_broken_rule_of_the_tokens_is_named_with_its_place(rt: HostRuntime) -> Resul
         "",
         "T.fss:1:524289: rule 107 TooManyTokens\n",
     )
+}
+
+#[test]
+fn a_component_is_shown_by_its_canonical_text_and_what_is_none_is_refused(
+    rt: HostRuntime,
+) -> Result<(), Fail> {
+    let show = ["show", "T.fss"];
+    for (file, out) in [
+        (
+            "component A (* c *) run( ):()=println \"x\"  end",
+            "component A run( ):()=println \"x\" end\n",
+        ),
+        (
+            "component T f(): X = 1 < 2 > 3 end",
+            "component T f(): X = 1 < 2 > 3 end\n",
+        ),
+    ] {
+        expect(&rt, &show, file.as_bytes(), 100, 0, out, "")?;
+    }
+    for (file, note) in [
+        ("a \"b\nc\"", "T.fss:1:3: rule 104 OpenText\n"),
+        (
+            "component T f(): X = 1 < 2 > 3",
+            "T.fss:1:30: rule 201 Syntax\n",
+        ),
+    ] {
+        expect(&rt, &show, file.as_bytes(), 100, 1, "", note)?;
+    }
+    Ok(())
 }
 
 #[test]
@@ -164,12 +230,15 @@ fn a_file_may_have_as_many_bytes_as_the_limit(rt: HostRuntime) -> Result<(), Fai
 #[test]
 fn other_words_are_no_command(rt: HostRuntime) -> Result<(), Fail> {
     let file = GREETING.as_bytes();
-    let all: [&[&str]; 8] = [
+    let all: [&[&str]; 11] = [
         &[],
         &["run"],
         &["run", "T.fss", "U.fss"],
         &["run", "--help"],
         &["run", "-x"],
+        &["show"],
+        &["show", "T.fss", "U.fss"],
+        &["show", "-x"],
         &["--help"],
         &["T.fss"],
         &["Run", "T.fss"],
@@ -178,7 +247,8 @@ fn other_words_are_no_command(rt: HostRuntime) -> Result<(), Fail> {
         expect(&rt, words, file, 100, 2, "", USAGE)?;
     }
     expect(&rt, &["run", "-"], file, 100, 3, "", "read fault\n")?;
-    expect(&rt, &["run", ""], file, 100, 3, "", "read fault\n")
+    expect(&rt, &["run", ""], file, 100, 3, "", "read fault\n")?;
+    expect(&rt, &["show", "-"], file, 100, 3, "", "read fault\n")
 }
 
 #[test]

@@ -22,10 +22,10 @@ pub struct Finish {
 /// Does what the words after the program's name ask for, with the files of a shelf, standard output `out`
 /// and standard error `notes`, and answers the status to end with.
 ///
-/// The words `run FILE` run the component in the file. The file is read to its end before it is judged. What
-/// each status says, and what then stands on both outputs, is the chapter "Statuses and notes" of
-/// docs/LANGUAGE.md. After a sink has failed nothing more is written to it. Where memory is wanting the
-/// status is 7, and nothing is said of `out`.
+/// The words `run FILE` run the component in the file, and `show FILE` writes its canonical text. The file is
+/// read to its end before it is judged. What each status says, and what then stands on both outputs, is the
+/// chapter "Statuses and notes" of docs/LANGUAGE.md. After a sink has failed nothing more is written to it.
+/// Where memory is wanting the status is 7, and nothing is said of `out`.
 pub fn fortress<R: Threads + Wait + Sync, F: Shelf, K: Sink, N: Sink, G: Gate + Sync>(
     _rt: &R,
     alloc: Global,

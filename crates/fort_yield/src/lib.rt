@@ -8,8 +8,6 @@ mod laws;
 mod members;
 mod put;
 mod spelling;
-#[cfg(test)]
-mod tests;
 mod text;
 mod types;
 mod yields;

@@ -5,15 +5,18 @@ use Rattle.fort_run.proofs.reply.reply_to.Goals as goal
 
 pub returns-in-Ok-clause-means : goal.returns-in-Ok-clause-means
 returns-in-Ok-clause-means g c =
-    read_means _ (g.F.Shelf.holding c.args.shelf.now) _ _ c.in-Some.word.now c.in_ok-name.name c.in-Ok.file c.judged.result c.in_ok-name.ensures c.in-Some.ensures
+    let is = rw c.in-Some.is at c.in_ok-command.ensures in
+    read_means _ (g.F.Shelf.holding c.args.shelf.now) _ _ c.in-Some.command c.file.result.now c.in-Ok.file c.judged.result is c.file.ensures
     c.in-Ok.ensures.file c.in-Ok.ensures.within c.in-Ok.ensures.calm c.judged.ensures
 
 pub returns-in-Err-Failed-clause-means : goal.returns-in-Err-Failed-clause-means
 returns-in-Err-Failed-clause-means g c =
-    Unread c.in-Some.word.now c.in-Some.ensures (rw c.in-Err-Failed.field-0-is at c.in-Err-Failed.ensures.stops) refl
+    let is = rw c.in-Some.is at c.in_ok-command.ensures in
+    Unread c.in-Some.command is (rw c.in-Err-Failed.field-0-is at c.in-Err-Failed.ensures.stops) refl
 
 pub returns-in-Err-TooLarge-clause-means : goal.returns-in-Err-TooLarge-clause-means
 returns-in-Err-TooLarge-clause-means g c =
+    let is = rw c.in-Some.is at c.in_ok-command.ensures in
     let stops = rw c.in-Err-TooLarge.field-0-is at c.in-Err-TooLarge.ensures.stops in
-    TooLarge c.in-Some.word.now stops.1.0 c.in-Some.ensures
-    (subst (λ n. IsFile (g.F.Shelf.holding c.args.shelf.now n) stops.1.0) c.in_ok-name.ensures stops.1.1) stops.1.2 stops.0 refl
+    TooLarge c.in-Some.command stops.1.0 is
+    (subst (λ n. IsFile (g.F.Shelf.holding c.args.shelf.now n) stops.1.0) c.file.ensures stops.1.1) stops.1.2 stops.0 refl
