@@ -1,0 +1,11 @@
+pub mod Parts
+pub mod TypeFolds
+pub mod TreeFolds
+pub mod SaidMoved
+pub mod TypesSaid
+pub mod TreesSaid
+pub mod MeasuredMoved
+pub mod TypesMeasured
+pub mod TreesMeasured
+pub mod DeclarationsSaid
+pub mod DeclarationsMeasured

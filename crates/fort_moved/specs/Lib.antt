@@ -1,0 +1,4 @@
+pub mod Spots
+pub mod TypesMoved
+pub mod TreesMoved
+pub mod DeclarationsMoved
