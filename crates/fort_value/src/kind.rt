@@ -1,7 +1,7 @@
 //! The type of a value, and whether a value has a type.
 ghost use Rattle.std.specs.Prelude.{◌≡◌, true, false, map, IfOk};
 ghost use Rattle.fort_types.specs.Relation.{each_below, relation};
-ghost use Rattle.fort_machine.specs.Types.{domain_of, has_type as has, type_of as type_at};
+ghost use Rattle.fort_machine.specs.Types.{all_below, domain_of, has_type as has, type_of as type_at};
 
 use crate::order::{related, set};
 use fort_base::{Boxed, List, Memory, Ty, TypeId};
@@ -115,9 +115,10 @@ fn tuple_has(program: &Program, parts: &List<Value>, ty: &Ty) -> bool
     }
 }
 
+/// Whether there are as many values as types, and each value has the type in its place. It takes no memory. The chapter "Calls".
 #[cycle(has_type)]
-fn all_have(program: &Program, parts: &List<Value>, types: &List<Ty>) -> bool
-    ensures { result ≡ each_below (map (relation program.now.types.below) (map (type_at program.now) parts.now)) true types.now }
+pub fn all_have(program: &Program, parts: &List<Value>, types: &List<Ty>) -> bool
+    ensures { result ≡ all_below program.now (map (type_at program.now) parts.now) types.now }
 {
     let left = parts.as_slice();
     let right = types.as_slice();

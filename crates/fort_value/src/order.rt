@@ -2,8 +2,10 @@
 ghost use Rattle.std.specs.Prelude.{◌≡◌, map};
 ghost use Rattle.fort_types.specs.Table.{is_set};
 ghost use Rattle.fort_types.specs.Relation.{each_below, named_below, relation};
+ghost use Rattle.fort_machine.specs.Types.{all_below};
 
 use fort_base::{List, Ty, TypeId};
+use fort_core::Program;
 
 /// Whether the row of `from` has the place `to` set.
 pub fn set(rows: &List<List<bool>>, from: TypeId, to: TypeId) -> bool
@@ -64,4 +66,12 @@ fn all_related(rows: &List<List<bool>>, up: bool, xs: &List<Ty>, ys: &List<Ty>) 
         }
     }
     true
+}
+
+/// Whether two lists of types have one length, and each type of the first is below the one in its place of the second. It
+/// takes no memory. The chapter "Calls".
+pub fn are_below(program: &Program, types: &List<Ty>, others: &List<Ty>) -> bool
+    ensures { result ≡ all_below program.now types.now others.now }
+{
+    all_related(&program.types.below, true, types, others)
 }
