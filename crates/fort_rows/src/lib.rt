@@ -13,3 +13,5 @@ mod tokens;
 mod types;
 #[cfg(test)]
 mod values;
+#[cfg(test)]
+mod walks;
