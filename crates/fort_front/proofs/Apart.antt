@@ -1,5 +1,5 @@
 -- What keeps the rules breaks none.
-use Rattle.std.proofs.Common.{◌≡◌, ℕ, ◌<◌, ◌≤◌, List, [], ◌∷◌, ◌++◌, length, sym, subst, arith}
+use Rattle.std.proofs.Common.{◌≡◌, ℕ, ◌<◌, ◌≤◌, List, [], ◌∷◌, ◌++◌, length, sym, ◌∙◌, subst, arith}
 use Rattle.std.specs.List.{Contains}
 use Rattle.fort_base.specs.declared.refusal.Place.{Place}
 use Rattle.fort_base.specs.declared.refusal.Rule.{Rule}
@@ -16,8 +16,14 @@ use Rattle.fort_group.proofs.Rules.{breaks_none}
 use Rattle.fort_syntax.specs.Answer as grammar
 use Rattle.fort_syntax.specs.Answer.{TooDeep, Syntax, TooMany}
 use Rattle.fort_mention.specs.TypeNames.{type_names}
-use Rattle.fort_hier.specs.Hierarchies.{Broken, IsHierarchy, IsReported}
-use Rattle.fort_front.specs.Front.{IsFormed, Breaks, in_grammar, in_grouping, in_hierarchy, NeverBoth, NeverBothInGrammar}
+use Rattle.fort_hier.specs.Hierarchies.{Broken, IsHierarchy, IsReported, declares}
+use Rattle.fort_hier.proofs.AcceptedLaws.{accepted_sound}
+use Rattle.fort_set.specs.declared.member.Members.{Members}
+use Rattle.fort_field.specs.Rules as fields
+use Rattle.fort_member.specs.Answers.{AreMembers}
+use Rattle.fort_over.specs.Answers as overloads
+use Rattle.fort_front.proofs.Overloaded.{none_reported}
+use Rattle.fort_front.specs.Front.{IsFormed, Breaks, in_grammar, in_grouping, in_hierarchy, in_fields, in_overloads, NeverBoth, NeverBothInGrammar}
 
 -- Where no token stands too deep, no first one does.
 none_deep : (ts : List Token) (place : Place) → AllShallow ts → FirstDeep ts place → ⊥
@@ -60,7 +66,23 @@ in_hierarchy_never tokens rule at c f is reported =
     let same : c ≡ f.component = f.is.only c is.tree in
     f.typed.kept rule.0 at (subst (λ (x : Component). Broken x (type_names x) rule.0 at) same reported.earliest.breaks)
 
+in_fields_never : (tokens : Tokens) (rule : Rule) (at : Place) (c : Component) → IsFormed tokens → grammar.IsComponent tokens c
+    → fields.IsReported c rule.0 at → ⊥
+in_fields_never tokens rule at c f is reported =
+    let same : c ≡ f.component = f.is.only c is.tree in
+    f.belong.fields.kept rule.0 at (subst (λ (x : Component). fields.Broken x rule.0 at) same reported.earliest.breaks)
+
+in_overloads_never : (tokens : Tokens) (rule : Rule) (at : Place) (c : Component) (members : Members) → IsFormed tokens → grammar.IsComponent tokens c
+    → AreMembers c members → overloads.IsReported (declares c) members rule.0 at → ⊥
+in_overloads_never tokens rule at c members f is belong reported =
+    let same : c ≡ f.component = f.is.only c is.tree in
+    let other : AreMembers f.component members = subst (λ (x : Component). AreMembers x members) same belong in
+    none_reported (declares f.component) (accepted_sound f.component (type_names f.component) f.types f.typed) f.members members rule.0 at
+    (other.sets ∙ sym f.belong.sets) f.ruled (subst (λ (x : Component). overloads.IsReported (declares x) members rule.0 at) same reported)
+
 pub never : NeverBoth
 never tokens rule at f (in_grammar breaks) = in_grammar_never tokens rule.0 at f.component f.is breaks
 never tokens rule at f (in_grouping c is first) = in_grouping_never tokens rule at c f is first
 never tokens rule at f (in_hierarchy c groups is grouped reported) = in_hierarchy_never tokens rule at c f is reported
+never tokens rule at f (in_fields c groups types is grouped typed reported) = in_fields_never tokens rule at c f is reported
+never tokens rule at f (in_overloads c groups types members is grouped typed belong reported) = in_overloads_never tokens rule at c members f is belong reported

@@ -1,2 +1,4 @@
+pub mod Overloaded
 pub mod Apart
 pub mod Refused
+pub mod Called

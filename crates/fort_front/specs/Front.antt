@@ -1,4 +1,4 @@
--- The chapters "Grammar", "Operators" and "Types", their refusals one after another: what `check_grammar` and `check_tokens` answer.
+-- The chapters "Grammar", "Operators", "Types", "Members" and "Overload rules", their refusals one after another: what `check_grammar` and `check_tokens` answer.
 use Rattle.std.specs.Prelude.{List, Result, Ok, Err}
 use Rattle.fort_base.specs.declared.refusal.Place.{Place}
 use Rattle.fort_base.specs.declared.refusal.Rule.{Rule}
@@ -11,7 +11,12 @@ use Rattle.fort_tree.specs.Limits.{flats}
 use Rattle.fort_group.specs.Components.{HasGroups, IsFirstBreak}
 use Rattle.fort_mention.specs.TypeNames.{type_names}
 use Rattle.fort_hier.specs.declared.accepted.Hierarchy.{Hierarchy}
-use Rattle.fort_hier.specs.Hierarchies.{IsHierarchy, IsReported}
+use Rattle.fort_hier.specs.Hierarchies.{IsHierarchy, IsReported, declares}
+use Rattle.fort_set.specs.declared.member.Members.{Members}
+use Rattle.fort_field.specs.Rules as fields
+use Rattle.fort_member.specs.Answers.{AreMembers}
+use Rattle.fort_over.specs.Answers.{KeepAllRules}
+use Rattle.fort_over.specs.Answers as overloads
 use Rattle.fort_syntax.specs.Answer as grammar
 
 -- The tokens are those of one component, which passes no limit.
@@ -29,8 +34,8 @@ GrammarAnswers tokens (Ok u) = IsGrammatical tokens
 GrammarAnswers tokens (Err (Refused rule at)) = BreaksGrammar tokens rule at
 GrammarAnswers tokens (Err Memory) = Unit {0}
 
--- The tokens are those of one component, which passes no limit, each of its flat expressions has its grouping, and its declared
--- types are a hierarchy.
+-- The tokens are those of one component, which passes no limit, each of its flat expressions has its grouping, its declared types
+-- are a hierarchy, it has these members, and each of its overload sets keeps the rules.
 pub record IsFormed (tokens : Tokens) : Type 0 where
   pub component : Component
   pub is : grammar.IsComponent tokens component
@@ -38,14 +43,24 @@ pub record IsFormed (tokens : Tokens) : Type 0 where
   pub grouped : HasGroups (flats component) groups
   pub types : Hierarchy
   pub typed : IsHierarchy component (type_names component) types
+  pub members : Members
+  pub belong : AreMembers component members
+  pub ruled : KeepAllRules (declares component) members
 
 -- The token list breaks this rule, at this place: one of 202, 201 and 203; or, where it is a component, the first of 301 to 304
--- that one of its flat expressions breaks; or, where each has its grouping, the lowest of 401 to 407 that its types break.
+-- that one of its flat expressions breaks; or, where each has its grouping, the lowest of 401 to 407 that its types break; or, where
+-- these are a hierarchy, the lower of 451 and 452 that its fields break; or, where it has members, the first of 501 to 507 that its
+-- overload sets break.
 pub data Breaks (tokens : Tokens) (rule : Rule) (at : Place) : Type 0 where
   in_grammar : BreaksGrammar tokens rule at → Breaks tokens rule at
   in_grouping : (c : Component) → grammar.IsComponent tokens c → IsFirstBreak (flats c) rule at → Breaks tokens rule at
   in_hierarchy : (c : Component) (groups : List FlatGrouping) → grammar.IsComponent tokens c → HasGroups (flats c) groups
       → IsReported c (type_names c) rule.0 at → Breaks tokens rule at
+  in_fields : (c : Component) (groups : List FlatGrouping) (types : Hierarchy) → grammar.IsComponent tokens c → HasGroups (flats c) groups
+      → IsHierarchy c (type_names c) types → fields.IsReported c rule.0 at → Breaks tokens rule at
+  in_overloads : (c : Component) (groups : List FlatGrouping) (types : Hierarchy) (members : Members) → grammar.IsComponent tokens c
+      → HasGroups (flats c) groups → IsHierarchy c (type_names c) types → AreMembers c members → overloads.IsReported (declares c) members rule.0 at
+      → Breaks tokens rule at
 
 -- The rules are kept, or this is the one that is reported.
 abbrev pub Answers : Tokens → Result (Unit {0}) CheckFault → Type 0

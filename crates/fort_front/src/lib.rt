@@ -5,4 +5,4 @@ mod check;
 mod laws;
 
 pub use check::{check_grammar, check_tokens};
-pub use laws::{never_both, never_both_in_grammar};
+pub use laws::{never_both, never_both_in_grammar, one_declaration_for_each_call};

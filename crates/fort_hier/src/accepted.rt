@@ -5,7 +5,7 @@ ghost use Rattle.fort_hier.specs.Names.{declared_spellings};
 ghost use Rattle.fort_hier.specs.Numbers.{declared_types};
 
 use crate::heads::Head;
-use crate::spelled::{DECLARED_NAMES, spelled, type_name};
+use crate::spellings::{DECLARED_NAMES, spelled, type_name};
 use fort_base::{Bytes, List, Memory, Place, TypeTable};
 use std::alloc::Global;
 

@@ -6,7 +6,7 @@ ghost use Rattle.fort_hier.specs.Seen.{HoldsSeen};
 
 use crate::earliest::earlier;
 use crate::seen::Seen;
-use crate::spelled::{FUNCTION_NAMES, TYPE_NAMES, function_name, spelled, type_name};
+use crate::spellings::{FUNCTION_NAMES, TYPE_NAMES, function_name, spelled, type_name};
 use crate::tops::Top;
 use fort_base::{Bytes, Memory, Place};
 use std::alloc::Global;

@@ -4,7 +4,7 @@ ghost use Rattle.fort_hier.specs.Names.{Spelling, declared_spellings};
 ghost use Rattle.fort_hier.specs.Numbers.{NumberIs, HoldsNumbers, all_types, number_of, head_spelling};
 
 use crate::heads::Head;
-use crate::spelled::{DECLARED_NAMES, spelled, type_name};
+use crate::spellings::{DECLARED_NAMES, spelled, type_name};
 use fort_base::{Bytes, Memory};
 use indexmap::IndexMap;
 use std::alloc::Global;

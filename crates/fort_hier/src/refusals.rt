@@ -14,7 +14,7 @@ use crate::duplicates::first_duplicate;
 use crate::heads::Head;
 use crate::lowest::lowest_broken;
 use crate::numbers::numbers_in;
-use crate::spelled::DECLARED_NAMES;
+use crate::spellings::DECLARED_NAMES;
 use crate::tops::tops_in;
 use crate::types::types_in;
 use crate::unknown::first_unknown;

@@ -126,7 +126,7 @@ fn add_method(method: &Method, list: &mut List<Top>) -> Result<(), Memory>
 }
 
 /// Whether a method has `self` among its parameters.
-fn is_with_self(parameters: &Option<MethodParameters>) -> bool
+pub fn is_with_self(parameters: &Option<MethodParameters>) -> bool
     ensures { result ≡ is_functional parameters.now }
 {
     match parameters {

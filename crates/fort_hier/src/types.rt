@@ -5,7 +5,7 @@ ghost use Rattle.fort_hier.specs.Numbers.{HoldsNumbers, built_in_declared, decla
 
 use crate::heads::Head;
 use crate::numbers::Numbers;
-use crate::spelled::spelled;
+use crate::spellings::spelled;
 use fort_base::{Bytes, List, Memory};
 use fort_tree::Name;
 use fort_types::{Declared, Kind};

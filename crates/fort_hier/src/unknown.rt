@@ -6,7 +6,7 @@ ghost use Rattle.fort_hier.specs.Numbers.{HoldsNumbers, IsUnknown};
 
 use crate::earliest::earlier;
 use crate::numbers::Numbers;
-use crate::spelled::spelled;
+use crate::spellings::spelled;
 use fort_base::{Bytes, Place};
 use fort_tree::Name;
 

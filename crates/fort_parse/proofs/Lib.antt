@@ -1,4 +1,3 @@
-pub mod Names
 pub mod Ended
 pub mod Statements
 pub mod Firsts

@@ -1,5 +1,3 @@
-pub mod Beginnings
-pub mod Plain
 pub mod Flats
 pub mod Blocks
 pub mod Runs

@@ -32,7 +32,7 @@ use Rattle.fort_reading.specs.Parser.{Parser, Eater, pure, wrong, ◌>>=◌, for
 use Rattle.fort_reading.specs.Words.{is_mark, is_word, is_eq, is_power, spot_of, spot_if, tight, name_of, called_of, sees, sees_tight}
 use Rattle.fort_parse_types.specs.Types.{type_tree}
 use Rattle.fort_tree.specs.Said.{is_there}
-use Rattle.fort_parse.specs.Beginnings.{begins_postfix, begins_run_part}
+use Rattle.fort_starts.specs.Beginnings.{begins_postfix, begins_run_part, is_next_tight}
 use Rattle.fort_parse.specs.Flats.{flat, generator, expr, maybe_list}
 use Rattle.fort_parse.specs.Flats as flats
 use Rattle.fort_parse.specs.Blocks.{last_ended, block, case_clauses, type_clauses, else_clause, also_blocks, elifs, else_block, catch, finally, next_generators}
@@ -56,11 +56,6 @@ literal_in s _ = None
 -- the atom that a token alone is
 unfoldable pub literal_of : Token → Option Atom
 literal_of t = literal_in (spot_of t) t.kind
-
--- whether no gap stands before the next token
-unfoldable pub is_next_tight : Option Token → Bool
-is_next_tight None = false
-is_next_tight (Some t) = is_empty t.gap
 
 module _ (names : Spellings) {n : ℕ} (run : Bool → Eater Run n) where
   -- ---- the forms that end with `end`

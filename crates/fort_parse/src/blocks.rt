@@ -7,13 +7,13 @@ ghost use Rattle.fort_parse.specs.Blocks as block_spec;
 ghost use Rattle.fort_parse.specs.Runs.{run_at};
 ghost use Rattle.fort_parse.specs.Nests.{Nests};
 
-use crate::beginnings::{
-    begins_case_clause, begins_else, begins_item, begins_type_clause, sees_head,
-};
 use crate::grammar::Grammar;
-use crate::plain::{PlainNames, plain_name, plain_names};
 use fort_base::{Boxed, Bytes, List};
-use fort_reading::{Cursor, Fault};
+use fort_reading::{Cursor, Fault, add};
+use fort_starts::{
+    PlainNames, begins_case_clause, begins_else, begins_item, begins_type_clause, plain_name,
+    plain_names, sees_head,
+};
 use fort_token::{Mark, Reserved};
 use fort_tree::{
     Also, Block, BlockItem, CaseClause, Catch, Elif, ElseBlock, ElseClause, Expr, Finally, Item,
@@ -211,7 +211,7 @@ impl<F: Fn(Global, &[Bytes], usize, usize, &mut Cursor<'_>, bool) -> Result<Run,
             }
             let item = self.block_item(tokens)?;
             ready = item.semicolon.is_some();
-            found.push(item)?;
+            add(&mut found, item)?;
         }
         Err(Fault::TooDeep)
     }
@@ -245,7 +245,7 @@ impl<F: Fn(Global, &[Bytes], usize, usize, &mut Cursor<'_>, bool) -> Result<Run,
             }
             let clause = self.case_clause(tokens)?;
             ready = clause.semicolon.is_some();
-            found.push(clause)?;
+            add(&mut found, clause)?;
         }
         Err(Fault::TooDeep)
     }
@@ -291,7 +291,7 @@ impl<F: Fn(Global, &[Bytes], usize, usize, &mut Cursor<'_>, bool) -> Result<Run,
             }
             let clause = self.type_clause(tokens)?;
             ready = clause.semicolon.is_some();
-            found.push(clause)?;
+            add(&mut found, clause)?;
         }
         Err(Fault::TooDeep)
     }
@@ -375,7 +375,7 @@ impl<F: Fn(Global, &[Bytes], usize, usize, &mut Cursor<'_>, bool) -> Result<Run,
             if !tokens.sees_word(Reserved::Also) {
                 return Ok(found);
             }
-            found.push(self.also_block(tokens)?)?;
+            add(&mut found, self.also_block(tokens)?)?;
         }
         Err(Fault::TooDeep)
     }
@@ -406,7 +406,7 @@ impl<F: Fn(Global, &[Bytes], usize, usize, &mut Cursor<'_>, bool) -> Result<Run,
             if !tokens.sees_word(Reserved::Elif) {
                 return Ok(found);
             }
-            found.push(self.elif(tokens)?)?;
+            add(&mut found, self.elif(tokens)?)?;
         }
         Err(Fault::TooDeep)
     }
@@ -487,7 +487,7 @@ impl<F: Fn(Global, &[Bytes], usize, usize, &mut Cursor<'_>, bool) -> Result<Run,
             if !tokens.sees_mark(Mark::Comma) {
                 return Ok(found);
             }
-            found.push(self.next_generator(tokens)?)?;
+            add(&mut found, self.next_generator(tokens)?)?;
         }
         Err(Fault::TooDeep)
     }

@@ -5,10 +5,10 @@ ghost use Rattle.fort_parse.specs.Flats as flats;
 ghost use Rattle.fort_parse.specs.Runs.{run_at};
 ghost use Rattle.fort_parse.specs.Nests.{Nests};
 
-use crate::beginnings::{begins_flat_part, sees_assign, sees_head, sees_infix, sees_prefix};
 use crate::grammar::Grammar;
 use fort_base::{Boxed, Bytes, List};
-use fort_reading::{Cursor, Fault};
+use fort_reading::{Cursor, Fault, add};
+use fort_starts::{begins_flat_part, sees_assign, sees_head, sees_infix, sees_prefix};
 use fort_token::{Kind, Mark, Reserved};
 use fort_tree::{
     AssignSign, Big, Expr, ExprList, Flat, FlatPart, Generator, Head, Name, NextExpr, Operand, Run,
@@ -78,7 +78,7 @@ impl<F: Fn(Global, &[Bytes], usize, usize, &mut Cursor<'_>, bool) -> Result<Run,
             if !begins_flat_part(lines, blocks, tokens.next()) {
                 return Ok(found);
             }
-            found.push(self.flat_part(tokens, blocks)?)?;
+            add(&mut found, self.flat_part(tokens, blocks)?)?;
         }
         Err(Fault::TooDeep)
     }
@@ -366,7 +366,7 @@ impl<F: Fn(Global, &[Bytes], usize, usize, &mut Cursor<'_>, bool) -> Result<Run,
             if !tokens.sees_mark(Mark::Comma) {
                 return Ok(found);
             }
-            found.push(self.next_expr(tokens)?)?;
+            add(&mut found, self.next_expr(tokens)?)?;
         }
         Err(Fault::TooDeep)
     }

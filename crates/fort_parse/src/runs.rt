@@ -5,11 +5,11 @@ ghost use Rattle.fort_parse.specs.Runs as runs;
 ghost use Rattle.fort_parse.specs.Runs.{run_at};
 ghost use Rattle.fort_parse.specs.Nests.{Nests};
 
-use crate::beginnings::{begins_run_part, is_next_tight, sees_postfix};
 use crate::blocks::{case_ended, type_ended};
 use crate::grammar::Grammar;
 use fort_base::{Boxed, Bytes, List};
-use fort_reading::{Cursor, Fault, spot_of};
+use fort_reading::{Cursor, Fault, add, spot_of};
+use fort_starts::{begins_run_part, is_next_tight, sees_postfix};
 use fort_token::{Kind, Mark, Reserved, Token};
 use fort_tree::{
     Atom, Block, Delimited, Expr, Flat, Generator, Name, NextGenerator, Postfix, Run, RunPart,
@@ -532,7 +532,7 @@ impl<F: Fn(Global, &[Bytes], usize, usize, &mut Cursor<'_>, bool) -> Result<Run,
             if !begins_run_part(blocks, tokens.next()) {
                 return Ok(found);
             }
-            found.push(self.run_part(tokens, blocks)?)?;
+            add(&mut found, self.run_part(tokens, blocks)?)?;
         }
         Err(Fault::TooDeep)
     }

@@ -5,7 +5,7 @@ ghost use Rattle.fort_reading.specs.Parser.{Reads};
 ghost use Rattle.fort_parse_types.specs.Types as spec;
 
 use fort_base::{Boxed, Bytes, List};
-use fort_reading::{Cursor, Fault, is_called};
+use fort_reading::{Cursor, Fault, add, is_called};
 use fort_token::{Kind, Mark};
 use fort_tree::{
     Name, NextParameter, NextType, Parameter, Parameters, SimpleType, Spot, TypeList, TypeTree,
@@ -178,7 +178,7 @@ impl<'a> TypeGrammar<'a> {
             if !tokens.sees_mark(Mark::Comma) {
                 return Ok(found);
             }
-            found.push(self.next_type(tokens)?)?;
+            add(&mut found, self.next_type(tokens)?)?;
         }
         Err(Fault::TooDeep)
     }
@@ -230,7 +230,7 @@ impl<'a> TypeGrammar<'a> {
             if !tokens.sees_mark(Mark::Comma) {
                 return Ok(found);
             }
-            found.push(self.next_parameter(tokens)?)?;
+            add(&mut found, self.next_parameter(tokens)?)?;
         }
         Err(Fault::TooDeep)
     }

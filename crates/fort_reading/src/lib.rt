@@ -3,9 +3,11 @@
 
 mod cursor;
 mod fault;
+mod lists;
 
 pub use cursor::{
     Cursor, is_called, is_empty, is_eq, is_infix, is_line, is_mark, is_power, is_range, is_word,
     spot_of,
 };
 pub use fault::Fault;
+pub use lists::{add, single};

@@ -5,7 +5,7 @@ use Rattle.fort_base.specs.declared.refusal.Place.{Place}
 use Rattle.fort_lex.proofs.Uniqueness.{one_list_of_tokens, list_or_fault}
 use Rattle.fort_front.specs.Front.{BreaksGrammar, Breaks}
 use Rattle.fort_front.proofs.Apart.{never, never_in_grammar}
-use Rattle.fort_run.specs.Greeting.{IsGreeting}
+use Rattle.fort_greet.specs.Greeting.{IsGreeting}
 use Rattle.fort_run.specs.Reply.{Prints, IsRefused, breaks, ill_formed, not_built, IsShownAs, IsNoComponent, in_tokens, in_grammar}
 
 pub prints_apart : (file text : List ℕ) (rule : Rule) (place : Place) → Prints file text → IsRefused file rule place → ⊥

@@ -1,30 +1,34 @@
 -- Where no count rose, the words and the file decide the status, want of memory aside.
-use Rattle.std.proofs.Common.{◌≡◌, ℕ, ◌<◌, ◌≤◌, List, [], ◌∷◌, length, ap, sym, ◌∙◌, subst, arith, inl, inr, refl}
-use Rattle.std.specs.Prelude.{◌⊎◌, codes}
+use Rattle.std.proofs.Common.{◌≡◌, ℕ, ◌<◌, ◌≤◌, List, [], Some, length, ap, sym, ◌∙◌, subst, arith, inl, inr}
+use Rattle.std.specs.Prelude.{◌⊎◌, slice_get}
 use Rattle.fort_port.specs.Outside.{Held}
 use Rattle.fort_base.specs.declared.refusal.Rule.{Rule}
 use Rattle.fort_base.specs.declared.refusal.Place.{Place}
-use Rattle.fort_run.specs.declared.command.Command.{Command}
-use Rattle.fort_run.specs.declared.command.Command.TheVariants.{Run, Show}
-use Rattle.fort_run.specs.Words.{IsCommand, IsNoCommand, file_of}
-use Rattle.fort_run.specs.Reply.{Reply, IsFile, Prints, IsRefused, RunSays, Completes, Refuses, IsShownAs, IsNoComponent, ShowSays, Shows, ShowsNone, CommandSays, Judged, NoCommand, Unread, TooLarge, file_limit}
-use Rattle.fort_run.proofs.Apart.{prints_apart, shown_apart}
-use Rattle.fort_run.specs.Delivery.{Whole, OutFailed, NotesFailed}
+use Rattle.fort_token.specs.declared.token.Token.{Token}
+use Rattle.fort_token.specs.declared.token.Tokens.{Tokens}
+use Rattle.fort_lex.proofs.Uniqueness.{one_list_of_tokens}
+use Rattle.fort_core.specs.declared.program.Program.{Program}
+use Rattle.fort_greet.specs.Greeting.{IsGreeting}
+use Rattle.fort_greet.specs.Program.{IsProgram}
+use Rattle.fort_greet.specs.Runs.{cost, EndsSo, completes, runs_out}
+use Rattle.fort_greet.proofs.Ended.{greetings_end_so}
+use Rattle.fort_cmd.specs.declared.command.Command.{Command}
+use Rattle.fort_cmd.specs.declared.command.Command.TheVariants.{Run, Show}
+use Rattle.fort_run.specs.declared.top.Finish.{Finish}
+use Rattle.fort_cmd.specs.Words.{IsCommand, IsNoCommand, file_of}
+use Rattle.fort_run.specs.Notes.{line}
+use Rattle.fort_run.specs.Reply.{Reply, IsFile, Prints, IsProgramOf, IsRefused, TellsEnding, TellsRun, RunSays, Runs, Refuses, IsShownAs, IsNoComponent, ShowSays, Shows, ShowsNone, CommandSays, Judged, NoCommand, Unread, TooLarge, file_limit}
+use Rattle.fort_run.specs.Delivery.{Takes, Whole, OutFailed, NotesFailed}
 use Rattle.fort_run.specs.Outcome.{Outside, MeansToSay, Ends, Said, WantsMemory, IsCalm, Asks, Answers}
+use Rattle.fort_run.proofs.Apart.{prints_apart, shown_apart}
+use Rattle.fort_cmd.proofs.Commands.{one_command}
 
 -- What was meant was said, or memory was wanting.
-settled : (o : Outside) (s : ℕ) → IsCalm o → Ends o s → ((reply : Reply) × MeansToSay o reply × (s ≡ reply.status)) ⊎ (s ≡ 7)
-settled o s calm (Said reply means (Whole out notes e)) = inl (reply, means, e)
-settled o s calm (Said reply means (OutFailed out notes e)) = absurd (calm.out out.rose)
-settled o s calm (Said reply means (NotesFailed out notes e)) = absurd (calm.notes notes.rose)
-settled o s calm (WantsMemory notes e) = inr e
-
--- The words are one command at most.
-one_command : (words : List (List ℕ)) (a b : Command) → IsCommand words a → IsCommand words b → a ≡ b
-one_command words (Run a) (Run b) p q = ap Run (let e : codes "run" ∷ a ∷ [] ≡ codes "run" ∷ b ∷ [] = sym p.words_are ∙ q.words_are in cc)
-one_command words (Run a) (Show b) p q = absurd (let e : codes "run" ∷ a ∷ [] ≡ codes "show" ∷ b ∷ [] = sym p.words_are ∙ q.words_are in cc)
-one_command words (Show a) (Run b) p q = absurd (let e : codes "show" ∷ a ∷ [] ≡ codes "run" ∷ b ∷ [] = sym p.words_are ∙ q.words_are in cc)
-one_command words (Show a) (Show b) p q = ap Show (let e : codes "show" ∷ a ∷ [] ≡ codes "show" ∷ b ∷ [] = sym p.words_are ∙ q.words_are in cc)
+settled : (o : Outside) (finish : Finish) → IsCalm o → Ends o finish → ((reply : Reply) × MeansToSay o reply × Takes o.out reply.out × (finish.status ≡ reply.status)) ⊎ (finish.status ≡ 7)
+settled o finish calm (Said reply means (Whole out notes e) j) = inl (reply, means, out, e)
+settled o finish calm (Said reply means (OutFailed out notes e) j) = absurd (calm.out out.rose)
+settled o finish calm (Said reply means (NotesFailed out notes e) j) = absurd (calm.notes notes.rose)
+settled o finish calm (WantsMemory notes e j) = inr e
 
 -- What was read is the file that the shelf has.
 same_file : (o : Outside) (a b : Command) (file found : List ℕ) → Asks o a file → IsCommand o.words b → IsFile (o.holding (file_of b)) found → found ≡ file
@@ -42,13 +46,52 @@ judged o reply command file c asks within (Unread command' is rose e) = absurd (
 judged o reply command file c asks within (TooLarge command' file' is read long calm e) =
     absurd (let same : length file' ≡ length file = ap length (same_file o command command' file file' asks is read) in omega arith)
 
-completes : (name file text : List ℕ) (reply : Reply) → Prints file text → RunSays name file reply → reply.status ≡ 0
-completes name file text reply prints (Completes text' prints' e) = ap (λ (x : Reply). x.status) e
-completes name file text reply prints (Refuses rule place refused e) = absurd (prints_apart file text rule place prints refused)
+-- A greeting prints one text.
+same_said : (ts : Tokens) (a b : List ℕ) → IsGreeting ts a → IsGreeting ts b → b ≡ a
+same_said ts a b g h =
+    let k : Some g.says.0 ≡ Some h.says.0 = sym g.says.2 ∙ h.says.2 in
+    let t : g.says.0 ≡ h.says.0 = cc in
+    let e = sym g.says.3 ∙ ap (λ (x : Token). x.kind) t ∙ h.says.3 in
+    let n : g.says.1 ≡ h.says.1 = cc in
+    let z : Some a ≡ Some b = sym g.says.4 ∙ ap (slice_get ts.texts) n ∙ h.says.4 in cc
 
-refused : (name file : List ℕ) (rule : Rule) (place : Place) (reply : Reply) → IsRefused file rule place → RunSays name file reply → reply.status ≡ 1
-refused name file rule place reply r (Completes text prints e) = absurd (prints_apart file text rule place prints r)
-refused name file rule place reply r (Refuses rule' place' refused' e) = ap (λ (x : Reply). x.status) e
+same_text : (file a b : List ℕ) → Prints file a → Prints file b → b ≡ a
+same_text file a b p q = same_said p.tokens a b p.greets (subst (λ t. IsGreeting t b) (one_list_of_tokens file q.tokens p.tokens q.has p.has) q.greets)
+
+-- How the run of a greeting ends.
+ends_so : (file text : List ℕ) (fuel : ℕ) (reply : Reply) (p : Program) → Prints file text → IsProgramOf file p → TellsRun p fuel reply → EndsSo text fuel reply.out reply.journal.ending
+ends_so file text fuel reply p prints is tells =
+    let h = subst (λ t. IsProgram t p) (same_text file text is.0 prints is.1) is.2 in
+    subst (λ n. EndsSo text n reply.out reply.journal.ending) tells.is_fuel
+    (subst (λ x. EndsSo text reply.journal.fuel x reply.journal.ending) (sym tells.is_output) (greetings_end_so text p reply.journal tells.term tells.deed h tells.records))
+
+run_of : (name file text : List ℕ) (fuel : ℕ) (reply : Reply) → Prints file text → RunSays name file fuel reply → (p : Program) × (IsProgramOf file p × TellsRun p fuel reply)
+run_of name file text fuel reply prints (Runs p is tells) = (p, (is, tells))
+run_of name file text fuel reply prints (Refuses rule place refused e) = absurd (prints_apart file text rule place prints refused)
+
+completed : (name file text : List ℕ) (fuel : ℕ) (reply : Reply) → Prints file text → cost text ≤ fuel → RunSays name file fuel reply → (reply.status ≡ 0) × (reply.out ≡ line text)
+completed name file text fuel reply prints enough says = go (ends_so file text fuel reply r.0 prints r.1.0 r.1.1)
+  where
+    r : (p : Program) × (IsProgramOf file p × TellsRun p fuel reply)
+    r = run_of name file text fuel reply prints says
+
+    go : EndsSo text fuel reply.out reply.journal.ending → (reply.status ≡ 0) × (reply.out ≡ line text)
+    go (completes within out e) = ((subst (λ x. TellsEnding r.0 x reply) e r.1.1.tells).0, out)
+    go (runs_out pick less out e) = absurd (omega (arith, enough, less))
+
+ran_out : (name file text : List ℕ) (fuel : ℕ) (reply : Reply) → Prints file text → fuel < cost text → RunSays name file fuel reply → (reply.status ≡ 6) × (reply.out ≡ [])
+ran_out name file text fuel reply prints short says = go (ends_so file text fuel reply r.0 prints r.1.0 r.1.1)
+  where
+    r : (p : Program) × (IsProgramOf file p × TellsRun p fuel reply)
+    r = run_of name file text fuel reply prints says
+
+    go : EndsSo text fuel reply.out reply.journal.ending → (reply.status ≡ 6) × (reply.out ≡ [])
+    go (completes within out e) = absurd (omega (arith, short, within))
+    go (runs_out pick less out e) = ((subst (λ x. TellsEnding r.0 x reply) e r.1.1.tells).0, out)
+
+refused : (name file : List ℕ) (fuel : ℕ) (rule : Rule) (place : Place) (reply : Reply) → IsRefused file rule place → RunSays name file fuel reply → reply.status ≡ 1
+refused name file fuel rule place reply r (Runs p is tells) = absurd (prints_apart file is.0 rule place is.1 r)
+refused name file fuel rule place reply r (Refuses rule' place' refused' e) = ap (λ (x : Reply). x.status) e
 
 shown : (name file text : List ℕ) (reply : Reply) → IsShownAs file text → ShowSays name file reply → reply.status ≡ 0
 shown name file text reply s (Shows text' shown' e) = ap (λ (x : Reply). x.status) e
@@ -72,19 +115,28 @@ too_large o reply command file c asks long (NoCommand none calm e) = absurd (non
 too_large o reply command file c asks long (Unread command' is rose e) = absurd (c.shelf rose)
 too_large o reply command file c asks long (TooLarge command' file' is read long' calm e) = ap (λ (x : Reply). x.status) e
 
--- What was said says which status it was.
-either : (o : Outside) (s n : ℕ) → IsCalm o → Ends o s → ((reply : Reply) → MeansToSay o reply → reply.status ≡ n) → (s ≡ n) ⊎ (s ≡ 7)
-either o s n c ends k = elim (settled o s c ends) [ inl w ↦ inl (w.2 ∙ k w.0 w.1) | inr e ↦ inr e ]
+-- What was said says which status it was, and what is on standard output.
+either : (o : Outside) (finish : Finish) (n : ℕ) → IsCalm o → Ends o finish → ((reply : Reply) → MeansToSay o reply → reply.status ≡ n) → (finish.status ≡ n) ⊎ (finish.status ≡ 7)
+either o finish n c ends k = elim (settled o finish c ends) [ inl w ↦ inl (w.3 ∙ k w.0 w.1) | inr e ↦ inr e ]
 
-pub answers : (o : Outside) (s : ℕ) → Ends o s → Answers o s
-answers o s ends = record {
+either_with : (o : Outside) (finish : Finish) (n : ℕ) (out : List ℕ) → IsCalm o → Ends o finish → ((reply : Reply) → MeansToSay o reply → (reply.status ≡ n) × (reply.out ≡ out))
+    → ((finish.status ≡ n) × Takes o.out out) ⊎ (finish.status ≡ 7)
+either_with o finish n out c ends k =
+    elim (settled o finish c ends) [ inl w ↦ inl (w.3 ∙ (k w.0 w.1).0, subst (λ x. Takes o.out x) (k w.0 w.1).1 w.2) | inr e ↦ inr e ]
+
+pub answers : (o : Outside) (finish : Finish) → Ends o finish → Answers o finish
+answers o finish ends = record {
   ends = ends;
   complete = λ c. record {
-    no_command = λ none. either o s 2 c ends (λ r m. no_command o r none m);
-    completes = λ name file text asks within prints. either o s 0 c ends (λ r m. completes name file text r prints (judged o r (Run name) file c asks within m));
-    refused = λ name file rule place asks within none. either o s 1 c ends (λ r m. refused name file rule place r none (judged o r (Run name) file c asks within m));
-    shown = λ name file text asks within is. either o s 0 c ends (λ r m. shown name file text r is (judged o r (Show name) file c asks within m));
-    no_component = λ name file rule place asks within none. either o s 1 c ends (λ r m. no_component name file rule place r none (judged o r (Show name) file c asks within m));
-    too_large = λ command file asks long. either o s 8 c ends (λ r m. too_large o r command file c asks long m);
+    no_command = λ none. either o finish 2 c ends (λ r m. no_command o r none m);
+    completes = λ name file text fuel asks within prints enough.
+        either_with o finish 0 (line text) c ends (λ r m. completed name file text fuel r prints enough (judged o r (Run name fuel) file c asks within m));
+    runs_out = λ name file text fuel asks within prints short.
+        either_with o finish 6 [] c ends (λ r m. ran_out name file text fuel r prints short (judged o r (Run name fuel) file c asks within m));
+    refused = λ name file fuel rule place asks within none.
+        either o finish 1 c ends (λ r m. refused name file fuel rule place r none (judged o r (Run name fuel) file c asks within m));
+    shown = λ name file text asks within is. either o finish 0 c ends (λ r m. shown name file text r is (judged o r (Show name) file c asks within m));
+    no_component = λ name file rule place asks within none. either o finish 1 c ends (λ r m. no_component name file rule place r none (judged o r (Show name) file c asks within m));
+    too_large = λ command file asks long. either o finish 8 c ends (λ r m. too_large o r command file c asks long m);
   };
 }

@@ -1,7 +1,7 @@
-pub mod Fitting
 pub mod Fronts
 pub mod Written
 pub mod Apart
 pub mod Complete
 pub mod Meaning
 pub mod Refused
+pub mod Greeted

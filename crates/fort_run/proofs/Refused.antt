@@ -10,17 +10,17 @@ use Rattle.fort_run.specs.Said.{said, RefusedBy}
 use Rattle.fort_run.specs.declared.answer.Answer.{Answer}
 
 -- A file to run that breaks a rule of its tokens.
-pub tokens_refused : (name file : List ℕ) (fault : CheckFault) (answer : Answer) → Answers file (Err fault) → RefusedBy name fault answer
-    → RunSays name file (said answer)
-tokens_refused name file (a_fault.Refused rule place) answer broken e = Refuses rule place (breaks broken) (ap said e)
-tokens_refused name file a_fault.Memory answer broken e = absurd e
+pub tokens_refused : (name file : List ℕ) (fuel : ℕ) (fault : CheckFault) (answer : Answer) → Answers file (Err fault) → RefusedBy name fault answer
+    → RunSays name file fuel (said answer)
+tokens_refused name file fuel (a_fault.Refused rule place) answer broken e = Refuses rule place (breaks broken) (ap said e)
+tokens_refused name file fuel a_fault.Memory answer broken e = absurd e
 
 -- A file to run whose tokens break a rule of the grammar, of grouping or of the hierarchy.
-pub form_refused : (name file : List ℕ) (tokens : Tokens) (fault : CheckFault) (answer : Answer) → HasTokens file tokens
-    → front.Answers tokens (Err fault) → RefusedBy name fault answer → RunSays name file (said answer)
-form_refused name file tokens (a_fault.Refused rule place) answer has broken e =
+pub form_refused : (name file : List ℕ) (fuel : ℕ) (tokens : Tokens) (fault : CheckFault) (answer : Answer) → HasTokens file tokens
+    → front.Answers tokens (Err fault) → RefusedBy name fault answer → RunSays name file fuel (said answer)
+form_refused name file fuel tokens (a_fault.Refused rule place) answer has broken e =
     Refuses rule place (ill_formed (record { tokens = tokens; has = has; breaks = broken })) (ap said e)
-form_refused name file tokens a_fault.Memory answer has broken e = absurd e
+form_refused name file fuel tokens a_fault.Memory answer has broken e = absurd e
 
 -- A file to show that breaks a rule of its tokens.
 pub tokens_unshown : (name file : List ℕ) (fault : CheckFault) (answer : Answer) → Answers file (Err fault) → RefusedBy name fault answer

@@ -2,7 +2,6 @@
 use Rattle.std.specs.Prelude.{◌≡◌, ◌≢◌, ℕ, List, [], ◌++◌, Option, ◌⊎◌}
 use Rattle.fort_port.specs.Outside.{Rose, adds}
 use Rattle.fort_run.specs.Notes.{write_fault}
-use Rattle.fort_run.specs.Reply.{Reply}
 
 -- What was written to a sink, where it tells it, and its count of faults, before a call and after it.
 pub record Change : Type 0 where
@@ -28,9 +27,9 @@ pub record Fails (sink : Change) (bytes : List ℕ) : Type 0 where
 abbrev pub TakesOrFails : Change → List ℕ → Type 0
 TakesOrFails sink bytes = Takes sink bytes ⊎ Fails sink bytes
 
--- A reply is delivered with this status: whole, with its own; or an output failed, with 4. Where standard output
--- failed, the note says so as far as it came.
-pub data Delivers (reply : Reply) (out notes : Change) (status : ℕ) : Type 0 where
-  Whole : Takes out reply.out → Takes notes reply.note → status ≡ reply.status → Delivers reply out notes status
-  OutFailed : Fails out reply.out → TakesOrFails notes write_fault → status ≡ 4 → Delivers reply out notes status
-  NotesFailed : Takes out reply.out → Fails notes reply.note → status ≡ 4 → Delivers reply out notes status
+-- A text and a note are delivered with this status: whole, with the status that was meant; or an output failed, with 4. Where standard
+-- output failed, the note says so as far as it came.
+pub data Delivers (meant : ℕ) (text note : List ℕ) (out notes : Change) (status : ℕ) : Type 0 where
+  Whole : Takes out text → Takes notes note → status ≡ meant → Delivers meant text note out notes status
+  OutFailed : Fails out text → TakesOrFails notes write_fault → status ≡ 4 → Delivers meant text note out notes status
+  NotesFailed : Takes out text → Fails notes note → status ≡ 4 → Delivers meant text note out notes status

@@ -1,6 +1,3 @@
-pub mod Words
-pub mod Greeting
-pub mod Reading
 pub mod Notes
 pub mod Reply
 pub mod Said

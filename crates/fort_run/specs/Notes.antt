@@ -22,6 +22,13 @@ want_of_memory = line (codes "want of memory")
 abbrev pub too_large : List ℕ
 too_large = line (codes "file too large")
 
+abbrev pub out_of_fuel : List ℕ
+out_of_fuel = line (codes "out of fuel")
+
+-- the note of an exception that nothing caught, by its text, which is its type's name
+abbrev pub uncaught : List ℕ → List ℕ
+uncaught name = line (codes "uncaught exception " ++ name)
+
 -- the name of a rule, by its number
 abbrev pub rule_name : ℕ → List ℕ
 rule_name n =
@@ -46,6 +53,15 @@ rule_name n =
     if n == 405 then codes "ExtendsExcluded" else
     if n == 406 then codes "NotComprised" else
     if n == 407 then codes "ComprisedNotBelow" else
+    if n == 451 then codes "DuplicateMember" else
+    if n == 452 then codes "FieldNotBelow" else
+    if n == 501 then codes "SameParameters" else
+    if n == 502 then codes "ResultNotBelow" else
+    if n == 503 then codes "NoMeet" else
+    if n == 504 then codes "MeetNotDeclared" else
+    if n == 505 then codes "ArrowOverlap" else
+    if n == 506 then codes "TooWide" else
+    if n == 507 then codes "AbstractNotCovered" else
     if n == 901 then codes "NotBuilt" else []
 
 -- FILE:LINE:COLUMN: rule NUMBER NAME

@@ -1,14 +1,16 @@
 -- How a call ends: its status, and what stands on both outputs. It restates the chapter "Statuses and notes" of docs/LANGUAGE.md.
-use Rattle.std.specs.Prelude.{◌≡◌, ℕ, ◌<◌, ◌≤◌, List, ◌⊎◌, length}
+use Rattle.std.specs.Prelude.{◌≡◌, ℕ, ◌<◌, ◌≤◌, List, [], ◌⊎◌, length}
 use Rattle.fort_base.specs.declared.refusal.Rule.{Rule}
 use Rattle.fort_base.specs.declared.refusal.Place.{Place}
 use Rattle.fort_port.specs.Outside.{Holding, Held, Rose}
-use Rattle.fort_run.specs.declared.command.Command.{Command}
-use Rattle.fort_run.specs.declared.command.Command.TheVariants.{Run, Show}
-use Rattle.fort_run.specs.Words.{IsCommand, IsNoCommand, file_of}
-use Rattle.fort_run.specs.Notes.{want_of_memory}
-use Rattle.fort_run.specs.Reply.{Reply, Means, Prints, IsRefused, IsShownAs, IsNoComponent, file_limit}
-use Rattle.fort_run.specs.Delivery.{Change, Delivers, TakesOrFails}
+use Rattle.fort_cmd.specs.declared.command.Command.{Command}
+use Rattle.fort_cmd.specs.declared.command.Command.TheVariants.{Run, Show}
+use Rattle.fort_cmd.specs.Words.{IsCommand, IsNoCommand, file_of}
+use Rattle.fort_greet.specs.Runs.{cost}
+use Rattle.fort_run.specs.Notes.{line, want_of_memory}
+use Rattle.fort_run.specs.Reply.{Reply, Means, Prints, IsRefused, IsShownAs, IsNoComponent, file_limit, no_run}
+use Rattle.fort_run.specs.Delivery.{Change, Delivers, Takes, TakesOrFails}
+use Rattle.fort_run.specs.declared.top.Finish.{Finish}
 
 -- The outside of a call: its words, what the shelf tells and its counts of faults, and both sinks.
 pub record Outside : Type 0 where
@@ -22,11 +24,11 @@ pub record Outside : Type 0 where
 abbrev pub MeansToSay : Outside → Reply → Type 0
 MeansToSay o reply = Means o.words o.holding o.faults_were o.faults_are reply
 
--- How a call ends with this status: it delivered what it means to say, or memory was wanting, 7, and the note
+-- How a call ends: it delivered what it means to say, whose journal it answers; or memory was wanting, 7, there was no run, and the note
 -- says so as far as it came.
-pub data Ends (o : Outside) (status : ℕ) : Type 0 where
-  Said : (reply : Reply) → MeansToSay o reply → Delivers reply o.out o.notes status → Ends o status
-  WantsMemory : TakesOrFails o.notes want_of_memory → status ≡ 7 → Ends o status
+pub data Ends (o : Outside) (finish : Finish) : Type 0 where
+  Said : (reply : Reply) → MeansToSay o reply → Delivers reply.status reply.out reply.note o.out o.notes finish.status → finish.journal ≡ reply.journal → Ends o finish
+  WantsMemory : TakesOrFails o.notes want_of_memory → finish.status ≡ 7 → finish.journal ≡ no_run → Ends o finish
 
 -- No count of faults rose.
 pub record IsCalm (o : Outside) : Type 0 where
@@ -39,11 +41,15 @@ pub record Asks (o : Outside) (command : Command) (file : List ℕ) : Type 0 whe
   pub is : IsCommand o.words command
   pub held : o.holding (file_of command) ≡ Held file
 
--- Where no count rose and the shelf tells its bytes, the words and the file decide the status; want of memory aside.
+-- Where no count rose and the shelf tells its bytes, the words and the file decide the status; want of memory aside. With a fuel of at
+-- least its cost a greeting prints its text, and else nothing.
 pub record IsComplete (o : Outside) (status : ℕ) : Type 0 where
   pub no_command : IsNoCommand o.words → (status ≡ 2) ⊎ (status ≡ 7)
-  pub completes : (name file text : List ℕ) → Asks o (Run name) file → length file ≤ file_limit → Prints file text → (status ≡ 0) ⊎ (status ≡ 7)
-  pub refused : (name file : List ℕ) (rule : Rule) (place : Place) → Asks o (Run name) file → length file ≤ file_limit
+  pub completes : (name file text : List ℕ) (fuel : ℕ) → Asks o (Run name fuel) file → length file ≤ file_limit → Prints file text → cost text ≤ fuel
+      → ((status ≡ 0) × Takes o.out (line text)) ⊎ (status ≡ 7)
+  pub runs_out : (name file text : List ℕ) (fuel : ℕ) → Asks o (Run name fuel) file → length file ≤ file_limit → Prints file text → fuel < cost text
+      → ((status ≡ 6) × Takes o.out []) ⊎ (status ≡ 7)
+  pub refused : (name file : List ℕ) (fuel : ℕ) (rule : Rule) (place : Place) → Asks o (Run name fuel) file → length file ≤ file_limit
       → IsRefused file rule place → (status ≡ 1) ⊎ (status ≡ 7)
   pub shown : (name file text : List ℕ) → Asks o (Show name) file → length file ≤ file_limit → IsShownAs file text → (status ≡ 0) ⊎ (status ≡ 7)
   pub no_component : (name file : List ℕ) (rule : Rule) (place : Place) → Asks o (Show name) file → length file ≤ file_limit
@@ -51,6 +57,6 @@ pub record IsComplete (o : Outside) (status : ℕ) : Type 0 where
   pub too_large : (command : Command) (file : List ℕ) → Asks o command file → file_limit < length file → (status ≡ 8) ⊎ (status ≡ 7)
 
 -- What is promised of a call.
-pub record Answers (o : Outside) (status : ℕ) : Type 0 where
-  pub ends : Ends o status
-  pub complete : IsCalm o → IsComplete o status
+pub record Answers (o : Outside) (finish : Finish) : Type 0 where
+  pub ends : Ends o finish
+  pub complete : IsCalm o → IsComplete o finish.status

@@ -8,17 +8,31 @@ use Rattle.fort_lex.specs.Files.{HasTokens, BreaksRule}
 use Rattle.fort_front.specs.Front.{IsGrammatical, BreaksGrammar, IsFormed, Breaks}
 use Rattle.fort_yield.specs.Canonical.{canonical}
 use Rattle.fort_port.specs.Outside.{Holding, Untold, Absent, Held, Rose}
-use Rattle.fort_run.specs.declared.command.Command.{Command}
-use Rattle.fort_run.specs.declared.command.Command.TheVariants.{Run, Show}
-use Rattle.fort_run.specs.Words.{IsCommand, IsNoCommand, file_of}
-use Rattle.fort_run.specs.Greeting.{IsGreeting}
-use Rattle.fort_run.specs.Notes.{line, usage, read_fault, too_large, refusal}
+use Rattle.fort_cmd.specs.declared.command.Command.{Command}
+use Rattle.fort_cmd.specs.declared.command.Command.TheVariants.{Run, Show}
+use Rattle.fort_cmd.specs.Words.{IsCommand, IsNoCommand, file_of}
+use Rattle.fort_core.specs.declared.journal.Ending.{Ending}
+use Rattle.fort_core.specs.declared.journal.Ending.TheVariants.{NotRun, Completed, Uncaught, OutOfFuel}
+use Rattle.fort_core.specs.declared.journal.Journal.{Journal}
+use Rattle.fort_core.specs.declared.program.Program.{Program}
+use Rattle.fort_core.specs.declared.term.Term.{Term}
+use Rattle.fort_machine.specs.Deeds.{Deed}
+use Rattle.fort_machine.specs.Journals.{Records}
+use Rattle.fort_machine.specs.Texts.{text as text_of}
+use Rattle.fort_greet.specs.Greeting.{IsGreeting}
+use Rattle.fort_greet.specs.Program.{IsProgram}
+use Rattle.fort_run.specs.Notes.{usage, read_fault, too_large, out_of_fuel, uncaught, refusal}
 
--- A status, what is for standard output, and what is for standard error.
+-- A status, what is for standard output, what is for standard error, and the journal of a run.
 pub record Reply : Type 0 where
   pub status : ℕ
   pub out : List ℕ
   pub note : List ℕ
+  pub journal : Journal
+
+-- The journal where there was no run.
+abbrev pub no_run : Journal
+no_run = record { fuel = 0; picks = []; ending = NotRun }
 
 -- These are the bytes of the file, where the shelf tells them; a name that it hasn't has none.
 abbrev pub IsFile : Holding → List ℕ → Type 0
@@ -32,14 +46,18 @@ file_limit = 1048576
 
 -- ---- run
 
--- The file prints this text: it keeps the rules of its tokens, of the grammar, of grouping and of the hierarchy, and it is a greeting.
+-- The file prints this text: it keeps the rules of its tokens, of the grammar, of grouping, of types, of members and of overloading, and it is a greeting.
 pub record Prints (file text : List ℕ) : Type 0 where
   pub tokens : Tokens
   pub has : HasTokens file tokens
   pub formed : IsFormed tokens
   pub greets : IsGreeting tokens text
 
--- The file has tokens, and they break this rule of the grammar, of grouping or of the hierarchy, at this place.
+-- The program of the file, which is a greeting.
+abbrev pub IsProgramOf : List ℕ → Program → Type 0
+IsProgramOf file p = (text : List ℕ) × Prints file text × IsProgram text p
+
+-- The file has tokens, and they break this rule of the grammar, of grouping, of types, of members or of overloading, at this place.
 pub record IsIllFormed (file : List ℕ) (rule : Rule) (place : Place) : Type 0 where
   pub tokens : Tokens
   pub has : HasTokens file tokens
@@ -52,20 +70,36 @@ pub record IsNotBuilt (file : List ℕ) : Type 0 where
   pub formed : IsFormed tokens
   pub other : (text : List ℕ) → IsGreeting tokens text → ⊥
 
--- The file is refused by this rule, at this place: a rule of its tokens that it breaks; or one of the grammar, of grouping or of the hierarchy;
+-- The file is refused by this rule, at this place: a rule of its tokens that it breaks; or one of the grammar, of grouping, of types, of members or of overloading;
 -- or 901 at 1:1.
 pub data IsRefused (file : List ℕ) (rule : Rule) (place : Place) : Type 0 where
   breaks : BreaksRule file rule place → IsRefused file rule place
   ill_formed : IsIllFormed file rule place → IsRefused file rule place
   not_built : IsNotBuilt file → rule ≡ record { 0 = 901 } → place ≡ record { line = 1; column = 1 } → IsRefused file rule place
 
--- What is said of a file to run.
-pub data RunSays (name file : List ℕ) (reply : Reply) : Type 0 where
-  -- The component runs to its end: 0, and what it prints, a text with a line feed.
-  Completes : (text : List ℕ) → Prints file text → reply ≡ record { status = 0; out = line text; note = [] } → RunSays name file reply
+-- The status and the note of a run's ending: 0 and none where it is completed; 5 and the exception where one is uncaught; 6 and a note where it is out of fuel.
+abbrev pub TellsEnding : Program → Ending → Reply → Type 0
+TellsEnding p NotRun reply = ⊥
+TellsEnding p Completed reply = (reply.status ≡ 0) × (reply.note ≡ [])
+TellsEnding p (Uncaught v) reply = (reply.status ≡ 5) × (reply.note ≡ uncaught (text_of p v))
+TellsEnding p (OutOfFuel pick) reply = (reply.status ≡ 6) × (reply.note ≡ out_of_fuel)
+
+-- The reply tells a run of a program with this fuel: its journal is the run's, its output what the run printed, and status and note tell how the run ended.
+pub record TellsRun (p : Program) (fuel : ℕ) (reply : Reply) : Type 0 where
+  pub term : Term
+  pub deed : Deed
+  pub records : Records p reply.journal term deed
+  pub is_fuel : reply.journal.fuel ≡ fuel
+  pub is_output : reply.out ≡ deed.output
+  pub tells : TellsEnding p reply.journal.ending reply
+
+-- What is said of a file to run with this fuel.
+pub data RunSays (name file : List ℕ) (fuel : ℕ) (reply : Reply) : Type 0 where
+  -- The component is accepted: a run of its program.
+  Runs : (p : Program) → IsProgramOf file p → TellsRun p fuel reply → RunSays name file fuel reply
   -- The component is refused: 1, and where and by which rule.
-  Refuses : (rule : Rule) (place : Place) → IsRefused file rule place → reply ≡ record { status = 1; out = []; note = refusal name rule place }
-      → RunSays name file reply
+  Refuses : (rule : Rule) (place : Place) → IsRefused file rule place → reply ≡ record { status = 1; out = []; note = refusal name rule place; journal = no_run }
+      → RunSays name file fuel reply
 
 -- ---- show
 
@@ -84,16 +118,16 @@ pub data IsNoComponent (file : List ℕ) (rule : Rule) (place : Place) : Type 0 
 -- What is said of a file to show.
 pub data ShowSays (name file : List ℕ) (reply : Reply) : Type 0 where
   -- The file is a component: 0, and its canonical text.
-  Shows : (text : List ℕ) → IsShownAs file text → reply ≡ record { status = 0; out = text; note = [] } → ShowSays name file reply
+  Shows : (text : List ℕ) → IsShownAs file text → reply ≡ record { status = 0; out = text; note = []; journal = no_run } → ShowSays name file reply
   -- It is none: 1, and where and by which rule.
-  ShowsNone : (rule : Rule) (place : Place) → IsNoComponent file rule place → reply ≡ record { status = 1; out = []; note = refusal name rule place }
+  ShowsNone : (rule : Rule) (place : Place) → IsNoComponent file rule place → reply ≡ record { status = 1; out = []; note = refusal name rule place; journal = no_run }
       → ShowSays name file reply
 
 -- ---- all commands
 
 -- What a command says of its file, once that is read.
 abbrev pub CommandSays : Command → List ℕ → Reply → Type 0
-CommandSays (Run name) file reply = RunSays name file reply
+CommandSays (Run name fuel) file reply = RunSays name file fuel reply
 CommandSays (Show name) file reply = ShowSays name file reply
 
 -- What a call means to say, for its words, what the shelf tells, and its counts of faults before and after.
@@ -102,10 +136,10 @@ pub data Means (words : List (List ℕ)) (holding : List ℕ → Holding) (befor
   Judged : (command : Command) (file : List ℕ) → IsCommand words command → IsFile (holding (file_of command)) file → length file ≤ file_limit
       → after ≡ before → CommandSays command file reply → Means words holding before after reply
   -- The words are no command: 2, and no file is asked for.
-  NoCommand : IsNoCommand words → after ≡ before → reply ≡ record { status = 2; out = []; note = usage } → Means words holding before after reply
+  NoCommand : IsNoCommand words → after ≡ before → reply ≡ record { status = 2; out = []; note = usage; journal = no_run } → Means words holding before after reply
   -- The shelf's count of faults rose: 3.
-  Unread : (command : Command) → IsCommand words command → Rose before after → reply ≡ record { status = 3; out = []; note = read_fault }
+  Unread : (command : Command) → IsCommand words command → Rose before after → reply ≡ record { status = 3; out = []; note = read_fault; journal = no_run }
       → Means words holding before after reply
   -- The file goes on behind the limit: 8.
   TooLarge : (command : Command) (file : List ℕ) → IsCommand words command → IsFile (holding (file_of command)) file → file_limit < length file
-      → after ≡ before → reply ≡ record { status = 8; out = []; note = too_large } → Means words holding before after reply
+      → after ≡ before → reply ≡ record { status = 8; out = []; note = too_large; journal = no_run } → Means words holding before after reply

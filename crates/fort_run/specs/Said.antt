@@ -2,17 +2,19 @@
 use Rattle.std.specs.Prelude.{◌≡◌, ℕ, List, []}
 use Rattle.fort_base.specs.declared.refusal.CheckFault.{CheckFault}
 use Rattle.fort_base.specs.declared.refusal.CheckFault.TheVariants as a_fault
-use Rattle.fort_run.specs.Notes.{usage, read_fault, too_large, refusal}
-use Rattle.fort_run.specs.Reply.{Reply}
+use Rattle.fort_run.specs.Notes.{usage, read_fault, too_large, out_of_fuel, refusal}
+use Rattle.fort_run.specs.Reply.{Reply, no_run}
 use Rattle.fort_run.specs.declared.answer.Answer.{Answer}
-use Rattle.fort_run.specs.declared.answer.Answer.TheVariants.{Printed, Refused, NoCommand, Unread, TooLarge}
+use Rattle.fort_run.specs.declared.answer.Answer.TheVariants.{Ended, RanOut, Shown, Refused, NoCommand, Unread, TooLarge}
 
 abbrev pub said : Answer → Reply
-said (Printed text) = record { status = 0; out = text; note = [] }
-said (Refused note) = record { status = 1; out = []; note = note }
-said NoCommand = record { status = 2; out = []; note = usage }
-said Unread = record { status = 3; out = []; note = read_fault }
-said TooLarge = record { status = 8; out = []; note = too_large }
+said (Ended journal text) = record { status = 0; out = text; note = []; journal = journal }
+said (RanOut journal text) = record { status = 6; out = text; note = out_of_fuel; journal = journal }
+said (Shown text) = record { status = 0; out = text; note = []; journal = no_run }
+said (Refused note) = record { status = 1; out = []; note = note; journal = no_run }
+said NoCommand = record { status = 2; out = []; note = usage; journal = no_run }
+said Unread = record { status = 3; out = []; note = read_fault; journal = no_run }
+said TooLarge = record { status = 8; out = []; note = too_large; journal = no_run }
 
 -- The refusal of a file by the fault of its check; want of memory is no refusal.
 abbrev pub RefusedBy : List ℕ → CheckFault → Answer → Type 0

@@ -1,11 +1,14 @@
 //! What a call means to say.
 ghost use Rattle.std.specs.Prelude.{◌≡◌, IfOk};
 ghost use Rattle.fort_run.specs.Notes.{refusal};
+ghost use Rattle.fort_run.specs.Reply as reply;
 ghost use Rattle.fort_run.specs.declared.answer.Answer.TheVariants as Answer;
 ghost use Rattle.fort_run.specs.Said.{said, RefusedBy};
 
 use crate::note::refusal_note;
-use fort_base::{Bytes, CheckFault, Memory, Place, Rule};
+use fort_base::{Bytes, CheckFault, List, Memory, Place, Rule};
+use fort_core::{Ending, Journal};
+use std::alloc::Global;
 
 const USAGE: &[u8] =
     b"usage: fortress check FILE | show FILE | run FILE [--workers N] [--fuel N] | bench N\n";
@@ -14,11 +17,17 @@ const READ_FAULT: &[u8] = b"read fault\n";
 
 const TOO_LARGE: &[u8] = b"file too large\n";
 
+const OUT_OF_FUEL: &[u8] = b"out of fuel\n";
+
 /// What a call means to say.
 #[derive(Drop)]
 pub(crate) enum Answer {
-    /// A command is done; what it printed.
-    Printed(Bytes),
+    /// A run was completed: its journal, and what it printed.
+    Ended(Journal, Bytes),
+    /// A run was out of fuel: its journal, and what it printed.
+    RanOut(Journal, Bytes),
+    /// A component's text.
+    Shown(Bytes),
     /// A component is refused; the note.
     Refused(Bytes),
     NoCommand,
@@ -33,7 +42,9 @@ impl Answer {
         ensures { result ≡ (said self.now).status }
     {
         match self {
-            Answer::Printed(_) => 0,
+            Answer::Ended(_, _) => 0,
+            Answer::RanOut(_, _) => 6,
+            Answer::Shown(_) => 0,
             Answer::Refused(_) => 1,
             Answer::NoCommand => 2,
             Answer::Unread => 3,
@@ -45,7 +56,9 @@ impl Answer {
         ensures { result.now ≡ (said self.now).out }
     {
         match self {
-            Answer::Printed(text) => text.as_slice(),
+            Answer::Ended(_, text) => text.as_slice(),
+            Answer::RanOut(_, text) => text.as_slice(),
+            Answer::Shown(text) => text.as_slice(),
             _ => &[],
         }
     }
@@ -54,12 +67,40 @@ impl Answer {
         ensures { result.now ≡ (said self.now).note }
     {
         match self {
-            Answer::Printed(_) => &[],
+            Answer::Ended(_, _) => &[],
+            Answer::RanOut(_, _) => OUT_OF_FUEL,
+            Answer::Shown(_) => &[],
             Answer::Refused(note) => note.as_slice(),
             Answer::NoCommand => USAGE,
             Answer::Unread => READ_FAULT,
             Answer::TooLarge => TOO_LARGE,
         }
+    }
+
+    /// The journal; where there was no run it is of none.
+    pub(crate) fn into_journal(self, alloc: Global) -> Journal
+        ensures { result ≡ (said self).journal }
+    {
+        match self {
+            Answer::Ended(journal, _) => journal,
+            Answer::RanOut(journal, _) => journal,
+            Answer::Shown(_) => no_run(alloc),
+            Answer::Refused(_) => no_run(alloc),
+            Answer::NoCommand => no_run(alloc),
+            Answer::Unread => no_run(alloc),
+            Answer::TooLarge => no_run(alloc),
+        }
+    }
+}
+
+/// The journal where there was no run; it takes no memory.
+pub(crate) fn no_run(alloc: Global) -> Journal
+    ensures { result ≡ reply.no_run }
+{
+    Journal {
+        fuel: 0,
+        picks: List::new(alloc),
+        ending: Ending::NotRun,
     }
 }
 

@@ -1,6 +1,5 @@
 ghost use Rattle.std.specs.Prelude.{OnOk, OnErr};
 ghost use Rattle.fort_run.specs.Delivery.{Takes, Fails, Delivers};
-ghost use Rattle.fort_run.specs.Reply.{Reply};
 
 use fort_port::{Failed, Sink};
 
@@ -20,7 +19,7 @@ pub(crate) fn deliver<K: Sink, N: Sink>(
 ) -> u8
     requires out { K.can_write out.old }
     requires notes { N.can_write notes.old }
-    ensures { Delivers (record { status = status; out = text.now; note = note.now })
+    ensures { Delivers status text.now note.now
         (record { was = K.written out.old; is = K.written out.new; faults_were = K.faults out.old; faults_are = K.faults out.new })
         (record { was = N.written notes.old; is = N.written notes.new; faults_were = N.faults notes.old; faults_are = N.faults notes.new }) result }
 {

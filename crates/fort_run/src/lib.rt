@@ -2,11 +2,9 @@
 #![tactic(auto)]
 
 mod answer;
-mod command;
 mod deliver;
 mod file;
 mod note;
-mod reader;
 mod reply;
 mod run;
 mod show;

@@ -1,14 +1,18 @@
-//! The command `run`: a component's output, or its refusal.
-ghost use Rattle.std.specs.Prelude.{ℕ, List as Seq, ◌≤◌, length, IfOk};
+//! The command `run`: a component's run, or its refusal.
+ghost use Rattle.std.specs.Prelude.{◌≡◌, ◌↔◌, ℕ, List as Seq, ◌≤◌, length, IfOk, IsTrue};
+ghost use Rattle.fort_core.specs.declared.journal.Ending.TheVariants as an_ending;
 ghost use Rattle.fort_front.specs.Front.{IsFormed};
 ghost use Rattle.fort_lex.specs.Files.{HasTokens};
-ghost use Rattle.fort_run.specs.Reply.{RunSays, file_limit};
+ghost use Rattle.fort_core.specs.declared.program.Program.{Program};
+ghost use Rattle.fort_greet.specs.Program.{IsProgram};
+ghost use Rattle.fort_run.specs.Reply.{RunSays, TellsRun, file_limit};
 ghost use Rattle.fort_run.specs.Said.{said};
 
 use crate::answer::{Answer, refused, refused_by};
-use crate::reader::greeting;
 use fort_base::{Bytes, Memory, Place, Rule};
+use fort_core::Ending;
 use fort_front::check_tokens;
+use fort_greet::{Greeted, greet, greeting};
 use fort_lex::{Tokens, tokens};
 use std::alloc::Global;
 
@@ -18,37 +22,60 @@ const NOT_BUILT: Rule = Rule(901);
 /// The place of a refusal of the whole file.
 const WHOLE_FILE: Place = Place { line: 1, column: 1 };
 
-/// What is to say of the file of that name: the rules of its tokens come first, then those of the grammar and of
-/// grouping, then rule 901.
-pub(crate) fn run_file(alloc: Global, name: Bytes, file: &Bytes) -> Result<Answer, Memory>
+/// What is to say of the file of that name, run with a fuel in steps: the rules of its tokens come first,
+/// then those of the grammar, of grouping, of types, of members and of overloading, then rule 901;
+/// then it runs.
+pub(crate) fn run_file(
+    alloc: Global,
+    name: Bytes,
+    file: &Bytes,
+    fuel: u64,
+) -> Result<Answer, Memory>
     requires { length file.now ≤ file_limit }
-    ensures { IfOk result (λ a. RunSays name file.now (said a)) }
+    ensures { IfOk result (λ a. RunSays name file.now fuel (said a)) }
 {
     match tokens(alloc, file.as_slice()) {
-        Ok(tokens) => formed(alloc, name, &tokens),
+        Ok(tokens) => formed(alloc, name, &tokens, fuel),
         Err(fault) => refused_by(name, fault),
     }
 }
 
 /// What is to say of a file of these tokens.
-fn formed(alloc: Global, name: Bytes, tokens: &Tokens) -> Result<Answer, Memory>
-    ensures { IfOk result (λ a. (file : Seq ℕ) → HasTokens file tokens.now → RunSays name file (said a)) }
+fn formed(alloc: Global, name: Bytes, tokens: &Tokens, fuel: u64) -> Result<Answer, Memory>
+    ensures { IfOk result (λ a. (file : Seq ℕ) → HasTokens file tokens.now → RunSays name file fuel (said a)) }
 {
     match check_tokens(alloc, tokens) {
-        Ok(()) => greeted(alloc, name, tokens),
+        Ok(()) => greeted(alloc, name, tokens, fuel),
         Err(fault) => refused_by(name, fault),
     }
 }
 
-/// What is to say of a file of these tokens, which keep the rules of the grammar, of grouping and of the hierarchy.
-fn greeted(alloc: Global, name: Bytes, tokens: &Tokens) -> Result<Answer, Memory>
-    ensures { IfOk result (λ a. (file : Seq ℕ) → HasTokens file tokens.now → IsFormed tokens.now → RunSays name file (said a)) }
+/// What is to say of a file of these tokens, which keep the rules of the grammar, of grouping,
+/// of types, of members and of overloading.
+fn greeted(alloc: Global, name: Bytes, tokens: &Tokens, fuel: u64) -> Result<Answer, Memory>
+    ensures { IfOk result (λ a. (file : Seq ℕ) → HasTokens file tokens.now → IsFormed tokens.now → RunSays name file fuel (said a)) }
 {
     match greeting(alloc, tokens)? {
-        Some(mut text) => {
-            text.push(b'\n')?;
-            Ok(Answer::Printed(text))
-        }
+        Some(text) => run_greeting(alloc, text, fuel),
         None => refused(name, NOT_BUILT, WHOLE_FILE),
     }
+}
+
+/// What is to say of a greeting that prints a text.
+fn run_greeting(alloc: Global, text: Bytes, fuel: u64) -> Result<Answer, Memory>
+    ensures { IfOk result (λ a. (p : Program) × IsProgram text p × TellsRun p fuel (said a)) }
+{
+    let Greeted { journal, output } = greet(alloc, text, fuel)?;
+    if is_completed(&journal.ending) {
+        Ok(Answer::Ended(journal, output))
+    } else {
+        Ok(Answer::RanOut(journal, output))
+    }
+}
+
+/// Whether a run was completed.
+fn is_completed(ending: &Ending) -> bool
+    ensures { IsTrue result ↔ (ending.now ≡ an_ending.Completed) }
+{
+    matches!(ending, Ending::Completed)
 }

@@ -28,7 +28,7 @@ fn show_tokens(alloc: Global, name: Bytes, tokens: &Tokens) -> Result<Answer, Me
     ensures { IfOk result (λ a. (file : Seq ℕ) → HasTokens file tokens.now → ShowSays name file (said a)) }
 {
     match check_grammar(alloc, tokens) {
-        Ok(()) => Ok(Answer::Printed(shown(alloc, tokens)?)),
+        Ok(()) => Ok(Answer::Shown(shown(alloc, tokens)?)),
         Err(fault) => refused_by(name, fault),
     }
 }

@@ -1,5 +1,6 @@
-use crate::fortress;
-use fort_base::{Bytes, List};
+use crate::{Finish, fortress};
+use fort_base::{Bytes, List, Loc};
+use fort_core::{Ending, Pick};
 use fort_port::{
     CalmShelf, CalmSink, FileShelf, IdleGate, MemoryShelf, MemorySink, Shelf, Sink, StreamSink,
 };
@@ -49,8 +50,9 @@ fn padded(alloc: Global, file: &str, more: &str, len: usize) -> Result<Vec<u8>, 
     Ok(all)
 }
 
-/// Runs the words over a shelf of one file that gives `most` bytes a call, and compares all that comes out.
-fn expect<R: Threads + Wait + Sync + Abort + AllocGlobal>(
+/// Runs the words over a shelf of one file that gives `most` bytes a call, compares all that comes out, and
+/// answers how the call ended.
+fn expect_finish<R: Threads + Wait + Sync + Abort + AllocGlobal>(
     rt: &R,
     words: &[&str],
     file: &[u8],
@@ -58,7 +60,7 @@ fn expect<R: Threads + Wait + Sync + Abort + AllocGlobal>(
     status: u8,
     out: &str,
     note: &str,
-) -> Result<(), Fail> {
+) -> Result<Finish, Fail> {
     let alloc = rt.alloc();
     let mut shelf = CalmShelf::new(one_file(alloc, file)?, most.max(1));
     let mut printed = CalmSink::new(alloc, 1000, 3).map_err(|_| AllocError)?;
@@ -75,6 +77,122 @@ fn expect<R: Threads + Wait + Sync + Abort + AllocGlobal>(
     assert_eq!(rt; finish.status, status, "{words:?}");
     assert_eq!(rt; printed.bytes(), out.as_bytes(), "{words:?}");
     assert_eq!(rt; notes.bytes(), note.as_bytes(), "{words:?}");
+    Ok(finish)
+}
+
+/// The same, of which only what comes out is compared.
+fn expect<R: Threads + Wait + Sync + Abort + AllocGlobal>(
+    rt: &R,
+    words: &[&str],
+    file: &[u8],
+    most: u64,
+    status: u8,
+    out: &str,
+    note: &str,
+) -> Result<(), Fail> {
+    expect_finish(rt, words, file, most, status, out, note)?;
+    Ok(())
+}
+
+/// Whether a pick is a step of the root thread that makes no location.
+fn is_root_step(pick: &Pick) -> bool {
+    match pick {
+        Pick::Step(path, loc) => path.0.is_empty() && *loc == Loc(0),
+        Pick::Attempt(_, _) => false,
+    }
+}
+
+const LETTER: &[u8] = b"component T export Executable run(): () = println(\"a\") end";
+
+#[test]
+fn a_greeting_costs_three_and_its_bytes(rt: HostRuntime) -> Result<(), Fail> {
+    let short = ["run", "T.fss", "--fuel", "3"];
+    let some = expect_finish(&rt, &short, LETTER, 100, 6, "", "out of fuel\n")?;
+    assert_eq!(rt; some.journal.fuel, 3);
+    assert_eq!(rt; some.journal.picks.len(), 1);
+    for pick in some.journal.picks.as_slice() {
+        assert!(rt; is_root_step(pick));
+    }
+    assert!(rt; matches!(&some.journal.ending, Ending::OutOfFuel(pick) if is_root_step(pick)));
+    let enough = ["run", "T.fss", "--fuel", "4"];
+    let all = expect_finish(&rt, &enough, LETTER, 100, 0, "a\n", "")?;
+    assert_eq!(rt; all.journal.fuel, 4);
+    assert_eq!(rt; all.journal.picks.len(), 2);
+    for pick in all.journal.picks.as_slice() {
+        assert!(rt; is_root_step(pick));
+    }
+    assert!(rt; matches!(all.journal.ending, Ending::Completed));
+    let usual = expect_finish(&rt, &["run", "T.fss"], LETTER, 100, 0, "a\n", "")?;
+    assert_eq!(rt; usual.journal.fuel, 2_000_000);
+    let refused = expect_finish(
+        &rt,
+        &enough,
+        b"",
+        100,
+        1,
+        "",
+        "T.fss:1:1: rule 201 Syntax\n",
+    )?;
+    assert!(rt; refused.journal.picks.is_empty());
+    assert!(rt; matches!(refused.journal.ending, Ending::NotRun));
+    Ok(())
+}
+
+#[test]
+fn the_fuel_stands_before_the_file_or_behind_it(rt: HostRuntime) -> Result<(), Fail> {
+    let short: [&[&str]; 7] = [
+        &["run", "--fuel", "3", "T.fss"],
+        &["run", "--fuel=3", "T.fss"],
+        &["run", "T.fss", "--fuel=+0003"],
+        &["run", "T.fss", "--fuel", "3", "--"],
+        &["run", "--fuel", "3", "--", "T.fss"],
+        &["run", "--fuel=3", "T.fss", "--"],
+        &["run", "T.fss", "--fuel=1"],
+    ];
+    for words in short {
+        expect(&rt, words, LETTER, 100, 6, "", "out of fuel\n")?;
+    }
+    let enough: [&[&str]; 4] = [
+        &["run", "--", "T.fss"],
+        &["run", "T.fss", "--"],
+        &["run", "--fuel=20000000", "T.fss"],
+        &["run", "--fuel", "+04", "T.fss"],
+    ];
+    for words in enough {
+        expect(&rt, words, LETTER, 100, 0, "a\n", "")?;
+    }
+    let files: [&[&str]; 3] = [
+        &["run", "--", "--fuel=3"],
+        &["run", "--", "--"],
+        &["show", "--", "-x"],
+    ];
+    for words in files {
+        expect(&rt, words, LETTER, 100, 3, "", "read fault\n")?;
+    }
+    Ok(())
+}
+
+#[test]
+fn a_fuel_that_is_none_is_no_command(rt: HostRuntime) -> Result<(), Fail> {
+    let all: [&[&str]; 14] = [
+        &["run", "T.fss", "--fuel"],
+        &["run", "T.fss", "--fuel="],
+        &["run", "T.fss", "--fuel", "0"],
+        &["run", "T.fss", "--fuel=20000001"],
+        &["run", "T.fss", "--fuel=18446744073709551620"],
+        &["run", "T.fss", "--fuel=-1"],
+        &["run", "T.fss", "--fuel=++1"],
+        &["run", "T.fss", "--fuel=+"],
+        &["run", "T.fss", "--fuel=1x"],
+        &["run", "--fuel", "--", "T.fss"],
+        &["run", "--fuel=3", "T.fss", "--fuel=3"],
+        &["run", "--", "T.fss", "--fuel=3"],
+        &["run", "--", "T.fss", "--"],
+        &["show", "T.fss", "--fuel=3"],
+    ];
+    for words in all {
+        expect(&rt, words, LETTER, 100, 2, "", USAGE)?;
+    }
     Ok(())
 }
 

@@ -1,8 +1,10 @@
 ghost use Rattle.std.specs.Prelude.{◌≡◌, map, string_bytes};
 ghost use Rattle.fort_run.specs.Outcome.{Answers};
 
+use crate::answer::no_run;
 use crate::deliver::{deliver, write_all};
 use crate::reply::reply_to;
+use fort_core::Journal;
 use fort_port::{Gate, Shelf, Sink};
 use std::alloc::Global;
 use std::sync::Wait;
@@ -14,16 +16,22 @@ const WANT_OF_MEMORY: &[u8] = b"want of memory\n";
 const WANTS_MEMORY: u8 = 7;
 
 /// How a call ended.
-#[derive(Clone, Copy, Debug, PartialEq, Eq)]
+#[derive(Drop)]
 pub struct Finish {
+    /// The status to end with.
     pub status: u8,
+    /// The run of the component, whatever failed afterwards. For a command other than `run`, and where a run
+    /// never began, it has no fuel and no picks, and its ending is `NotRun`.
+    pub journal: Journal,
 }
 
 /// Does what the words after the program's name ask for, with the files of a shelf, standard output `out`
-/// and standard error `notes`, and answers the status to end with.
+/// and standard error `notes`, and answers the status to end with and the journal of the run.
 ///
-/// The words `run FILE` run the component in the file, and `show FILE` writes its canonical text. The file is
-/// read to its end before it is judged. What each status says, and what then stands on both outputs, is the
+/// The words `run FILE [--fuel N]` run the component in the file for at most N steps, 2,000,000 where N is left
+/// out, and `show FILE` writes its canonical text (the chapter "The command line"). The file is read to its end
+/// before it is judged. The journal is that of a run of the component's program, what is written is what this run
+/// printed, and the status says how it ended. What each status says, and what then stands on both outputs, is the
 /// chapter "Statuses and notes" of docs/LANGUAGE.md. After a sink has failed nothing more is written to it.
 /// Where memory is wanting the status is 7, and nothing is said of `out`.
 pub fn fortress<R: Threads + Wait + Sync, F: Shelf, K: Sink, N: Sink, G: Gate + Sync>(
@@ -45,16 +53,21 @@ pub fn fortress<R: Threads + Wait + Sync, F: Shelf, K: Sink, N: Sink, G: Gate + 
       faults_are = F.faults shelf.new;
       out = record { was = K.written out.old; is = K.written out.new; faults_were = K.faults out.old; faults_are = K.faults out.new };
       notes = record { was = N.written notes.old; is = N.written notes.new; faults_were = N.faults notes.old; faults_are = N.faults notes.new };
-    }) result.status }
+    }) result }
 {
     match reply_to(alloc, words, shelf) {
-        Ok(answer) => Finish {
-            status: deliver(answer.status(), answer.text(), answer.note(), out, notes),
-        },
+        Ok(answer) => {
+            let status = deliver(answer.status(), answer.text(), answer.note(), out, notes);
+            Finish {
+                status,
+                journal: answer.into_journal(alloc),
+            }
+        }
         Err(_) => {
             let _ = write_all(notes, WANT_OF_MEMORY);
             Finish {
                 status: WANTS_MEMORY,
+                journal: no_run(alloc),
             }
         }
     }

@@ -36,7 +36,7 @@ use Rattle.fort_reading.proofs.Laws.{Only, only_read, only_failed, only_then, on
 use Rattle.fort_reading.proofs.Taking.{only_name, only_word, only_colon, only_called}
 use Rattle.fort_reading.proofs.Yields.{Yields, both}
 use Rattle.fort_parse_types.proofs.Sound.{sound_type_tree}
-use Rattle.fort_parse.specs.Beginnings.{begins_apart_of}
+use Rattle.fort_starts.specs.Beginnings.{begins_apart_of}
 use Rattle.fort_parse.specs.Blocks.{is_ended}
 use Rattle.fort_parse.proofs.Statements.{YieldsVariable}
 use Rattle.fort_parse.proofs.Entries.{YieldsEntry, YieldsEntries, begun, only_entries}

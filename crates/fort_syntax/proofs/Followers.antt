@@ -15,7 +15,7 @@ use Rattle.fort_reading.specs.Words.{is_mark, is_eq, same_mark, sees}
 use Rattle.fort_reading.proofs.Taking.{not_mark, not_this, is_eq_is}
 use Rattle.fort_reading.proofs.Yields.{both, false_right}
 use Rattle.fort_parse_types.proofs.Complete.{type_stops, type_stops_at}
-use Rattle.fort_parse.specs.Beginnings.{assigns, begins_apart_of}
+use Rattle.fort_starts.specs.Beginnings.{assigns, begins_apart_of}
 use Rattle.fort_parse.proofs.Statements.{expr_stops}
 use Rattle.fort_parse.proofs.FormFirsts.{line_stops}
 use Rattle.fort_parse.proofs.Stops.{mark_ends_expr, word_ends_expr}

@@ -6,7 +6,7 @@ ghost use Rattle.fort_syntax.specs.Declarations as spec;
 
 use crate::syntax::Syntax;
 use fort_base::List;
-use fort_reading::{Cursor, Fault, is_line};
+use fort_reading::{Cursor, Fault, add, is_line};
 use fort_token::{Kind, Mark, Reserved, Token};
 use fort_tree::{
     Declaration, Declared, FunctionName, Name, Object, ObjectEntry, ObjectMember, ObjectParameters,
@@ -21,7 +21,7 @@ fn begins_trait_member(kind: Kind) -> bool
 }
 
 /// Whether the next token begins a further member of a trait: behind a `;`, which `ready` says, or on a new line.
-#[tactic(auto, unfolding(crate::specs::Declarations::begins_trait_entry, fort_parse::specs::Beginnings::begins_apart_of))]
+#[tactic(auto, unfolding(crate::specs::Declarations::begins_trait_entry, fort_starts::specs::Beginnings::begins_apart_of))]
 fn begins_trait_entry(ready: bool, next: Option<Token>) -> bool
     ensures { result ≡ spec.begins_trait_entry ready next }
 {
@@ -42,7 +42,7 @@ fn begins_object_member(kind: Kind) -> bool
 }
 
 /// Whether the next token begins a further member of an object, as one of a trait does.
-#[tactic(auto, unfolding(crate::specs::Declarations::begins_object_entry, fort_parse::specs::Beginnings::begins_apart_of))]
+#[tactic(auto, unfolding(crate::specs::Declarations::begins_object_entry, fort_starts::specs::Beginnings::begins_apart_of))]
 fn begins_object_entry(ready: bool, next: Option<Token>) -> bool
     ensures { result ≡ spec.begins_object_entry ready next }
 {
@@ -64,7 +64,7 @@ fn begins_declaration_kind(kind: Kind) -> bool
 }
 
 /// Whether the next token begins a further declaration, as a member of a trait does.
-#[tactic(auto, unfolding(crate::specs::Declarations::begins_declared, fort_parse::specs::Beginnings::begins_apart_of))]
+#[tactic(auto, unfolding(crate::specs::Declarations::begins_declared, fort_starts::specs::Beginnings::begins_apart_of))]
 fn begins_declared(ready: bool, next: Option<Token>) -> bool
     ensures { result ≡ spec.begins_declared ready next }
 {
@@ -138,7 +138,7 @@ impl<'a> Syntax<'a> {
             }
             let entry = self.trait_entry(tokens)?;
             ready = entry.semicolon.is_some();
-            found.push(entry)?;
+            add(&mut found, entry)?;
         }
         Err(Fault::TooDeep)
     }
@@ -242,7 +242,7 @@ impl<'a> Syntax<'a> {
             }
             let entry = self.object_entry(tokens)?;
             ready = entry.semicolon.is_some();
-            found.push(entry)?;
+            add(&mut found, entry)?;
         }
         Err(Fault::TooDeep)
     }
@@ -386,7 +386,7 @@ impl<'a> Syntax<'a> {
             }
             let declared = self.declared(tokens)?;
             ready = declared.semicolon.is_some();
-            found.push(declared)?;
+            add(&mut found, declared)?;
         }
         Err(Fault::TooDeep)
     }

@@ -1,20 +1,19 @@
 //! The productions of functions and methods. Where an operator is declared, the number of its parameters and the `self` among
 //! them are asked at the token where they can fail first.
 
-ghost use Rattle.std.specs.Prelude.{◌≡◌, ◌||◌, [], ◌∷◌, IfOk};
+ghost use Rattle.std.specs.Prelude.{◌≡◌, ◌||◌};
 ghost use Rattle.fort_reading.specs.Parser.{Reads};
 ghost use Rattle.fort_syntax.specs.Methods as spec;
 
 use crate::names::{takes_one, takes_two};
 use crate::syntax::Syntax;
-use fort_base::{List, Memory};
-use fort_reading::{Cursor, Fault};
+use fort_base::List;
+use fort_reading::{Cursor, Fault, add, single};
 use fort_token::{Mark, Reserved};
 use fort_tree::{
     Function, FunctionName, Method, MethodBody, MethodParameter, MethodParameters,
     NextMethodParameter, NextParameter, Parameters, Spot,
 };
-use std::alloc::Global;
 
 fn is_self(parameter: &MethodParameter) -> bool
     ensures { result ≡ spec.is_self parameter.now }
@@ -30,15 +29,6 @@ fn has_self(seen: bool, parameter: &MethodParameter) -> bool
     ensures { result ≡ (seen || spec.is_self parameter.now) }
 {
     seen || is_self(parameter)
-}
-
-/// The list of one item.
-fn single<T: Drop>(alloc: Global, item: T) -> Result<List<T>, Memory>
-    ensures { IfOk result (λ list. list ≡ item ∷ []) }
-{
-    let mut list = List::new(alloc);
-    list.push(item)?;
-    Ok(list)
 }
 
 impl<'a> Syntax<'a> {
@@ -190,7 +180,7 @@ impl<'a> Syntax<'a> {
             }
             let next = self.next_method_parameter(tokens, behind)?;
             behind = has_self(behind, &next.parameter);
-            found.push(next)?;
+            add(&mut found, next)?;
         }
         Err(Fault::TooDeep)
     }

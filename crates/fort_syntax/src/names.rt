@@ -9,7 +9,7 @@ ghost use Rattle.fort_syntax.specs.Names as spec;
 use crate::syntax::Syntax;
 use fort_base::List;
 use fort_ops::Op;
-use fort_reading::{Cursor, Fault, spot_of};
+use fort_reading::{Cursor, Fault, add, spot_of};
 use fort_token::{Kind, Mark, Reserved, Token};
 use fort_tree::{
     Comprises, Excludes, Extends, FunctionName, Name, Names, NextName, NextObjectParameter,
@@ -143,7 +143,7 @@ impl<'a> Syntax<'a> {
             if !tokens.sees_mark(Mark::Comma) {
                 return Ok(found);
             }
-            found.push(self.next_name(tokens)?)?;
+            add(&mut found, self.next_name(tokens)?)?;
         }
         Err(Fault::TooDeep)
     }
@@ -275,7 +275,7 @@ impl<'a> Syntax<'a> {
             if !tokens.sees_mark(Mark::Comma) {
                 return Ok(found);
             }
-            found.push(self.next_object_parameter(tokens)?)?;
+            add(&mut found, self.next_object_parameter(tokens)?)?;
         }
         Err(Fault::TooDeep)
     }

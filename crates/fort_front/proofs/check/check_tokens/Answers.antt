@@ -1,5 +1,6 @@
 use Rattle.std.proofs.Common.{◌≡◌, Err, rules}
-use Rattle.fort_front.proofs.Refused.{refused, types_refused}
+use Rattle.fort_hier.specs.Hierarchies.{declares}
+use Rattle.fort_front.proofs.Refused.{refused, types_refused, fields_refused, overloads_refused, are_over}
 use Rattle.fort_front.proofs.check.check_tokens.Goals as goal
 
 pub returns-in_err-groups : goal.returns-in_err-groups
@@ -7,8 +8,35 @@ returns-in_err-groups c =
     let is : c.from_residual-in_err-groups.result ≡ Err c.in_err-groups.field-0.0 = search rules in
     rw is (refused c.args.tokens.now c.in_ok-component.component c.in_err-groups.field-0.0 c.in_ok-component.ensures c.in_err-groups.ensures)
 
-pub returns-in_err-hierarchy : goal.returns-in_err-hierarchy
-returns-in_err-hierarchy c =
-    let is : c.from_residual-in_err-hierarchy.result ≡ Err c.in_err-hierarchy.field-0.0 = search rules in
-    rw is (types_refused c.args.tokens.now c.in_ok-component.component c.in_ok-groups.field-0.list c.in_err-hierarchy.field-0.0
-    c.in_ok-component.ensures c.in_ok-groups.ensures c.in_err-hierarchy.ensures.err)
+pub returns-in_err-types : goal.returns-in_err-types
+returns-in_err-types c =
+    let is : c.from_residual-in_err-types.result ≡ Err c.in_err-types.field-0.0 = search rules in
+    rw is (types_refused c.args.tokens.now c.in_ok-component.component c.in_ok-groups.field-0.list c.in_err-types.field-0.0
+    c.in_ok-component.ensures c.in_ok-groups.ensures c.in_err-types.ensures.err)
+
+pub returns-in_err-members : goal.returns-in_err-members
+returns-in_err-members c =
+    let is : c.from_residual-in_err-members.result ≡ Err c.in_err-members.field-0.0 = search rules in
+    rw is (fields_refused c.args.tokens.now c.in_ok-component.component c.in_ok-groups.field-0.list c.in_ok-types.types c.in_err-members.field-0.0
+    c.in_ok-component.ensures c.in_ok-groups.ensures c.in_ok-types.ensures.ok c.in_err-members.ensures.err)
+
+pub returns-in_err-overloads : goal.returns-in_err-overloads
+returns-in_err-overloads c =
+    let is : c.from_residual-in_err-overloads.result ≡ Err c.in_err-overloads.field-0.0 = search rules in
+    rw is (overloads_refused c.args.tokens.now c.in_ok-component.component c.in_ok-groups.field-0.list c.in_ok-types.types c.in_ok-members.members c.in_err-overloads.field-0.0
+    c.in_ok-component.ensures c.in_ok-groups.ensures c.in_ok-types.ensures.ok c.in_ok-members.ensures.ok
+    (c.in_err-overloads.ensures.err (declares c.in_ok-component.component) (are_over c.in_ok-component.component c.in_ok-types.types c.in_ok-members.members c.in_ok-types.ensures.ok c.in_ok-members.ensures.ok)))
+
+pub returns : goal.returns
+returns c = record {
+  component = c.in_ok-component.component;
+  is = c.in_ok-component.ensures;
+  groups = c.in_ok-groups.field-0.list;
+  grouped = c.in_ok-groups.ensures;
+  types = c.in_ok-types.types;
+  typed = c.in_ok-types.ensures.ok;
+  members = c.in_ok-members.members;
+  belong = c.in_ok-members.ensures.ok;
+  ruled = c.in_ok-overloads.ensures.ok (declares c.in_ok-component.component)
+      (are_over c.in_ok-component.component c.in_ok-types.types c.in_ok-members.members c.in_ok-types.ensures.ok c.in_ok-members.ensures.ok);
+}

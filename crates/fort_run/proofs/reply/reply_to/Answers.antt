@@ -1,22 +1,5 @@
-use Rattle.std.proofs.Common.{refl, subst}
-use Rattle.fort_run.specs.Reply.{Unread, TooLarge, IsFile}
-use Rattle.fort_run.proofs.Meaning.{read_means}
+use Rattle.std.proofs.lemmas.Result.{IfOk-weaker}
 use Rattle.fort_run.proofs.reply.reply_to.Goals as goal
 
 pub returns-in-Ok-clause-means : goal.returns-in-Ok-clause-means
-returns-in-Ok-clause-means g c =
-    let is = rw c.in-Some.is at c.in_ok-command.ensures in
-    read_means _ (g.F.Shelf.holding c.args.shelf.now) _ _ c.in-Some.command c.file.result.now c.in-Ok.file c.judged.result is c.file.ensures
-    c.in-Ok.ensures.file c.in-Ok.ensures.within c.in-Ok.ensures.calm c.judged.ensures
-
-pub returns-in-Err-Failed-clause-means : goal.returns-in-Err-Failed-clause-means
-returns-in-Err-Failed-clause-means g c =
-    let is = rw c.in-Some.is at c.in_ok-command.ensures in
-    Unread c.in-Some.command is (rw c.in-Err-Failed.field-0-is at c.in-Err-Failed.ensures.stops) refl
-
-pub returns-in-Err-TooLarge-clause-means : goal.returns-in-Err-TooLarge-clause-means
-returns-in-Err-TooLarge-clause-means g c =
-    let is = rw c.in-Some.is at c.in_ok-command.ensures in
-    let stops = rw c.in-Err-TooLarge.field-0-is at c.in-Err-TooLarge.ensures.stops in
-    TooLarge c.in-Some.command stops.1.0 is
-    (subst (λ n. IsFile (g.F.Shelf.holding c.args.shelf.now n) stops.1.0) c.file.ensures stops.1.1) stops.1.2 stops.0 refl
+returns-in-Ok-clause-means g c = IfOk-weaker c.asked.result _ _ (λ a means. means _ c.in-Ok.ensures.ok) c.asked.ensures.means

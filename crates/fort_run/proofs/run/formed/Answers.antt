@@ -7,5 +7,5 @@ returns-in-Ok c = IfOk-weaker c.greeted.result _ _ (λ a says file has. says fil
 
 pub returns-in-Err : goal.returns-in-Err
 returns-in-Err c =
-    IfOk-weaker c.refused_by.result _ _ (λ a e file has. form_refused c.args.name file c.args.tokens.now c.in-Err.fault a has c.in-Err.ensures e)
+    IfOk-weaker c.refused_by.result _ _ (λ a e file has. form_refused c.args.name file c.args.fuel c.args.tokens.now c.in-Err.fault a has c.in-Err.ensures e)
     c.refused_by.ensures

@@ -11,5 +11,5 @@ returns-in-Ok c =
 pub returns-in-Err : goal.returns-in-Err
 returns-in-Err c =
     IfOk-weaker c.refused_by.result _ _
-    (λ a e. tokens_refused c.args.name c.args.file.now c.in-Err.fault a (subst (λ x. Answers x (Err c.in-Err.fault)) c.as_slice.ensures c.in-Err.ensures.answer) e)
+    (λ a e. tokens_refused c.args.name c.args.file.now c.args.fuel c.in-Err.fault a (subst (λ x. Answers x (Err c.in-Err.fault)) c.as_slice.ensures c.in-Err.ensures.answer) e)
     c.refused_by.ensures

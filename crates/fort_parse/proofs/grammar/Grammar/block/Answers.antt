@@ -6,7 +6,7 @@ use Rattle.fort_tree.specs.declared.delimited.CaseClause.{out-CaseClause}
 use Rattle.fort_tree.specs.declared.delimited.TypeClause.{out-TypeClause}
 use Rattle.fort_reading.specs.Parser.{next_of}
 use Rattle.fort_reading.specs.Words.{sees, is_mark, is_word}
-use Rattle.fort_parse.specs.Beginnings.{begins_flat_part, begins_run_part, begins_item, begins_case_clause, begins_type_clause}
+use Rattle.fort_starts.specs.Beginnings.{begins_flat_part, begins_run_part, begins_item, begins_case_clause, begins_type_clause}
 use Rattle.fort_parse.specs.Flats.{flat_part, flat_parts, next_expr, next_exprs}
 use Rattle.fort_parse.specs.Blocks.{is_ended, block, block_item, case_clause, case_list, type_clause, type_clause_list, also_block, also_blocks, elif, elifs, next_generator, next_generators}
 use Rattle.fort_parse.specs.Runs.{run_at, run_part, run_parts}
@@ -24,4 +24,4 @@ loop-turn-preserved g c =
     let e : begins_item l.ready (next_of l.tokens) ≡ true = grind arith in
     let x = c.in_ok-item.item in
     let r : c.is_some-ready.result ≡ is_ended x.semicolon = c.is_some-ready.ensures ∙ ended_is x.semicolon in
-    rw (c.in_ok-push.ensures.ok, r) (goes_on begins_item (λ ready e. is_ended (out-BlockItem e).semicolon) (λ state. block_item c.args.self.now.names.now (run_at c.args.self.now.names.now c.args.self.now.depth)) l.found c.args.self.now.depth l._turn l.ready l.tokens _ x c.block_item.new.tokens (omega arith) e c.in_ok-item.ensures l.invariant)
+    rw (c.in_ok-add.ensures.ok, r) (goes_on begins_item (λ ready e. is_ended (out-BlockItem e).semicolon) (λ state. block_item c.args.self.now.names.now (run_at c.args.self.now.names.now c.args.self.now.depth)) l.found c.args.self.now.depth l._turn l.ready l.tokens _ x c.block_item.new.tokens (omega arith) e c.in_ok-item.ensures l.invariant)

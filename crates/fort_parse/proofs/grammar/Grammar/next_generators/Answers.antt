@@ -6,7 +6,7 @@ use Rattle.fort_tree.specs.declared.delimited.CaseClause.{out-CaseClause}
 use Rattle.fort_tree.specs.declared.delimited.TypeClause.{out-TypeClause}
 use Rattle.fort_reading.specs.Parser.{next_of}
 use Rattle.fort_reading.specs.Words.{sees, is_mark, is_word}
-use Rattle.fort_parse.specs.Beginnings.{begins_flat_part, begins_run_part, begins_item, begins_case_clause, begins_type_clause}
+use Rattle.fort_starts.specs.Beginnings.{begins_flat_part, begins_run_part, begins_item, begins_case_clause, begins_type_clause}
 use Rattle.fort_parse.specs.Flats.{flat_part, flat_parts, next_expr, next_exprs}
 use Rattle.fort_parse.specs.Blocks.{is_ended, block, block_item, case_clause, case_list, type_clause, type_clause_list, also_block, also_blocks, elif, elifs, next_generator, next_generators}
 use Rattle.fort_parse.specs.Runs.{run_at, run_part, run_parts}
@@ -21,4 +21,4 @@ pub loop-turn-preserved : goal.loop-turn-preserved
 loop-turn-preserved g c =
     let l = c.loop-turn in
     let e : sees (is_mark mark.Comma) (next_of l.tokens) ≡ true = grind arith in
-    rw c.in_ok-push.ensures.ok (goes_on (λ state. sees (is_mark mark.Comma)) (λ state x. state) (λ state. next_generator c.args.self.now.names.now (run_at c.args.self.now.names.now c.args.self.now.depth)) l.found c.args.self.now.depth l._turn true l.tokens _ c.in_ok-next_generator.field-0 c.next_generator.new.tokens (omega arith) e c.in_ok-next_generator.ensures l.invariant)
+    rw c.in_ok-add.ensures.ok (goes_on (λ state. sees (is_mark mark.Comma)) (λ state x. state) (λ state. next_generator c.args.self.now.names.now (run_at c.args.self.now.names.now c.args.self.now.depth)) l.found c.args.self.now.depth l._turn true l.tokens _ c.in_ok-next_generator.field-0 c.next_generator.new.tokens (omega arith) e c.in_ok-next_generator.ensures l.invariant)

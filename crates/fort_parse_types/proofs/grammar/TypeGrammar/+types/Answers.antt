@@ -25,4 +25,4 @@ pub next_types-loop-turn-preserved : goal.next_types-loop-turn-preserved
 next_types-loop-turn-preserved t c =
     let l = c.loop-turn in
     let e : sees (is_mark mark.Comma) (next_of l.tokens) ≡ true = grind arith in
-    rw c.in_ok-push.ensures.ok (goes_on (λ state. sees (is_mark mark.Comma)) (λ state x. state) (λ state. next_type c.args.self.now.names.now (type_tree c.args.self.now.names.now c.args.self.now.depth)) l.found c.args.self.now.depth l._turn true l.tokens _ c.in_ok-next_type.field-0 c.next_type.new.tokens (omega arith) e c.in_ok-next_type.ensures l.invariant)
+    rw c.in_ok-add.ensures.ok (goes_on (λ state. sees (is_mark mark.Comma)) (λ state x. state) (λ state. next_type c.args.self.now.names.now (type_tree c.args.self.now.names.now c.args.self.now.depth)) l.found c.args.self.now.depth l._turn true l.tokens _ c.in_ok-next_type.field-0 c.next_type.new.tokens (omega arith) e c.in_ok-next_type.ensures l.invariant)

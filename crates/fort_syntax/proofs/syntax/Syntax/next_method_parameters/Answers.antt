@@ -15,4 +15,4 @@ loop-turn-preserved c =
     let l = c.loop-turn in
     let e : sees (is_mark mark.Comma) (next_of l.tokens) ≡ true = grind arith in
     let x = c.in_ok-next.next in
-    rw (c.in_ok-push.ensures.ok, c.has_self-behind.ensures) (goes_on (λ seen. sees (is_mark mark.Comma)) (λ seen next. seen || is_self next.parameter) (next_method_parameter c.args.self.now.names.now c.args.self.now.depth) l.found c.args.self.now.depth l._turn l.behind l.tokens _ x c.next_method_parameter.new.tokens (omega arith) e c.in_ok-next.ensures l.invariant)
+    rw (c.in_ok-add.ensures.ok, c.has_self-behind.ensures) (goes_on (λ seen. sees (is_mark mark.Comma)) (λ seen next. seen || is_self next.parameter) (next_method_parameter c.args.self.now.names.now c.args.self.now.depth) l.found c.args.self.now.depth l._turn l.behind l.tokens _ x c.next_method_parameter.new.tokens (omega arith) e c.in_ok-next.ensures l.invariant)

@@ -1,0 +1,9 @@
+//! The words after the program's name, as a command.
+#![tactic(auto)]
+
+mod command;
+mod laws;
+mod words;
+
+pub use command::{CmdFault, Command, command_of};
+pub use laws::one_command;

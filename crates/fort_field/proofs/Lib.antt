@@ -1,0 +1,14 @@
+pub mod WrittenLaws
+pub mod Walking
+pub mod Searches
+pub mod Items
+pub mod GatherLaws
+pub mod HeightLaws
+pub mod InheritLaws
+pub mod SeenLaws
+pub mod RepeatLaws
+pub mod DuplicateLaws
+pub mod OnceLaws
+pub mod ComponentLaws
+pub mod ReportedLaws
+pub mod LackLaws

@@ -1,0 +1,9 @@
+use Rattle.std.proofs.Common.{take}
+use Rattle.fort_hier.specs.Earliest.{IsFirst}
+use Rattle.fort_hier.proofs.First.{Among}
+use Rattle.fort_field.specs.Walks.{HoldsNames}
+use Rattle.fort_field.proofs.RepeatLaws.{RepeatedAt}
+use Rattle.fort_field.proofs.repeats.first_repeated.Given as goal
+
+abbrev pub invariant-loop-field : goal.invariant-loop-field
+invariant-loop-field l = HoldsNames (take l.field-index l.fields) l.seen × IsFirst (Among (RepeatedAt l.fields) l.field-index) l.best

@@ -1,0 +1,17 @@
+-- The law of the one most specific declaration, of the sets of a component that keeps the rules.
+use Rattle.fort_mention.specs.TypeNames.{type_names}
+use Rattle.fort_hier.specs.Hierarchies.{declares}
+use Rattle.fort_hier.proofs.AcceptedLaws.{accepted_sound}
+use Rattle.fort_set.proofs.Chosen.{exactly_one, never_abstract}
+use Rattle.fort_member.proofs.WellMadeLaws.{sets_well_made}
+use Rattle.fort_front.specs.Calls.{ExactlyOne, NeverAbstract}
+
+pub exactly_one_called : ExactlyOne
+exactly_one_called tokens f n s e types solid i d a b =
+    exactly_one (declares f.component) f.types.table (accepted_sound f.component (type_names f.component) f.types f.typed) f.typed.rows s
+    (sets_well_made f.component f.types f.typed f.members f.belong n s e) (f.ruled n s e) types solid i d a b
+
+pub never_abstract_called : NeverAbstract
+never_abstract_called tokens f n s e types solid values k best =
+    never_abstract (declares f.component) f.types.table (accepted_sound f.component (type_names f.component) f.types f.typed) f.typed.rows s
+    (sets_well_made f.component f.types f.typed f.members f.belong n s e) (f.ruled n s e) types solid values k best

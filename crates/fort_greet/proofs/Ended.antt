@@ -1,0 +1,157 @@
+-- How the runs of a greeting end.
+use Rattle.std.proofs.Common.{◌≡◌, ℕ, ◌+◌, ◌<◌, ◌≤◌, true, false, List, [], ◌∷◌, ◌++◌, length, Option, Some, None, refl, ap, sym, ◌∙◌, subst, arith, length-append}
+use Rattle.fort_core.specs.declared.journal.Ending.{Ending}
+use Rattle.fort_core.specs.declared.journal.Ending.TheVariants.{NotRun, Completed, Uncaught, OutOfFuel}
+use Rattle.fort_core.specs.declared.pick.Pick.{Pick, Step}
+use Rattle.fort_core.specs.declared.program.Program.{Program}
+use Rattle.fort_core.specs.declared.term.Term.{Term}
+use Rattle.fort_core.specs.declared.term.Term as term
+use Rattle.fort_core.specs.declared.value.Value.{Text}
+use Rattle.fort_machine.specs.Deeds.{Store, Deed, idle, paid, printed, both, afterwards}
+use Rattle.fort_machine.specs.Acts.{unit, enters, turns}
+use Rattle.fort_machine.specs.Attempts.{goes}
+use Rattle.fort_machine.specs.Runs.{Runs, none, step, path_to, location}
+use Rattle.fort_machine.specs.Journals.{Ends, PassesFuel, IsNext, opening_store}
+use Rattle.fort_machine.specs.Worked.{set, decl, println_decl}
+use Rattle.fort_machine.proofs.Standing.{value_not_throw}
+use Rattle.fort_task.specs.Programs.{IsStuck, EndsWalk, Walks}
+use Rattle.fort_task.specs.declared.walking.Walked.{Walked}
+use Rattle.fort_greet.specs.Program.{IsProgram, printing, run_decl}
+use Rattle.fort_greet.specs.Runs.{cost, EndsSo, completes, runs_out, GreetingsEndSo, Greets}
+use Rattle.fort_greet.proofs.Steps.{line_of, line_cost, starting, calls_run, run_dispatched, run_enters, first_step, calls_println, println_dispatched, println_turns, second_step}
+use Rattle.fort_greet.proofs.OneWay.{OneWay, call_alone, no_open_part, value_not_open, call_plain, call_does, call_not_value, call_not_throw, ended, goes_on, next_is, value_ends, value_has_no_next}
+
+-- what both steps do
+abbrev pub all_done : List ℕ → Deed
+all_done said = both (paid 1) (both (printed (line_of said) (line_cost said)) idle)
+
+-- A run of a greeting has come to its first term, to the call of `println`, or to `()`.
+pub data Came (said : List ℕ) (t : Term) (d : Deed) : Type 0 where
+  at_first : t ≡ starting → d ≡ idle → Came said t d
+  at_printing : t ≡ printing said → d ≡ both (paid 1) idle → Came said t d
+  at_end : t ≡ term.Value unit → d ≡ all_done said → Came said t d
+
+same_term : (t u : Term) → goes t ≡ goes u → t ≡ u
+same_term t u e = cc
+
+length_line : (said : List ℕ) → length (line_of said) ≡ length said + 1
+length_line said = length-append said (10 ∷ [])
+
+module _ (said : List ℕ) (p : Program) (h : IsProgram said p) where
+  starts : OneWay p starting (printing said) (paid 1)
+  starts = record {
+    alone = call_alone (set 1) [] no_open_part;
+    plain = call_plain (set 1) [];
+    way = λ loc c e l.
+        let k = call_does p starting (set 1) [] (decl 1) (run_decl said) (enters (printing said) (printing said)) (calls_run said p h) (run_dispatched said p h) (run_enters said p h) loc c e l in (k.2, k.3);
+  }
+
+  prints_it : OneWay p (printing said) (term.Value unit) (printed (line_of said) (line_cost said))
+  prints_it = record {
+    alone = call_alone (set 0) (term.Value (Text said) ∷ []) (value_not_open (Text said));
+    plain = call_plain (set 0) (term.Value (Text said) ∷ []);
+    way = λ loc c e l.
+        let k = call_does p (printing said) (set 0) (Text said ∷ []) (decl 0) println_decl (turns (term.Value unit) (line_of said) (line_cost said)) (calls_println said p h) (println_dispatched said p h)
+        (println_turns said p h) loc c e l in (k.1, k.2);
+  }
+
+  pub came : (s : Store) (picks : List Pick) (t : Term) (d : Deed) → Runs p false true s picks starting (goes t) d → Came said t d
+  came s [] t d r = let z = ended p s starting (goes t) d r in at_first (same_term t starting z.0) z.1
+  came s (x ∷ []) t d r =
+      let a = goes_on p s starting (printing said) (paid 1) starts x [] (goes t) d r in
+      let z = ended p (afterwards (paid 1) s) (printing said) (goes t) a.0 a.1.0 in
+      at_printing (same_term t (printing said) z.0) (a.1.1 ∙ ap (both (paid 1)) z.1)
+  came s (x ∷ y ∷ []) t d r =
+      let a = goes_on p s starting (printing said) (paid 1) starts x (y ∷ []) (goes t) d r in
+      let one = afterwards (paid 1) s in
+      let b = goes_on p one (printing said) (term.Value unit) (printed (line_of said) (line_cost said)) prints_it y [] (goes t) a.0 a.1.0 in
+      let z = ended p (afterwards (printed (line_of said) (line_cost said)) one) (term.Value unit) (goes t) b.0 b.1.0 in
+      at_end (same_term t (term.Value unit) z.0)
+      (a.1.1 ∙ ap (both (paid 1)) (b.1.1 ∙ ap (both (printed (line_of said) (line_cost said))) z.1))
+  came s (x ∷ y ∷ z ∷ more) t d r =
+      let a = goes_on p s starting (printing said) (paid 1) starts x (y ∷ z ∷ more) (goes t) d r in
+      let one = afterwards (paid 1) s in
+      let b = goes_on p one (printing said) (term.Value unit) (printed (line_of said) (line_cost said)) prints_it y (z ∷ more) (goes t) a.0 a.1.0 in
+      absurd (value_ends p (afterwards (printed (line_of said) (line_cost said)) one) unit z more (goes t) b.0 b.1.0)
+
+  -- the fuel is out
+  out_first : (fuel : ℕ) (t : Term) (d : Deed) (pick : Pick) → t ≡ starting → d ≡ idle → PassesFuel p fuel t d pick → fuel < cost said
+  out_first fuel t d pick e q f =
+      let w = subst (λ x. OneWay p x (printing said) (paid 1)) (sym e) starts in
+      let z : f.deed ≡ both (paid 1) idle = next_is p (afterwards d (opening_store p)) t (printing said) (paid 1) w pick f.deed f.is_next in
+      let one : f.deed.cost ≡ 1 = ap (λ (x : Deed). x.cost) z in
+      let spent : d.cost ≡ 0 = ap (λ (x : Deed). x.cost) q in
+      omega (arith, f.passes, one, spent)
+
+  out_printing : (fuel : ℕ) (t : Term) (d : Deed) (pick : Pick) → t ≡ printing said → d ≡ both (paid 1) idle → PassesFuel p fuel t d pick → fuel < cost said
+  out_printing fuel t d pick e q f =
+      let line = printed (line_of said) (line_cost said) in
+      let w = subst (λ x. OneWay p x (term.Value unit) line) (sym e) prints_it in
+      let z : f.deed ≡ both line idle = next_is p (afterwards d (opening_store p)) t (term.Value unit) line w pick f.deed f.is_next in
+      let one : f.deed.cost ≡ 1 + length (line_of said) + 0 = ap (λ (x : Deed). x.cost) z in
+      let spent : d.cost ≡ 1 = ap (λ (x : Deed). x.cost) q in
+      let long = length_line said in
+      omega (arith, f.passes, one, spent, long)
+
+  -- the end of a run
+  pub ends_so : (fuel : ℕ) (t : Term) (d : Deed) (ending : Ending) → Came said t d → d.cost ≤ fuel → Ends p fuel t d ending → EndsSo said fuel d.output ending
+  ends_so fuel t d NotRun c within e = absurd e
+  ends_so fuel t d Completed (at_first q x) within e = absurd (call_not_value (set 1) [] unit (sym q ∙ e))
+  ends_so fuel t d Completed (at_printing q x) within e = absurd (call_not_value (set 0) (term.Value (Text said) ∷ []) unit (sym q ∙ e))
+  ends_so fuel t d Completed (at_end q x) within e =
+      let spent : d.cost ≡ 1 + (1 + length (line_of said) + 0) = ap (λ (y : Deed). y.cost) x in
+      let long = length_line said in
+      completes (omega (arith, within, spent, long)) (ap (λ (y : Deed). y.output) x ∙ nothing_behind (line_of said)) refl
+    where
+      nothing_behind : (xs : List ℕ) → xs ++ [] ≡ xs
+      nothing_behind [] = refl
+      nothing_behind (y ∷ ys) = ap (λ zs. y ∷ zs) (nothing_behind ys)
+  ends_so fuel t d (Uncaught v) (at_first q x) within e = absurd (call_not_throw (set 1) [] v (sym q ∙ e))
+  ends_so fuel t d (Uncaught v) (at_printing q x) within e = absurd (call_not_throw (set 0) (term.Value (Text said) ∷ []) v (sym q ∙ e))
+  ends_so fuel t d (Uncaught v) (at_end q x) within e = absurd (value_not_throw unit v (sym q ∙ e))
+  ends_so fuel t d (OutOfFuel pick) (at_first q x) within e = runs_out pick (out_first fuel t d pick q x e) (ap (λ (y : Deed). y.output) x) refl
+  ends_so fuel t d (OutOfFuel pick) (at_printing q x) within e = runs_out pick (out_printing fuel t d pick q x e) (ap (λ (y : Deed). y.output) x) refl
+  ends_so fuel t d (OutOfFuel pick) (at_end q x) within e =
+      absurd (value_has_no_next p (afterwards d (opening_store p)) unit pick e.deed (subst (λ y. IsNext p (afterwards d (opening_store p)) y pick e.deed) q e.is_next))
+
+  -- nowhere does it stick
+  never_stuck : (s : Store) (t : Term) (d : Deed) → Came said t d → IsStuck p s t → ⊥
+  never_stuck s t d (at_first q x) k =
+      k.no_pick (Step (path_to []) (location 0)) (goes (printing said)) (both (paid 1) idle)
+      (subst (λ y. Runs p false true s (Step (path_to []) (location 0) ∷ []) y (goes (printing said)) (both (paid 1) idle)) (sym q)
+      (step [] refl refl (first_step said p h) (λ l. tt) (none refl refl refl) refl))
+  never_stuck s t d (at_printing q x) k =
+      k.no_pick (Step (path_to []) (location 0)) (goes (term.Value unit)) (both (printed (line_of said) (line_cost said)) idle)
+      (subst (λ y. Runs p false true s (Step (path_to []) (location 0) ∷ []) y (goes (term.Value unit)) (both (printed (line_of said) (line_cost said)) idle)) (sym q)
+      (step [] refl refl (second_step said p h) (λ l. tt) (none refl refl refl) refl))
+  never_stuck s t d (at_end q x) k = k.not_completed q
+
+  -- where a run of the program has come
+  came_from_first : (picks : List Pick) (t : Term) (d : Deed) → Runs p false true (opening_store p) picks p.first (goes t) d → Came said t d
+  came_from_first picks t d r = came (opening_store p) picks t d (subst (λ x. Runs p false true (opening_store p) picks x (goes t) d) h.first r)
+
+  not_stuck : (fuel : ℕ) (t : Term) (d : Deed) (ending : Ending) (o : Option Term) → Came said t d → EndsWalk p fuel t d ending o → Ends p fuel t d ending
+  not_stuck fuel t d ending None c e = e
+  not_stuck fuel t d ending (Some u) c e = absurd (never_stuck (afterwards d (opening_store p)) t d c e.2)
+
+  -- what the walk answers
+  pub walk_greets : (fuel : ℕ) (w : Walked) → Walks p fuel w → Greets said fuel (record { journal = w.journal; output = w.output })
+  walk_greets fuel w k =
+      let c = came_from_first w.journal.picks k.term k.deed k.is_run.runs in
+      let e = not_stuck fuel k.term k.deed w.journal.ending w.stuck c k.ends in record {
+        program = p;
+        is_program = h;
+        term = k.term;
+        deed = k.deed;
+        records = record {
+          is_run = k.is_run;
+          within_fuel = subst (λ n. k.deed.cost ≤ n) (sym k.is_fuel) k.within_fuel;
+          ends = subst (λ n. Ends p n k.term k.deed w.journal.ending) (sym k.is_fuel) e;
+        };
+        is_fuel = k.is_fuel;
+        is_output = k.is_output;
+        ends = subst (λ o. EndsSo said fuel o w.journal.ending) (sym k.is_output) (ends_so fuel k.term k.deed w.journal.ending c k.within_fuel e);
+      }
+
+pub greetings_end_so : GreetingsEndSo
+greetings_end_so said p j t d h r = ends_so said p h j.fuel t d j.ending (came_from_first said p h j.picks t d r.is_run.runs) r.within_fuel r.ends

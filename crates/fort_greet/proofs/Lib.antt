@@ -1,0 +1,5 @@
+pub mod Fitting
+pub mod Names
+pub mod Steps
+pub mod OneWay
+pub mod Ended

@@ -1,0 +1,4 @@
+pub mod Greeting
+pub mod Program
+pub mod Runs
+pub mod Reading

@@ -1,0 +1,5 @@
+pub mod BuiltIn
+pub mod Declarations
+pub mod Sets
+pub mod Answers
+pub mod Laws

@@ -1,0 +1,10 @@
+pub mod Places
+pub mod Clashed
+pub mod Commons
+pub mod Meeting
+pub mod Members
+pub mod Products
+pub mod Counted
+pub mod Covered
+pub mod Results
+pub mod Judged

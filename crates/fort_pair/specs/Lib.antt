@@ -1,0 +1,4 @@
+pub mod Commons
+pub mod Clashes
+pub mod Choices
+pub mod Judges

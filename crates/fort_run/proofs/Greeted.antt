@@ -1,0 +1,42 @@
+-- What is said of a greeting tells its run.
+use Rattle.std.proofs.Common.{◌≡◌, ℕ, List, refl, sym, subst}
+use Rattle.fort_core.specs.declared.journal.Ending.TheVariants.{Completed}
+use Rattle.fort_core.specs.declared.program.Program.{Program}
+use Rattle.fort_greet.specs.Program.{IsProgram}
+use Rattle.fort_greet.specs.Runs.{EndsSo, completes, runs_out, Greets}
+use Rattle.fort_greet.specs.declared.greeted.Greeted.{Greeted}
+use Rattle.fort_run.specs.Reply.{TellsEnding, TellsRun}
+use Rattle.fort_run.specs.Said.{said}
+use Rattle.fort_run.specs.declared.answer.Answer.TheVariants.{Ended, RanOut}
+
+pub ended_tells : (text : List ℕ) (fuel : ℕ) (g : Greeted) → Greets text fuel g → g.journal.ending ≡ Completed → (p : Program) × IsProgram text p × TellsRun p fuel (said (Ended g.journal g.output))
+ended_tells text fuel g k e = (
+  k.program,
+  k.is_program,
+  record {
+    term = k.term;
+    deed = k.deed;
+    records = k.records;
+    is_fuel = k.is_fuel;
+    is_output = k.is_output;
+    tells = subst (λ x. TellsEnding k.program x (said (Ended g.journal g.output))) (sym e) (refl, refl);
+  },
+)
+
+pub ran_out_tells : (text : List ℕ) (fuel : ℕ) (g : Greeted) → Greets text fuel g → (g.journal.ending ≡ Completed → ⊥) → (p : Program) × IsProgram text p × TellsRun p fuel (said (RanOut g.journal g.output))
+ran_out_tells text fuel g k n = (
+  k.program,
+  k.is_program,
+  record {
+    term = k.term;
+    deed = k.deed;
+    records = k.records;
+    is_fuel = k.is_fuel;
+    is_output = k.is_output;
+    tells = go k.ends;
+  },
+)
+  where
+    go : EndsSo text fuel g.output g.journal.ending → TellsEnding k.program g.journal.ending (said (RanOut g.journal g.output))
+    go (completes enough out e) = absurd (n e)
+    go (runs_out pick less out e) = subst (λ x. TellsEnding k.program x (said (RanOut g.journal g.output))) (sym e) (refl, refl)

@@ -1,0 +1,5 @@
+pub mod Decided
+pub mod Highest
+pub mod Under
+pub mod Lower
+pub mod Chosen
