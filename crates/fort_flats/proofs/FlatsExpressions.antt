@@ -12,6 +12,7 @@ use Rattle.fort_tree.specs.declared.delimited.Delimited.{Delimited}
 use Rattle.fort_tree.specs.declared.expr.Atom.{Atom}
 use Rattle.fort_tree.specs.declared.expr.Atom.TheVariants as an_atom
 use Rattle.fort_tree.specs.declared.expr.Expr.{Expr}
+use Rattle.fort_tree.specs.declared.expr.FillSpots.{FillSpots}
 use Rattle.fort_tree.specs.declared.expr.Expr.TheVariants as an_expr
 use Rattle.fort_tree.specs.declared.expr.FlatPart.TheVariants as a_flat_part
 use Rattle.fort_tree.specs.declared.expr.Generator.{Generator}
@@ -116,8 +117,8 @@ flats-Parens left contents right = ap (λ (m : Measured). m.flats) (measures-Par
 pub flats-Delimited : (form : Delimited) → (measured_atom (an_atom.Delimited form)).flats ≡ (measured_delimited form).flats
 flats-Delimited form = ap (λ (m : Measured). m.flats) (measures-Delimited form)
 
-pub flats-ArrayFill : (array left : Spot) (element : TypeTree) (right size_left : Spot) (size : Expr) (size_right dot : Spot) (fill : Name) (value_left : Spot) (value : Expr) (value_right : Spot) → (measured_atom (an_atom.ArrayFill array left element right size_left size size_right dot fill value_left value value_right)).flats ≡ (measured_expr size).flats ++ (measured_expr value).flats
-flats-ArrayFill array left element right size_left size size_right dot fill value_left value value_right = ap (λ (m : Measured). m.flats) (measures-ArrayFill array left element right size_left size size_right dot fill value_left value value_right)
+pub flats-ArrayFill : (spots : FillSpots) (element : TypeTree) (size value : Expr) → (measured_atom (an_atom.ArrayFill spots element size value)).flats ≡ (measured_expr size).flats ++ (measured_expr value).flats
+flats-ArrayFill spots element size value = ap (λ (m : Measured). m.flats) (measures-ArrayFill spots element size value)
     ∙ ap (λ (u : List Row). u ++ all_flats (measured_expr size ∷ measured_expr value ∷ [])) (none_in_type element) ∙ two (measured_expr size) (measured_expr value)
 
 pub flats_flat : (x : Flat) → (measured_flat x).flats ≡ row_of x ∷ ((measured_operand (out-Flat x).first).flats ++ all_flats (map (λ part. part.unit) (map measured_flat_part (out-Flat x).rest)))

@@ -45,7 +45,7 @@ fn atom_spot(atom: &Atom) -> Spot
         Atom::Self_(spot) => *spot,
         Atom::Parens { left, .. } => *left,
         Atom::Delimited(form) => form_spot(form.get()),
-        Atom::ArrayFill { array, .. } => *array,
+        Atom::ArrayFill { spots, .. } => spots.get().array,
     }
 }
 

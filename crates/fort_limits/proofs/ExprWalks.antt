@@ -15,6 +15,7 @@ use Rattle.fort_tree.specs.declared.delimited.Delimited.{Delimited}
 use Rattle.fort_tree.specs.declared.expr.Atom.{Atom}
 use Rattle.fort_tree.specs.declared.expr.Atom.TheVariants as an_atom
 use Rattle.fort_tree.specs.declared.expr.Expr.{Expr}
+use Rattle.fort_tree.specs.declared.expr.FillSpots.{FillSpots}
 use Rattle.fort_tree.specs.declared.expr.Expr.TheVariants as an_expr
 use Rattle.fort_tree.specs.declared.expr.FlatPart.TheVariants as a_flat_part
 use Rattle.fort_tree.specs.declared.expr.Generator.{Generator}
@@ -159,9 +160,9 @@ pub walks-Delimited : (found : Option Place) (form : Delimited)
     → earliest found (measured_atom (an_atom.Delimited form)).crowded ≡ earliest found (measured_delimited form).crowded
 walks-Delimited found form = simp measures-Delimited
 
-pub walks-ArrayFill : (found : Option Place) (array left : Spot) (element : TypeTree) (right size_left : Spot) (size : Expr) (size_right dot : Spot) (fill : Name) (value_left : Spot) (value : Expr) (value_right : Spot)
-    → earliest found (measured_atom (an_atom.ArrayFill array left element right size_left size size_right dot fill value_left value value_right)).crowded ≡ earliest (earliest (earliest found (measured_type element).crowded) (measured_expr size).crowded) (measured_expr value).crowded
-walks-ArrayFill found array left element right size_left size size_right dot fill value_left value value_right = simp (measures-ArrayFill, earliest_append, earliest_none)
+pub walks-ArrayFill : (found : Option Place) (spots : FillSpots) (element : TypeTree) (size value : Expr)
+    → earliest found (measured_atom (an_atom.ArrayFill spots element size value)).crowded ≡ earliest (earliest (earliest found (measured_type element).crowded) (measured_expr size).crowded) (measured_expr value).crowded
+walks-ArrayFill found spots element size value = simp (measures-ArrayFill, earliest_append, earliest_none)
 
 pub expr_list_walks : (found : Option Place) (x : ExprList)
     → earliest found (all_crowded (measured_expr_list x).parts) ≡ earliest (earliest found (measured_expr (out-ExprList x).first).crowded) (all_crowded (map measured_next_expr (out-ExprList x).others))

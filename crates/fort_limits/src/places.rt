@@ -39,7 +39,7 @@ pub(crate) fn place_of_atom(atom: &Atom) -> Place
         Atom::Self_(spot) => spot.place,
         Atom::Parens { left, .. } => left.place,
         Atom::Delimited(form) => place_of_delimited(form.get()),
-        Atom::ArrayFill { array, .. } => array.place,
+        Atom::ArrayFill { spots, .. } => spots.get().array.place,
     }
 }
 

@@ -12,6 +12,7 @@ use Rattle.fort_tree.specs.declared.delimited.Delimited.{Delimited, the_lemmas}
 use Rattle.fort_tree.specs.declared.expr.Atom.{Atom}
 use Rattle.fort_tree.specs.declared.expr.Atom.TheVariants as an_atom
 use Rattle.fort_tree.specs.declared.expr.Expr.{Expr}
+use Rattle.fort_tree.specs.declared.expr.FillSpots.{FillSpots}
 use Rattle.fort_tree.specs.declared.expr.Expr.TheVariants as an_expr
 use Rattle.fort_tree.specs.declared.expr.FlatPart.TheVariants as a_flat_part
 use Rattle.fort_tree.specs.declared.expr.Generator.{Generator}
@@ -170,9 +171,9 @@ pub mentions-Delimited : (form : Delimited) → mentioned_atom (an_atom.Delimite
 unfolding mentioned_atom mentioned_delimited
 mentions-Delimited form = search (rules, the_lemmas)
 
-pub mentions-ArrayFill : (array left : Spot) (element : TypeTree) (right size_left : Spot) (size : Expr) (size_right dot : Spot) (fill : Name) (value_left : Spot) (value : Expr) (value_right : Spot) → mentioned_atom (an_atom.ArrayFill array left element right size_left size size_right dot fill value_left value value_right) ≡ mention_atom (Atom-F.ArrayFill array left element right size_left (mentioned_expr size) size_right dot fill value_left (mentioned_expr value) value_right)
+pub mentions-ArrayFill : (spots : FillSpots) (element : TypeTree) (size value : Expr) → mentioned_atom (an_atom.ArrayFill spots element size value) ≡ mention_atom (Atom-F.ArrayFill spots element (mentioned_expr size) (mentioned_expr value))
 unfolding mentioned_atom mentioned_expr
-mentions-ArrayFill array left element right size_left size size_right dot fill value_left value value_right = search (rules, the_lemmas)
+mentions-ArrayFill spots element size value = search (rules, the_lemmas)
 
 -- ---- ExprList
 

@@ -114,7 +114,7 @@ mention_atom (Atom-F.False s) = []
 mention_atom (Atom-F.Self_ s) = []
 mention_atom (Atom-F.Parens left contents right) = maybe_mentioned contents
 mention_atom (Atom-F.Delimited form) = form
-mention_atom (Atom-F.ArrayFill array left element right size_left size size_right dot fill value_left value value_right) = mentioned_type element ++ (size ++ value)
+mention_atom (Atom-F.ArrayFill spots element size value) = mentioned_type element ++ (size ++ value)
 
 -- of a list of expressions
 abbrev pub mention_expr_list : MentionedExprList → Mentioned

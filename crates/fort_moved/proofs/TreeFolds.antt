@@ -31,7 +31,7 @@ use Rattle.fort_tree.specs.declared.expr.Run.{Run}
 use Rattle.fort_tree.specs.declared.delimited.Delimited.TheOpen.{Delimited-F, Item-F, Atom-F, Expr-F, FlatPart-F, Generator-F, Head-F, Postfix-F, RunPart-F, Variable-F, Also-F, BlockItem-F, CaseClause-F, Catch-F, Elif-F, ElseBlock-F, ElseClause-F, Finally-F, NextGenerator-F, TypeClause-F, ExprList-F, Flat-F, NextExpr-F, Operand-F, Run-F}
 use Rattle.fort_tree.specs.declared.delimited.Delimited.TheFolds.{fold-Delimited, fold-roll-Delimited, map-Delimited, fold-Item, fold-roll-Item, map-Item, fold-Atom, fold-roll-Atom, map-Atom, fold-Expr, fold-roll-Expr, map-Expr, ind-Expr, fold-FlatPart, fold-roll-FlatPart, map-FlatPart, fold-Generator, fold-roll-Generator, map-Generator, fold-Head, fold-roll-Head, map-Head, fold-Postfix, fold-roll-Postfix, map-Postfix, fold-RunPart, fold-roll-RunPart, map-RunPart, fold-Variable, fold-roll-Variable, map-Variable, ind-Variable, fold-Also, fold-roll-Also, map-Also, fold-BlockItem, fold-roll-BlockItem, map-BlockItem, fold-CaseClause, fold-roll-CaseClause, map-CaseClause, fold-Catch, fold-roll-Catch, map-Catch, fold-Elif, fold-roll-Elif, map-Elif, fold-ElseBlock, fold-roll-ElseBlock, map-ElseBlock, fold-ElseClause, fold-roll-ElseClause, map-ElseClause, fold-Finally, fold-roll-Finally, map-Finally, fold-NextGenerator, fold-roll-NextGenerator, map-NextGenerator, fold-TypeClause, fold-roll-TypeClause, map-TypeClause, fold-ExprList, fold-roll-ExprList, map-ExprList, fold-Flat, fold-roll-Flat, map-Flat, fold-NextExpr, fold-roll-NextExpr, map-NextExpr, fold-Operand, fold-roll-Operand, map-Operand, fold-Run, fold-roll-Run, map-Run}
 use Rattle.fort_tree.specs.declared.delimited.Delimited.TheViews.{roll-Delimited, roll-Item, roll-Atom, roll-Expr, roll-FlatPart, roll-Generator, roll-Head, roll-Postfix, roll-RunPart, roll-Variable, roll-Also, roll-BlockItem, roll-CaseClause, roll-Catch, roll-Elif, roll-ElseBlock, roll-ElseClause, roll-Finally, roll-NextGenerator, roll-TypeClause, roll-ExprList, roll-Flat, roll-NextExpr, roll-Operand, roll-Run}
-use Rattle.fort_moved.specs.Spots.{moved_spot, moved_name, moved_sign, moved_next_name, moved_initial, moved_assign, moved_big, moved_prefix}
+use Rattle.fort_moved.specs.Spots.{moved_spot, moved_name, moved_sign, moved_next_name, moved_initial, moved_assign, moved_big, moved_fill, moved_prefix}
 use Rattle.fort_moved.specs.TypesMoved.{moved_type}
 use Rattle.fort_moved.proofs.Parts.{each_met}
 use Rattle.fort_moved.specs.TreesMoved.{delimited_level, move_delimited, moved_delimited, item_level, move_item, moved_item, atom_level, move_atom, moved_atom, expr_level, move_expr, moved_expr, flat_part_level, move_flat_part, moved_flat_part, generator_level, move_generator, moved_generator, head_level, move_head, moved_head, postfix_level, move_postfix, moved_postfix, run_part_level, move_run_part, moved_run_part, variable_level, move_variable, moved_variable, also_level, move_also, moved_also, block_item_level, move_block_item, moved_block_item, case_clause_level, move_case_clause, moved_case_clause, catch_level, move_catch, moved_catch, elif_level, move_elif, moved_elif, else_block_level, move_else_block, moved_else_block, else_clause_level, move_else_clause, moved_else_clause, finally_level, move_finally, moved_finally, next_generator_level, move_next_generator, moved_next_generator, type_clause_level, move_type_clause, moved_type_clause, expr_list_level, move_expr_list, moved_expr_list, flat_level, move_flat, moved_flat, next_expr_level, move_next_expr, moved_next_expr, operand_level, move_operand, moved_operand, run_level, move_run, moved_run}
@@ -614,7 +614,7 @@ module _ (g : Place → Place) (D I A E FP G H P RP V AL BI CC C EI EB EC FI NG 
   met_atom (Atom-F.Parens left None right) = refl
   met_atom (Atom-F.Parens left (Some contents) right) = λ i. Atom-F.Parens (moved_spot g left) (Some (contents.1 i)) (moved_spot g right)
   met_atom (Atom-F.Delimited form) = λ i. Atom-F.Delimited (form.1 i)
-  met_atom (Atom-F.ArrayFill array left element right size_left size size_right dot fill value_left value value_right) = λ i. Atom-F.ArrayFill (moved_spot g array) (moved_spot g left) (moved_type g element) (moved_spot g right) (moved_spot g size_left) (size.1 i) (moved_spot g size_right) (moved_spot g dot) (moved_name g fill) (moved_spot g value_left) (value.1 i) (moved_spot g value_right)
+  met_atom (Atom-F.ArrayFill spots element size value) = λ i. Atom-F.ArrayFill (moved_fill g spots) (moved_type g element) (size.1 i) (value.1 i)
 
   -- an expression
   abbrev telling_expr : Expr-F Delimited Item Atom Expr FlatPart Generator Head Postfix RunPart Variable Also BlockItem CaseClause Catch Elif ElseBlock ElseClause Finally NextGenerator TypeClause ExprList Flat NextExpr Operand Run → Expr-F D I A E FP G H P RP V AL BI CC C EI EB EC FI NG TC EL F NE O R

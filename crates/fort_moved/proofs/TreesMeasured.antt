@@ -56,7 +56,7 @@ module _ (g : Place → Place) where
   meets_atom (Atom-F.Parens left None right) = made_moves g left (over most_tuple_parts (length (listed_parts None)) left.place) (listed_parts None) refl (over_moves g most_tuple_parts left.place (listed_length g None) refl) (listed_moves g None)
   meets_atom (Atom-F.Parens left (Some contents) right) = made_moves g left (over most_tuple_parts (length (listed_parts (Some contents))) left.place) (listed_parts (Some contents)) refl (over_moves g most_tuple_parts left.place (listed_length g (Some contents)) refl) (listed_moves g (Some contents))
   meets_atom (Atom-F.Delimited form) = refl
-  meets_atom (Atom-F.ArrayFill array left element right size_left size size_right dot fill value_left value value_right) = made_moves g array [] (measured_type element ∷ size ∷ value ∷ []) refl refl (λ i. measured_type_moves g element i ∷ moved_measured g size ∷ moved_measured g value ∷ [])
+  meets_atom (Atom-F.ArrayFill spots element size value) = made_moves g spots.array [] (measured_type element ∷ size ∷ value ∷ []) refl refl (λ i. measured_type_moves g element i ∷ moved_measured g size ∷ moved_measured g value ∷ [])
 
   -- one level of an expression
   meets_expr : (l : Expr-F Measured Measured Measured Measured Joined Measured Measured Measured Measured Measured Measured Measured Measured Listed Measured Measured Measured Measured Measured Measured Listed Measured Measured Measured Measured) → measure_expr (expr_level g (map-Expr Measured Measured Measured Measured Joined Measured Measured Measured Measured Measured Measured Measured Measured Listed Measured Measured Measured Measured Measured Measured Listed Measured Measured Measured Measured Measured Measured Measured Measured Joined Measured Measured Measured Measured Measured Measured Measured Measured Listed Measured Measured Measured Measured Measured Measured Listed Measured Measured Measured Measured (moved_measured g) (moved_measured g) (moved_measured g) (moved_measured g) (moved_joined g) (moved_measured g) (moved_measured g) (moved_measured g) (moved_measured g) (moved_measured g) (moved_measured g) (moved_measured g) (moved_measured g) (moved_listed g) (moved_measured g) (moved_measured g) (moved_measured g) (moved_measured g) (moved_measured g) (moved_measured g) (moved_listed g) (moved_measured g) (moved_measured g) (moved_measured g) (moved_measured g) l)) ≡ moved_measured g (measure_expr l)

@@ -69,9 +69,9 @@ module _ (g : Place → Place) where
   meets_atom (Atom-F.Parens left None right) = same_said refl refl (λ names allowed. maybe_hold g names in_brackets None)
   meets_atom (Atom-F.Parens left (Some contents) right) = same_said refl (whole g contents _ refl) (λ names allowed. maybe_hold g names in_brackets (Some contents))
   meets_atom (Atom-F.Delimited form) = refl
-  meets_atom (Atom-F.ArrayFill array left element right size_left size size_right dot fill value_left value value_right) = same_said refl (under (typed g element _ (under (under (whole g size _ (under (under (under (under (whole g value _ refl))))))))))
-      (λ names allowed i. (is_empty left.gap && (is_empty size_left.gap && (is_empty dot.gap && (is_empty fill.spot.gap && is_empty value_left.gap))))
-      && (is_spelled "fill" names fill && (type_holds g element names elsewhere i && (size.obeys names in_brackets && value.obeys names in_brackets))))
+  meets_atom (Atom-F.ArrayFill spots element size value) = same_said refl (under (typed g element _ (under (under (whole g size _ (under (under (under (under (whole g value _ refl))))))))))
+      (λ names allowed i. (is_empty spots.left.gap && (is_empty spots.size_left.gap && (is_empty spots.dot.gap && (is_empty spots.fill.spot.gap && is_empty spots.value_left.gap))))
+      && (is_spelled "fill" names spots.fill && (type_holds g element names elsewhere i && (size.obeys names in_brackets && value.obeys names in_brackets))))
 
   -- one level of an expression
   meets_expr : (l : Expr-F Said Said Said Said Said Said Said Said Said Said Said SaidEntry SaidEntry Said Said Said SaidElse Said Said SaidEntry Said Said Said Said Said) → expr_step (expr_level g (map-Expr Said Said Said Said Said Said Said Said Said Said Said SaidEntry SaidEntry Said Said Said SaidElse Said Said SaidEntry Said Said Said Said Said Said Said Said Said Said Said Said Said Said Said Said SaidEntry SaidEntry Said Said Said SaidElse Said Said SaidEntry Said Said Said Said Said (moved_said g) (moved_said g) (moved_said g) (moved_said g) (moved_said g) (moved_said g) (moved_said g) (moved_said g) (moved_said g) (moved_said g) (moved_said g) (moved_entry g) (moved_entry g) (moved_said g) (moved_said g) (moved_said g) (moved_else g) (moved_said g) (moved_said g) (moved_entry g) (moved_said g) (moved_said g) (moved_said g) (moved_said g) (moved_said g) l)) ≡ moved_said g (expr_step l)

@@ -12,6 +12,7 @@ use Rattle.fort_tree.specs.declared.expr.AssignSign.{AssignSign}
 use Rattle.fort_tree.specs.declared.expr.AssignSign.TheVariants as assign_sign
 use Rattle.fort_tree.specs.declared.expr.Big.{Big}
 use Rattle.fort_tree.specs.declared.expr.Big.TheVariants as big_word
+use Rattle.fort_tree.specs.declared.expr.FillSpots.{FillSpots}
 use Rattle.fort_tree.specs.declared.expr.Prefix.{Prefix}
 use Rattle.fort_tree.specs.declared.expr.Prefix.TheVariants as a_prefix
 
@@ -55,6 +56,20 @@ module _ (g : Place → Place) where
   moved_big (big_word.Min s t) = big_word.Min (moved_spot s) (moved_spot t)
   moved_big (big_word.And s t) = big_word.And (moved_spot s) (moved_spot t)
   moved_big (big_word.Or s t) = big_word.Or (moved_spot s) (moved_spot t)
+
+  -- the word, the marks and the name of an array's fill
+  abbrev pub moved_fill : FillSpots → FillSpots
+  moved_fill s = record {
+    array = moved_spot s.array;
+    left = moved_spot s.left;
+    right = moved_spot s.right;
+    size_left = moved_spot s.size_left;
+    size_right = moved_spot s.size_right;
+    dot = moved_spot s.dot;
+    fill = moved_name s.fill;
+    value_left = moved_spot s.value_left;
+    value_right = moved_spot s.value_right;
+  }
 
   -- a prefix operator
   abbrev pub moved_prefix : Prefix → Prefix

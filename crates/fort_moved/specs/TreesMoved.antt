@@ -29,7 +29,7 @@ use Rattle.fort_tree.specs.declared.expr.Run.{Run}
 use Rattle.fort_tree.specs.declared.delimited.Delimited.TheOpen.{Delimited-F, Item-F, Atom-F, Expr-F, FlatPart-F, Generator-F, Head-F, Postfix-F, RunPart-F, Variable-F, Also-F, BlockItem-F, CaseClause-F, Catch-F, Elif-F, ElseBlock-F, ElseClause-F, Finally-F, NextGenerator-F, TypeClause-F, ExprList-F, Flat-F, NextExpr-F, Operand-F, Run-F}
 use Rattle.fort_tree.specs.declared.delimited.Delimited.TheFolds.{fold-Delimited, fold-Item, fold-Atom, fold-Expr, fold-FlatPart, fold-Generator, fold-Head, fold-Postfix, fold-RunPart, fold-Variable, fold-Also, fold-BlockItem, fold-CaseClause, fold-Catch, fold-Elif, fold-ElseBlock, fold-ElseClause, fold-Finally, fold-NextGenerator, fold-TypeClause, fold-ExprList, fold-Flat, fold-NextExpr, fold-Operand, fold-Run}
 use Rattle.fort_tree.specs.declared.delimited.Delimited.TheViews.{roll-Delimited, roll-Item, roll-Atom, roll-Expr, roll-FlatPart, roll-Generator, roll-Head, roll-Postfix, roll-RunPart, roll-Variable, roll-Also, roll-BlockItem, roll-CaseClause, roll-Catch, roll-Elif, roll-ElseBlock, roll-ElseClause, roll-Finally, roll-NextGenerator, roll-TypeClause, roll-ExprList, roll-Flat, roll-NextExpr, roll-Operand, roll-Run}
-use Rattle.fort_moved.specs.Spots.{moved_spot, moved_name, moved_sign, moved_next_name, moved_initial, moved_assign, moved_big, moved_prefix}
+use Rattle.fort_moved.specs.Spots.{moved_spot, moved_name, moved_sign, moved_next_name, moved_initial, moved_assign, moved_big, moved_fill, moved_prefix}
 use Rattle.fort_moved.specs.TypesMoved.{moved_type, moved_parameters}
 
 -- ---- levels: their parts stay
@@ -61,7 +61,7 @@ module _ (g : Place → Place) {D I A E FP G H P RP V AL BI CC C EI EB EC FI NG 
   atom_level (Atom-F.Self_ s) = Atom-F.Self_ (moved_spot g s)
   atom_level (Atom-F.Parens left contents right) = Atom-F.Parens (moved_spot g left) contents (moved_spot g right)
   atom_level (Atom-F.Delimited form) = Atom-F.Delimited form
-  atom_level (Atom-F.ArrayFill array left element right size_left size size_right dot fill value_left value value_right) = Atom-F.ArrayFill (moved_spot g array) (moved_spot g left) (moved_type g element) (moved_spot g right) (moved_spot g size_left) size (moved_spot g size_right) (moved_spot g dot) (moved_name g fill) (moved_spot g value_left) value (moved_spot g value_right)
+  atom_level (Atom-F.ArrayFill spots element size value) = Atom-F.ArrayFill (moved_fill g spots) (moved_type g element) size value
 
   -- one level of an expression
   abbrev pub expr_level : Expr-F D I A E FP G H P RP V AL BI CC C EI EB EC FI NG TC EL F NE O R → Expr-F D I A E FP G H P RP V AL BI CC C EI EB EC FI NG TC EL F NE O R

@@ -40,7 +40,7 @@ module _ (names : Spellings) (a b blocks : Bool) where
       (λ s. rw (says-True s) refl) (λ s. rw (says-False s) refl) (λ s. rw (says-Self_ s) refl)
       (λ left c right. rw (says-Parens left c right) refl)
       (λ d. rw (says-Delimited d) (delimited_same d))
-      (λ a l e r sl s sr d f vl v vr. rw (says-ArrayFill a l e r sl s sr d f vl v vr) refl)
+      (λ spots e s v. rw (says-ArrayFill spots e s v) refl)
 
   pub postfix_same : (x : Postfix) → Same (said_postfix x)
   postfix_same = cases_postfix (λ x. Same (said_postfix x))

@@ -51,7 +51,7 @@ atom_begins names allowed = cases_atom (λ a. (said_atom a).obeys names allowed 
     (λ s ob. rw (says-True s) refl) (λ s ob. rw (says-False s) refl) (λ s ob. rw (says-Self_ s) refl)
     (λ left c right ob. rw (says-Parens left c right) refl)
     (λ d ob. rw (says-Delimited d) (delimited_begins names allowed d (rw (says-Delimited d) at ob)))
-    (λ a l e r sl s sr d f vl v vr ob. rw (says-ArrayFill a l e r sl s sr d f vl v vr) refl)
+    (λ spots e s v ob. rw (says-ArrayFill spots e s v) refl)
 
 pub run_begins : (names : Spellings) (allowed : Allowed) (r : Run) → (said_run r).obeys names allowed ≡ true → begins_atom allowed.blocks (said_run r).first.kind ≡ true
 run_begins names allowed r ob = let own = rw (run_says r) at ob in rw (run_says r) (atom_begins names allowed (out-Run r).first (left_true _ _ own))

@@ -51,7 +51,8 @@ use Rattle.fort_parse_types.proofs.Complete.{complete_type_tree, type_begins, ty
 use Rattle.fort_starts.specs.declared.plain.PlainNames.{PlainNames}
 use Rattle.fort_starts.specs.Beginnings.{begins_atom, begins_head, begins_item, begins_item_kind, begins_case_clause, begins_type_clause, begins_else, begins_apart_of, begins_unit, begins_expr, is_prefix}
 use Rattle.fort_starts.specs.Plain.{plain_name, plain_names}
-use Rattle.fort_parse.specs.Blocks.{is_ended, last_ended, some_of, sees_second, semicolon, initialised, variable_from, var_item, names_from, flat_item, by_names, by_name, declared, item_from, head_item, item, block_item, block, case_clause, case_list, case_clauses, type_clause, type_clause_list, type_clauses, else_from, second_else, else_clause, also_block, also_blocks, elif, elifs, else_block, catch_from, catch, finally, next_generator, next_generators}
+use Rattle.fort_starts.specs.Endings.{semicolon_run}
+use Rattle.fort_parse.specs.Blocks.{is_ended, last_ended, some_of, sees_second, initialised, variable_from, var_item, names_from, flat_item, by_names, by_name, declared, item_from, head_item, item, block_item, block, case_clause, case_list, case_clauses, type_clause, type_clause_list, type_clauses, else_from, second_else, else_clause, also_block, also_blocks, elif, elifs, else_block, catch_from, catch, finally, next_generator, next_generators}
 use Rattle.fort_parse.specs.Runs.{do_form, if_rest, if_form, while_form, for_rest, for_form, case_rest, case_form, typecase_rest, typecase_form, try_form, delimited}
 use Rattle.fort_parse.proofs.FormFirsts.{Stops, item_begins, unit_is_item, type_is_item, new_line, Ends, ends_with}
 use Rattle.fort_parse.proofs.Firsts.{flat_begins, expr_begins}
@@ -180,8 +181,8 @@ unfolding begins_else begins_apart_of is_word same_word
 end_no_else ended s = false_right (ended || is_line s.gap)
 
 module _ (names : Spellings) {n : ℕ} (run : Bool → Eater Run n) (laws : FlatLaws names run) where
-  complete_semicolon : (s : Option Spot) (rest : Row) → StopsAfter Stops s (next_of rest) → Gets (Option Spot) ((semicolon names run).run (semicolon_tokens s ++ rest)) s rest
-  unfolding semicolon
+  complete_semicolon : (s : Option Spot) (rest : Row) → StopsAfter Stops s (next_of rest) → Gets (Option Spot) (semicolon_run (semicolon_tokens s ++ rest)) s rest
+  unfolding semicolon_run
   complete_semicolon None rest st = rw st.semicolon reads
   complete_semicolon (Some s) rest st = rw (sees_semicolon s) (gets_then _ (gets_mark mark.Semicolon s rest) reads)
 

@@ -58,7 +58,7 @@ atom_name_says a name = cases_atom (λ a. atom_name (out-Atom a) ≡ Some name �
     (λ s h. let e = rw (views.outs-Self_ s) at h in absurd cc)
     (λ a b c h. let e = rw (views.outs-Parens a b c) at h in absurd cc)
     (λ d h. let e = rw (views.outs-Delimited d) at h in absurd cc)
-    (λ a b c d e f g i j k l m h. let is = rw (views.outs-ArrayFill a b c d e f g i j k l m) at h in absurd cc) a
+    (λ a b c d h. let is = rw (views.outs-ArrayFill a b c d) at h in absurd cc) a
 
 maybe_name_says : (o : Operand) (a : Option Atom) (name : Name) → lone_atom o ≡ a → maybe_name a ≡ Some name → tokens_of (said_operand o) ≡ named name ∷ []
 maybe_name_says o None name is h = absurd cc
@@ -131,7 +131,7 @@ atom_names_say a p = cases_atom (λ a. atom_names (out-Atom a) ≡ Some p → (t
     (λ s h. let e = rw (views.outs-Self_ s) at h in absurd cc)
     (λ a b c h. parens_say a b c p h)
     (λ d h. let e = rw (views.outs-Delimited d) at h in absurd cc)
-    (λ a b c d e f g i j k l m h. let is = rw (views.outs-ArrayFill a b c d e f g i j k l m) at h in absurd cc) a
+    (λ a b c d h. let is = rw (views.outs-ArrayFill a b c d) at h in absurd cc) a
 
 maybe_names_say : (o : Operand) (a : Option Atom) (p : PlainNames) → lone_atom o ≡ a → maybe_names a ≡ Some p → (tokens_of (said_operand o) ≡ names_tokens p) × (has_next_name p.others ≡ true)
 maybe_names_say o None p is h = absurd cc

@@ -48,7 +48,8 @@ use Rattle.fort_starts.specs.Beginnings.{begins_atom, begins_head, begins_item, 
 use Rattle.fort_parse_types.specs.Types.{begins_type}
 use Rattle.fort_parse.specs.Flats.{operand}
 use Rattle.fort_starts.specs.Plain.{plain_name, plain_names}
-use Rattle.fort_parse.specs.Blocks.{is_ended, last_ended, some_of, sees_second, semicolon, initialised, variable_from, var_item, names_from, flat_item, by_names, by_name, declared, item_from, head_item, item, block_item, block, case_clause, case_list, case_clauses, type_clause, type_clause_list, type_clauses, else_from, second_else, else_clause, also_block, also_blocks, elif, elifs, else_block, catch_from, catch, no_finally, finally, next_generator, next_generators}
+use Rattle.fort_starts.specs.Endings.{semicolon_run}
+use Rattle.fort_parse.specs.Blocks.{is_ended, last_ended, some_of, sees_second, initialised, variable_from, var_item, names_from, flat_item, by_names, by_name, declared, item_from, head_item, item, block_item, block, case_clause, case_list, case_clauses, type_clause, type_clause_list, type_clauses, else_from, second_else, else_clause, also_block, also_blocks, elif, elifs, else_block, catch_from, catch, no_finally, finally, next_generator, next_generators}
 use Rattle.fort_parse.specs.Runs.{do_form, if_rest, if_form, while_form, for_rest, for_form, case_rest, case_form, typecase_rest, typecase_form, try_form, word_form, form_for, delimited}
 use Rattle.fort_parse.proofs.FormDeclares.{Ahead, ahead_of, ahead_more, head_declares_not, declares}
 use Rattle.fort_parse.proofs.Entries.{YieldsEntry, YieldsEntries, begun, only_entries, last_is}
@@ -92,8 +93,8 @@ pub record YieldsElse (names : Spellings) (es : List SaidEntry) (e : Option Said
   pub obeys : else_obeys names es e ≡ true
 
 module _ (names : Spellings) {n : ℕ} (run : Bool → Eater Run n) (laws : FlatLaws names run) where
-  sound_semicolon : (ts : Row) → Only (Option Spot) ((semicolon names run).run ts) (λ s rest. ts ≡ semicolon_tokens s ++ rest)
-  unfolding semicolon
+  sound_semicolon : (ts : Row) → Only (Option Spot) (semicolon_run ts) (λ s rest. ts ≡ semicolon_tokens s ++ rest)
+  unfolding semicolon_run
   sound_semicolon ts =
       only_if (sees (is_mark mark.Semicolon) (next_of ts)) _ _ _
       (λ e. only_then _ _ _ _ (only_mark mark.Semicolon ts) (λ s rest h. only_read _ (Some s) rest h))

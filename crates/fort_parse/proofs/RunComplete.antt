@@ -11,6 +11,7 @@ use Rattle.fort_tree.specs.declared.spot.Name.{Name}
 use Rattle.fort_tree.specs.declared.expr.Atom.{Atom}
 use Rattle.fort_tree.specs.declared.expr.Atom.TheVariants as an_atom
 use Rattle.fort_tree.specs.declared.expr.Expr.{Expr}
+use Rattle.fort_tree.specs.declared.expr.FillSpots.{FillSpots}
 use Rattle.fort_tree.specs.declared.expr.Postfix.{Postfix}
 use Rattle.fort_tree.specs.declared.expr.RunPart.{RunPart}
 use Rattle.fort_tree.specs.declared.expr.Run.{Run}
@@ -140,18 +141,18 @@ postfix_begins = cases_postfix (λ p. begins_postfix (said_postfix p).first.kind
     (λ d w. rw (says-Field d w) refl) (λ d w left l right. rw (says-Call d w left l right) refl)
 
 module _ (names : Spellings) {n : ℕ} (run : Bool → Eater Run n) (flats : FlatLaws names run) (forms : FormLaws names run) where
-  complete_array : (array left : Spot) (element : TypeTree) (right size_left : Spot) (size : Expr) (size_right dot : Spot) (fill : Name) (value_left : Spot) (value : Expr) (value_right : Spot) (rest : Row)
-      → is_empty left.gap ≡ true → is_empty size_left.gap ≡ true → is_empty dot.gap ≡ true → is_empty fill.spot.gap ≡ true → is_empty value_left.gap ≡ true → is_spelled "fill" names fill ≡ true
+  complete_array : (spots : FillSpots) (element : TypeTree) (size value : Expr) (rest : Row)
+      → is_empty spots.left.gap ≡ true → is_empty spots.size_left.gap ≡ true → is_empty spots.dot.gap ≡ true → is_empty spots.fill.spot.gap ≡ true → is_empty spots.value_left.gap ≡ true → is_spelled "fill" names spots.fill ≡ true
       → (said_type element).obeys names elsewhere ≡ true → (said_expr size).obeys names in_brackets ≡ true → (said_expr value).obeys names in_brackets ≡ true
-      → Gets Atom ((array_fill names run array).run (marked mark.OpenStatic left ∷ (tokens_of (said_type element) ++ marked mark.CloseStatic right ∷ marked mark.OpenParen size_left
-      ∷ (tokens_of (said_expr size) ++ marked mark.CloseParen size_right ∷ marked mark.Dot dot ∷ named fill ∷ marked mark.OpenParen value_left ∷ (tokens_of (said_expr value) ++ marked mark.CloseParen value_right ∷ rest)))))
-      (an_atom.ArrayFill array left element right size_left size size_right dot fill value_left value value_right) rest
+      → Gets Atom ((array_fill names run spots.array).run (marked mark.OpenStatic spots.left ∷ (tokens_of (said_type element) ++ marked mark.CloseStatic spots.right ∷ marked mark.OpenParen spots.size_left
+      ∷ (tokens_of (said_expr size) ++ marked mark.CloseParen spots.size_right ∷ marked mark.Dot spots.dot ∷ named spots.fill ∷ marked mark.OpenParen spots.value_left ∷ (tokens_of (said_expr value) ++ marked mark.CloseParen spots.value_right ∷ rest)))))
+      (an_atom.ArrayFill spots element size value) rest
   unfolding array_fill fill_size fill_value
-  complete_array array left element right size_left size size_right dot fill value_left value value_right rest g1 g2 g3 g4 g5 sp oe os ov =
-      gets_then _ (gets_tight_mark mark.OpenStatic left _ g1) (gets_then _ (complete_type_tree names n element _ oe (type_ends right)) (gets_then _ (gets_mark mark.CloseStatic right _)
-      (gets_then _ (gets_tight_mark mark.OpenParen size_left _ g2) (gets_then _ (flats.complete_expr true size _ os (mark_ends_expr true mark.CloseParen size_right refl refl refl)) (gets_then _ (gets_mark mark.CloseParen size_right _)
-      (gets_then _ (gets_tight_mark mark.Dot dot _ g3) (gets_then _ (gets_tight_called (codes "fill") names fill _ g4 (called_fill names fill sp)) (gets_then _ (gets_tight_mark mark.OpenParen value_left _ g5)
-      (gets_then _ (flats.complete_expr true value _ ov (mark_ends_expr true mark.CloseParen value_right refl refl refl)) (gets_then _ (gets_mark mark.CloseParen value_right rest) reads))))))))))
+  complete_array spots element size value rest g1 g2 g3 g4 g5 sp oe os ov =
+      gets_then _ (gets_tight_mark mark.OpenStatic spots.left _ g1) (gets_then _ (complete_type_tree names n element _ oe (type_ends spots.right)) (gets_then _ (gets_mark mark.CloseStatic spots.right _)
+      (gets_then _ (gets_tight_mark mark.OpenParen spots.size_left _ g2) (gets_then _ (flats.complete_expr true size _ os (mark_ends_expr true mark.CloseParen spots.size_right refl refl refl)) (gets_then _ (gets_mark mark.CloseParen spots.size_right _)
+      (gets_then _ (gets_tight_mark mark.Dot spots.dot _ g3) (gets_then _ (gets_tight_called (codes "fill") names spots.fill _ g4 (called_fill names spots.fill sp)) (gets_then _ (gets_tight_mark mark.OpenParen spots.value_left _ g5)
+      (gets_then _ (flats.complete_expr true value _ ov (mark_ends_expr true mark.CloseParen spots.value_right refl refl refl)) (gets_then _ (gets_mark mark.CloseParen spots.value_right rest) reads))))))))))
 
   do_is_form : (blocks : Bool) (ts : Row) → blocks ≡ true → (do_atom names run blocks).parser.run ts ≡ (form_atom names run).parser.run ts
   do_is_form true ts e = refl
@@ -181,12 +182,12 @@ module _ (names : Spellings) {n : ℕ} (run : Bool → Eater Run n) (flats : Fla
       rw (says-Parens left c right) (simp append_assoc (gets_then _ (gets_mark mark.OpenParen left _) (gets_then _ (flats.complete_maybe_list c right rest own) (gets_then _ (gets_mark mark.CloseParen right rest) reads)))))
       (λ d ob. let own = rw (says-Delimited d) at ob in
       rw (says-Delimited d, form_is_atom lines blocks d (tokens_of (said_delimited d) ++ rest) own) (gets_then _ (forms.complete_delimited lines blocks d rest own) reads))
-      (λ array left element right size_left size size_right dot fill value_left value value_right ob.
-      let own = rw (says-ArrayFill array left element right size_left size size_right dot fill value_left value value_right) at ob in
-      let gaps = five (is_empty left.gap) (is_empty size_left.gap) (is_empty dot.gap) (is_empty fill.spot.gap) (is_empty value_left.gap) (left_true _ _ own) in
-      let parts = four (is_spelled "fill" names fill) ((said_type element).obeys names elsewhere) ((said_expr size).obeys names in_brackets) ((said_expr value).obeys names in_brackets) (right_true _ _ own) in
-      rw (says-ArrayFill array left element right size_left size size_right dot fill value_left value value_right) (simp append_assoc (gets_then _ (gets_word reserved.Array array _)
-      (complete_array array left element right size_left size size_right dot fill value_left value value_right rest gaps.0 gaps.1 gaps.2 gaps.3 gaps.4 parts.0 parts.1 parts.2 parts.3)))) a
+      (λ spots element size value ob.
+      let own = rw (says-ArrayFill spots element size value) at ob in
+      let gaps = five (is_empty spots.left.gap) (is_empty spots.size_left.gap) (is_empty spots.dot.gap) (is_empty spots.fill.spot.gap) (is_empty spots.value_left.gap) (left_true _ _ own) in
+      let parts = four (is_spelled "fill" names spots.fill) ((said_type element).obeys names elsewhere) ((said_expr size).obeys names in_brackets) ((said_expr value).obeys names in_brackets) (right_true _ _ own) in
+      rw (says-ArrayFill spots element size value) (simp append_assoc (gets_then _ (gets_word reserved.Array spots.array _)
+      (complete_array spots element size value rest gaps.0 gaps.1 gaps.2 gaps.3 gaps.4 parts.0 parts.1 parts.2 parts.3)))) a
 
   complete_postfix : (lines blocks : Bool) (p : Postfix) (rest : Row) → (said_postfix p).obeys names (allowing lines blocks) ≡ true
       → (is_field (said_postfix p) && sees_tight (is_mark mark.OpenParen) (next_of rest)) ≡ false → Gets Postfix ((postfix names run blocks).parser.run (tokens_of (said_postfix p) ++ rest)) p rest

@@ -181,7 +181,7 @@ module _ (names : Spellings) {n : ℕ} (run : Bool → Eater Run n) (flats : Fla
       only_then _ _ _ _ (only_mark mark.CloseParen mid3) (λ value_right rest l.
       let after : ts ≡ marked mark.Dot dot ∷ named fill ∷ marked mark.OpenParen value_left ∷ (tokens_of (said_expr value) ++ marked mark.CloseParen value_right ∷ rest) =
       h.0 ∙ ap (λ (u : Row). marked mark.Dot dot ∷ u) (h1.0 ∙ ap (λ (u : Row). named fill ∷ u) (h2.0 ∙ ap (λ (u : Row). marked mark.OpenParen value_left ∷ u) (k.tokens ∙ ap (λ (u : Row). tokens_of (said_expr value) ++ u) l))) in
-      only_read _ _ rest (rw (says-ArrayFill array left element right size_left size size_right dot fill value_left value value_right) (record {
+      only_read _ _ rest (rw (says-ArrayFill (record { array = array; left = left; right = right; size_left = size_left; size_right = size_right; dot = dot; fill = fill; value_left = value_left; value_right = value_right }) element size value) (record {
         tokens = is ∙ (rw after (simp append_assoc refl));
         obeys = λ lines. both _ _ (both _ _ g1 (both _ _ g2 (both _ _ h.1 (both _ _ h1.1.0 h2.1)))) (both _ _ h1.1.1 (both _ _ oe (both _ _ os k.obeys)));
       })))))))

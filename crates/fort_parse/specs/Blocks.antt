@@ -27,6 +27,7 @@ use Rattle.fort_reading.specs.Words.{is_mark, is_word, is_range, is_eq, spot_if,
 use Rattle.fort_parse_types.specs.Types.{type_tree}
 use Rattle.fort_starts.specs.declared.plain.PlainNames.{PlainNames}
 use Rattle.fort_starts.specs.Beginnings.{begins_head, begins_item, begins_case_clause, begins_type_clause, begins_else}
+use Rattle.fort_starts.specs.Endings.{semicolon}
 use Rattle.fort_starts.specs.Plain.{plain_name, plain_names}
 use Rattle.fort_parse.specs.Flats.{operand, flat, generator, head, opened, expr_from, expr}
 
@@ -51,9 +52,6 @@ abbrev pub sees_second : Bool → Option Token → Bool
 sees_second ended next = ended && sees (is_mark mark.Semicolon) next
 
 module _ (names : Spellings) {n : ℕ} (run : Bool → Eater Run n) where
-  unfoldable pub semicolon : Parser (Option Spot) n
-  semicolon = fork (sees (is_mark mark.Semicolon)) (do s ← accept (spot_if (is_mark mark.Semicolon)); pure (Some s)) (pure None)
-
   -- ---- declarations of locals
 
   unfoldable pub initialised : Option Spot → Name → Spot → TypeTree → Parser Variable n

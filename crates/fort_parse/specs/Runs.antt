@@ -174,7 +174,7 @@ module _ (names : Spellings) {n : ℕ} (run : Bool → Eater Run n) where
     value_left ← accept (tight (spot_if (is_mark mark.OpenParen)))
     value ← (expr names run true).parser
     value_right ← accept (spot_if (is_mark mark.CloseParen))
-    pure (an_atom.ArrayFill array left element right size_left size size_right dot fill value_left value value_right)
+    pure (an_atom.ArrayFill (record { array = array; left = left; right = right; size_left = size_left; size_right = size_right; dot = dot; fill = fill; value_left = value_left; value_right = value_right }) element size value)
 
   unfoldable pub fill_size : Spot → Spot → TypeTree → Spot → Parser Atom n
   fill_size array left element right = do

@@ -12,7 +12,7 @@ use fort_base::{Boxed, Bytes, List};
 use fort_reading::{Cursor, Fault, add};
 use fort_starts::{
     PlainNames, begins_case_clause, begins_else, begins_item, begins_type_clause, plain_name,
-    plain_names, sees_head,
+    plain_names, sees_head, semicolon,
 };
 use fort_token::{Mark, Reserved};
 use fort_tree::{
@@ -45,18 +45,6 @@ impl<F: Fn(Global, &[Bytes], usize, usize, &mut Cursor<'_>, bool) -> Result<Run,
     '_,
     F,
 > {
-    #[tactic(auto, unfolding(crate::specs::Blocks::semicolon))]
-    fn semicolon(&self, tokens: &mut Cursor<'_>) -> Result<Option<Spot>, Fault>
-        requires { Nests self.now.names.now self.now.depth (F.pre self.now.inner) (F.post self.now.inner) }
-        ensures { Reads ((block_spec.semicolon self.now.names.now (run_at self.now.names.now self.now.depth)).run tokens.old) result tokens.new }
-    {
-        if tokens.sees_mark(Mark::Semicolon) {
-            Ok(Some(tokens.mark(Mark::Semicolon)?))
-        } else {
-            Ok(None)
-        }
-    }
-
     #[tactic(auto, unfolding(crate::specs::Blocks::initialised))]
     fn initialised(
         &self,
@@ -195,7 +183,7 @@ impl<F: Fn(Global, &[Bytes], usize, usize, &mut Cursor<'_>, bool) -> Result<Run,
         ensures { Reads ((block_spec.block_item self.now.names.now (run_at self.now.names.now self.now.depth)).parser.run tokens.old) result tokens.new }
     {
         let item = self.item(tokens)?;
-        let semicolon = self.semicolon(tokens)?;
+        let semicolon = semicolon(tokens)?;
         Ok(BlockItem { item, semicolon })
     }
 
@@ -224,7 +212,7 @@ impl<F: Fn(Global, &[Bytes], usize, usize, &mut Cursor<'_>, bool) -> Result<Run,
         let subject = self.flat(tokens, true)?;
         let arrow = tokens.mark(Mark::DoubleArrow)?;
         let value = self.expr(tokens, false)?;
-        let semicolon = self.semicolon(tokens)?;
+        let semicolon = semicolon(tokens)?;
         Ok(CaseClause {
             subject,
             arrow,
@@ -270,7 +258,7 @@ impl<F: Fn(Global, &[Bytes], usize, usize, &mut Cursor<'_>, bool) -> Result<Run,
         let ty = self.types().type_tree(tokens)?;
         let arrow = tokens.mark(Mark::DoubleArrow)?;
         let value = self.expr(tokens, false)?;
-        let semicolon = self.semicolon(tokens)?;
+        let semicolon = semicolon(tokens)?;
         Ok(TypeClause {
             ty,
             arrow,

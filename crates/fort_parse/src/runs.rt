@@ -9,11 +9,11 @@ use crate::blocks::{case_ended, type_ended};
 use crate::grammar::Grammar;
 use fort_base::{Boxed, Bytes, List};
 use fort_reading::{Cursor, Fault, add, spot_of};
-use fort_starts::{begins_run_part, is_next_tight, sees_postfix};
+use fort_starts::{begins_run_part, is_next_tight, sees_arguments, sees_postfix};
 use fort_token::{Kind, Mark, Reserved, Token};
 use fort_tree::{
-    Atom, Block, Delimited, Expr, Flat, Generator, Name, NextGenerator, Postfix, Run, RunPart,
-    Spot, TypeTree,
+    Atom, Block, Delimited, Expr, FillSpots, Flat, Generator, Name, NextGenerator, Postfix, Run,
+    RunPart, Spot, TypeTree,
 };
 use std::alloc::Global;
 
@@ -335,19 +335,22 @@ impl<F: Fn(Global, &[Bytes], usize, usize, &mut Cursor<'_>, bool) -> Result<Run,
         let value_left = tokens.tight_mark(Mark::OpenParen)?;
         let value = Boxed::new(self.alloc, self.expr(tokens, true)?)?;
         let value_right = tokens.mark(Mark::CloseParen)?;
-        Ok(Atom::ArrayFill {
+        let spots = FillSpots {
             array: head.array,
             left: head.left,
-            element: head.element,
             right: head.right,
             size_left: size.left,
-            size: size.size,
             size_right: size.right,
             dot,
             fill,
             value_left,
-            value,
             value_right,
+        };
+        Ok(Atom::ArrayFill {
+            spots: Boxed::new(self.alloc, spots)?,
+            element: head.element,
+            size: size.size,
+            value,
         })
     }
 
@@ -478,7 +481,7 @@ impl<F: Fn(Global, &[Bytes], usize, usize, &mut Cursor<'_>, bool) -> Result<Run,
         ensures { Reads ((runs.dotted self.now.names.now (run_at self.now.names.now self.now.depth) dot).run tokens.old) result tokens.new }
     {
         let name = tokens.tight_name()?;
-        if tokens.sees_tight_mark(Mark::OpenParen) {
+        if sees_arguments(tokens.next()) {
             self.method_call(tokens, dot, name)
         } else {
             Ok(Postfix::Field { dot, name })

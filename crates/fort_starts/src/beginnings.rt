@@ -1,11 +1,11 @@
 //! The tokens with which parts of an expression begin.
 ghost use Rattle.std.specs.Prelude.{◌≡◌};
-ghost use Rattle.fort_reading.specs.Words.{sees};
+ghost use Rattle.fort_reading.specs.Words.{is_mark, sees, sees_tight};
 ghost use Rattle.fort_parse_types.specs.Types as types;
 ghost use Rattle.fort_starts.specs.Beginnings as spec;
 
 use fort_ops::Op;
-use fort_reading::{is_empty, is_infix, is_line, is_word};
+use fort_reading::{is_empty, is_infix, is_line, is_mark, is_word};
 use fort_token::{Kind, Mark, Reserved, Token};
 
 fn word_begins_atom(blocks: bool, word: Reserved) -> bool
@@ -221,6 +221,17 @@ pub fn is_next_tight(next: Option<Token>) -> bool
 {
     match next {
         Some(token) => is_empty(token.gap),
+        None => false,
+    }
+}
+
+/// Whether the next token is a `(` with no gap before it: behind the name of a postfix it begins the arguments of a method.
+#[tactic(auto, unfolding(fort_reading::specs::Words::sees_tight))]
+pub fn sees_arguments(next: Option<Token>) -> bool
+    ensures { result ≡ sees_tight (is_mark Mark.OpenParen) next }
+{
+    match next {
+        Some(token) => is_empty(token.gap) && is_mark(Mark::OpenParen, token.kind),
         None => false,
     }
 }

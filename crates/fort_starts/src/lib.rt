@@ -2,11 +2,13 @@
 #![tactic(auto)]
 
 mod beginnings;
+mod endings;
 mod plain;
 
 pub use beginnings::{
     begins_case_clause, begins_else, begins_flat_part, begins_item, begins_run_part,
-    begins_type_clause, is_next_tight, sees_assign, sees_head, sees_infix, sees_postfix,
-    sees_prefix,
+    begins_type_clause, is_next_tight, sees_arguments, sees_assign, sees_head, sees_infix,
+    sees_postfix, sees_prefix,
 };
+pub use endings::semicolon;
 pub use plain::{PlainNames, plain_name, plain_names};

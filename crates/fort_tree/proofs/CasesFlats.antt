@@ -14,6 +14,7 @@ use Rattle.fort_tree.specs.declared.delimited.Item.{Item}
 use Rattle.fort_tree.specs.declared.expr.Atom.{Atom}
 use Rattle.fort_tree.specs.declared.expr.Atom.TheVariants as an_atom
 use Rattle.fort_tree.specs.declared.expr.Expr.{Expr}
+use Rattle.fort_tree.specs.declared.expr.FillSpots.{FillSpots}
 use Rattle.fort_tree.specs.declared.expr.Expr.TheVariants as an_expr
 use Rattle.fort_tree.specs.declared.expr.FlatPart.{FlatPart}
 use Rattle.fort_tree.specs.declared.expr.FlatPart.TheVariants as a_flat_part
@@ -129,7 +130,7 @@ module _ (P : Atom → Type 0) (of_name : (name : Name) → P (an_atom.Name name
     (of_self : (s : Spot) → P (an_atom.Self_ s))
     (of_parens : (left : Spot) (contents : Option ExprList) (right : Spot) → P (an_atom.Parens left contents right))
     (of_delimited : (form : Delimited) → P (an_atom.Delimited form))
-    (of_array_fill : (array left : Spot) (element : TypeTree) (right size_left : Spot) (size : Expr) (size_right dot : Spot) (fill : Name) (value_left : Spot) (value : Expr) (value_right : Spot) → P (an_atom.ArrayFill array left element right size_left size size_right dot fill value_left value value_right)) where
+    (of_array_fill : (spots : FillSpots) (element : TypeTree) (size value : Expr) → P (an_atom.ArrayFill spots element size value)) where
   atom_at : (l : Atom-F Delimited Item Atom Expr FlatPart Generator Head Postfix RunPart Variable Also BlockItem CaseClause Catch Elif ElseBlock ElseClause Finally NextGenerator TypeClause ExprList Flat NextExpr Operand Run) → P (views.roll-Atom l)
   atom_at (Atom-F.Name name) = subst P (sym (views.rolls-Name name)) (of_name name)
   atom_at (Atom-F.Number value s) = subst P (sym (views.rolls-Number value s)) (of_number value s)
@@ -139,7 +140,7 @@ module _ (P : Atom → Type 0) (of_name : (name : Name) → P (an_atom.Name name
   atom_at (Atom-F.Self_ s) = subst P (sym (views.rolls-Self_ s)) (of_self s)
   atom_at (Atom-F.Parens left contents right) = subst P (sym (views.rolls-Parens left contents right)) (of_parens left contents right)
   atom_at (Atom-F.Delimited form) = subst P (sym (views.rolls-Delimited form)) (of_delimited form)
-  atom_at (Atom-F.ArrayFill array left element right size_left size size_right dot fill value_left value value_right) = subst P (sym (views.rolls-ArrayFill array left element right size_left size size_right dot fill value_left value value_right)) (of_array_fill array left element right size_left size size_right dot fill value_left value value_right)
+  atom_at (Atom-F.ArrayFill spots element size value) = subst P (sym (views.rolls-ArrayFill spots element size value)) (of_array_fill spots element size value)
 
   pub cases_atom : (x : Atom) → P x
   cases_atom x = subst P (views.roll-out-Atom x) (atom_at (views.out-Atom x))

@@ -13,6 +13,7 @@ use Rattle.fort_tree.specs.declared.delimited.Delimited.{Delimited, the_lemmas}
 use Rattle.fort_tree.specs.declared.expr.Atom.{Atom}
 use Rattle.fort_tree.specs.declared.expr.Atom.TheVariants as an_atom
 use Rattle.fort_tree.specs.declared.expr.Expr.{Expr}
+use Rattle.fort_tree.specs.declared.expr.FillSpots.{FillSpots}
 use Rattle.fort_tree.specs.declared.expr.Expr.TheVariants as an_expr
 use Rattle.fort_tree.specs.declared.expr.FlatPart.{FlatPart}
 use Rattle.fort_tree.specs.declared.expr.FlatPart.TheVariants as a_flat_part
@@ -185,9 +186,9 @@ pub measures-Delimited : (form : Delimited) → measured_atom (an_atom.Delimited
 unfolding measured_atom measured_delimited
 measures-Delimited form = search (rules, the_lemmas)
 
-pub measures-ArrayFill : (array left : Spot) (element : TypeTree) (right size_left : Spot) (size : Expr) (size_right dot : Spot) (fill : Name) (value_left : Spot) (value : Expr) (value_right : Spot) → measured_atom (an_atom.ArrayFill array left element right size_left size size_right dot fill value_left value value_right) ≡ measure_atom (Atom-F.ArrayFill array left element right size_left (measured_expr size) size_right dot fill value_left (measured_expr value) value_right)
+pub measures-ArrayFill : (spots : FillSpots) (element : TypeTree) (size value : Expr) → measured_atom (an_atom.ArrayFill spots element size value) ≡ measure_atom (Atom-F.ArrayFill spots element (measured_expr size) (measured_expr value))
 unfolding measured_atom measured_expr
-measures-ArrayFill array left element right size_left size size_right dot fill value_left value value_right = search (rules, the_lemmas)
+measures-ArrayFill spots element size value = search (rules, the_lemmas)
 
 -- ---- ExprList
 

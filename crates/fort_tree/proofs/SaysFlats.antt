@@ -13,6 +13,7 @@ use Rattle.fort_tree.specs.declared.delimited.Delimited.{Delimited, the_lemmas}
 use Rattle.fort_tree.specs.declared.expr.Atom.{Atom}
 use Rattle.fort_tree.specs.declared.expr.Atom.TheVariants as an_atom
 use Rattle.fort_tree.specs.declared.expr.Expr.{Expr}
+use Rattle.fort_tree.specs.declared.expr.FillSpots.{FillSpots}
 use Rattle.fort_tree.specs.declared.expr.Expr.TheVariants as an_expr
 use Rattle.fort_tree.specs.declared.expr.FlatPart.{FlatPart}
 use Rattle.fort_tree.specs.declared.expr.FlatPart.TheVariants as a_flat_part
@@ -185,9 +186,9 @@ pub says-Delimited : (form : Delimited) → said_atom (an_atom.Delimited form) �
 unfolding said_atom said_delimited
 says-Delimited form = search (rules, the_lemmas)
 
-pub says-ArrayFill : (array left : Spot) (element : TypeTree) (right size_left : Spot) (size : Expr) (size_right dot : Spot) (fill : Name) (value_left : Spot) (value : Expr) (value_right : Spot) → said_atom (an_atom.ArrayFill array left element right size_left size size_right dot fill value_left value value_right) ≡ atom_step (Atom-F.ArrayFill array left element right size_left (said_expr size) size_right dot fill value_left (said_expr value) value_right)
+pub says-ArrayFill : (spots : FillSpots) (element : TypeTree) (size value : Expr) → said_atom (an_atom.ArrayFill spots element size value) ≡ atom_step (Atom-F.ArrayFill spots element (said_expr size) (said_expr value))
 unfolding said_atom said_expr
-says-ArrayFill array left element right size_left size size_right dot fill value_left value value_right = search (rules, the_lemmas)
+says-ArrayFill spots element size value = search (rules, the_lemmas)
 
 -- ---- ExprList
 

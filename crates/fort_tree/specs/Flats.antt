@@ -217,13 +217,13 @@ atom_step (Atom-F.Parens left contents right) = record {
   obeys = λ names allowed. maybe_obeys names in_brackets contents;
 }
 atom_step (Atom-F.Delimited form) = form
-atom_step (Atom-F.ArrayFill array left element right size_left size size_right dot fill value_left value value_right) = record {
-  first = word reserved.Array array;
-  more = marked mark.OpenStatic left ∷ (tokens_of (said_type element) ++ marked mark.CloseStatic right ∷ marked mark.OpenParen size_left
-      ∷ (tokens_of size ++ marked mark.CloseParen size_right ∷ marked mark.Dot dot ∷ named fill ∷ marked mark.OpenParen value_left
-      ∷ (tokens_of value ++ marked mark.CloseParen value_right ∷ [])));
-  obeys = λ names allowed. (is_empty left.gap && (is_empty size_left.gap && (is_empty dot.gap && (is_empty fill.spot.gap && is_empty value_left.gap))))
-      && (is_spelled "fill" names fill && ((said_type element).obeys names elsewhere && (size.obeys names in_brackets && value.obeys names in_brackets)));
+atom_step (Atom-F.ArrayFill spots element size value) = record {
+  first = word reserved.Array spots.array;
+  more = marked mark.OpenStatic spots.left ∷ (tokens_of (said_type element) ++ marked mark.CloseStatic spots.right ∷ marked mark.OpenParen spots.size_left
+      ∷ (tokens_of size ++ marked mark.CloseParen spots.size_right ∷ marked mark.Dot spots.dot ∷ named spots.fill ∷ marked mark.OpenParen spots.value_left
+      ∷ (tokens_of value ++ marked mark.CloseParen spots.value_right ∷ [])));
+  obeys = λ names allowed. (is_empty spots.left.gap && (is_empty spots.size_left.gap && (is_empty spots.dot.gap && (is_empty spots.fill.spot.gap && is_empty spots.value_left.gap))))
+      && (is_spelled "fill" names spots.fill && ((said_type element).obeys names elsewhere && (size.obeys names in_brackets && value.obeys names in_brackets)));
 }
 
 -- what a list of expressions says

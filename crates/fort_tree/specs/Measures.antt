@@ -136,7 +136,7 @@ measure_atom (Atom-F.False s) = made_of s [] []
 measure_atom (Atom-F.Self_ s) = made_of s [] []
 measure_atom (Atom-F.Parens left contents right) = made_of left (over most_tuple_parts (length (listed_parts contents)) left.place) (listed_parts contents)
 measure_atom (Atom-F.Delimited form) = form
-measure_atom (Atom-F.ArrayFill array left element right size_left size size_right dot fill value_left value value_right) = made_of array [] (measured_type element ∷ size ∷ value ∷ [])
+measure_atom (Atom-F.ArrayFill spots element size value) = made_of spots.array [] (measured_type element ∷ size ∷ value ∷ [])
 
 -- the expressions of a list
 abbrev pub measure_expr_list : MeasuredExprList → Listed

@@ -218,19 +218,25 @@ pub enum Atom {
     Delimited(Boxed<Delimited>),
     /// `"array" "[\" Type "\]" "(" Expr ")" "." "fill" "(" Expr ")"`; the name must be `fill`.
     ArrayFill {
-        array: Spot,
-        left: Spot,
+        spots: Boxed<FillSpots>,
         element: Boxed<TypeTree>,
-        right: Spot,
-        size_left: Spot,
         size: Boxed<Expr>,
-        size_right: Spot,
-        dot: Spot,
-        fill: Name,
-        value_left: Spot,
         value: Boxed<Expr>,
-        value_right: Spot,
     },
+}
+
+/// The word, the marks and the name of an array's fill, in their order; they lie in a box, so that other atoms stay small.
+#[derive(Clone, Copy, Debug, PartialEq, Eq)]
+pub struct FillSpots {
+    pub array: Spot,
+    pub left: Spot,
+    pub right: Spot,
+    pub size_left: Spot,
+    pub size_right: Spot,
+    pub dot: Spot,
+    pub fill: Name,
+    pub value_left: Spot,
+    pub value_right: Spot,
 }
 
 /// `Expr ("," Expr)*`

@@ -20,8 +20,8 @@ pub use delimited::{
     Item, NextGenerator, TypeClause,
 };
 pub use expr::{
-    AssignSign, Atom, Big, Expr, ExprList, Flat, FlatPart, Generator, Head, NextExpr, Operand,
-    Postfix, Prefix, Run, RunPart,
+    AssignSign, Atom, Big, Expr, ExprList, FillSpots, Flat, FlatPart, Generator, Head, NextExpr,
+    Operand, Postfix, Prefix, Run, RunPart,
 };
 pub use grouped::{FlatGrouping, Grouped, Groups, Joint, Row};
 pub use spot::{Name, NextName, Sign, Spot};

@@ -306,27 +306,20 @@ fn put_atom(atom: &Atom, out: &mut List<Token>) -> Result<(), Memory>
         }
         Atom::Delimited(form) => put_delimited(form.get(), out)?,
         Atom::ArrayFill {
-            array,
-            left,
+            spots,
             element,
-            right,
-            size_left,
             size,
-            size_right,
-            dot,
-            fill,
-            value_left,
             value,
-            value_right,
         } => {
-            put_word(out, Reserved::Array, *array)?;
-            put_mark(out, Mark::OpenStatic, *left)?;
+            let spots = spots.get();
+            put_word(out, Reserved::Array, spots.array)?;
+            put_mark(out, Mark::OpenStatic, spots.left)?;
             put_type(element.get(), out)?;
-            put_mark(out, Mark::CloseStatic, *right)?;
-            put_in_parens(*size_left, size.get(), *size_right, out)?;
-            put_mark(out, Mark::Dot, *dot)?;
-            put_name(out, *fill)?;
-            put_in_parens(*value_left, value.get(), *value_right, out)?;
+            put_mark(out, Mark::CloseStatic, spots.right)?;
+            put_in_parens(spots.size_left, size.get(), spots.size_right, out)?;
+            put_mark(out, Mark::Dot, spots.dot)?;
+            put_name(out, spots.fill)?;
+            put_in_parens(spots.value_left, value.get(), spots.value_right, out)?;
         }
     }
     Ok(())

@@ -156,7 +156,7 @@ units::add_atom-returns-in_ok-add_form-in-Delimited t c = one_added _ (by (λ (x
 
 pub units::add_atom-returns-in_ok-add_expr-in-ArrayFill-2 : goal.units::add_atom-returns-in_ok-add_expr-in-ArrayFill-2
 units::add_atom-returns-in_ok-add_expr-in-ArrayFill-2 t c = two_added _ _ _ (by (λ (x : Expr). (measured_expr x).flats) _ c.get-in-ArrayFill.ensures c.in_ok-add_expr-in-ArrayFill.ensures)
-    (by (λ (x : Expr). (measured_expr x).flats) _ c.get-in-ArrayFill-2.ensures c.in_ok-add_expr-in-ArrayFill-2.ensures) (ap (λ (x : Atom). (measured_atom x).flats) c.in-ArrayFill.is ∙ flats-ArrayFill _ _ _ _ _ _ _ _ _ _ _ _)
+    (by (λ (x : Expr). (measured_expr x).flats) _ c.get-in-ArrayFill-2.ensures c.in_ok-add_expr-in-ArrayFill-2.ensures) (ap (λ (x : Atom). (measured_atom x).flats) c.in-ArrayFill.is ∙ flats-ArrayFill _ _ _ _)
 
 pub units::add_flat-returns : goal.units::add_flat-returns
 units::add_flat-returns t c = three_added _ _ _ _ (by (λ (r : Row). r ∷ []) _ c.in_ok-own.ensures c.in_ok-push.ensures.ok) c.in_ok-add_unit.ensures (by (λ (l : List FlatPart). all_flats (map (λ (part : Joined). part.unit) (map measured_flat_part l))) _ c.as_slice.ensures c.in_ok-add_parts.ensures)

@@ -133,7 +133,7 @@ pub exprs::add_atom-returns-in_ok-add_form-in-Delimited : goal.exprs::add_atom-r
 exprs::add_atom-returns-in_ok-add_form-in-Delimited t c = one_added _ (by (λ (x : Delimited). mentioned_delimited x) _ c.get.ensures c.in_ok-add_form-in-Delimited.ensures) (ap (λ (x : Atom). mentioned_atom x) c.in-Delimited.is ∙ mentions-Delimited _)
 
 pub exprs::add_atom-returns-in_ok-add_expr-in-ArrayFill-2 : goal.exprs::add_atom-returns-in_ok-add_expr-in-ArrayFill-2
-exprs::add_atom-returns-in_ok-add_expr-in-ArrayFill-2 t c = three_added _ _ _ _ (by (λ (x : TypeTree). mentioned_type x) _ c.get-in-ArrayFill.ensures c.in_ok-add_type-in-ArrayFill.ensures) (by (λ (x : Expr). mentioned_expr x) _ c.get-in-ArrayFill-2.ensures c.in_ok-add_expr-in-ArrayFill.ensures) (by (λ (x : Expr). mentioned_expr x) _ c.get-in-ArrayFill-3.ensures c.in_ok-add_expr-in-ArrayFill-2.ensures) (ap (λ (x : Atom). mentioned_atom x) c.in-ArrayFill.is ∙ mentions-ArrayFill _ _ _ _ _ _ _ _ _ _ _ _)
+exprs::add_atom-returns-in_ok-add_expr-in-ArrayFill-2 t c = three_added _ _ _ _ (by (λ (x : TypeTree). mentioned_type x) _ c.get-in-ArrayFill.ensures c.in_ok-add_type-in-ArrayFill.ensures) (by (λ (x : Expr). mentioned_expr x) _ c.get-in-ArrayFill-2.ensures c.in_ok-add_expr-in-ArrayFill.ensures) (by (λ (x : Expr). mentioned_expr x) _ c.get-in-ArrayFill-3.ensures c.in_ok-add_expr-in-ArrayFill-2.ensures) (ap (λ (x : Atom). mentioned_atom x) c.in-ArrayFill.is ∙ mentions-ArrayFill _ _ _ _)
 
 pub exprs::add_expr_list-returns-in_ok-add_next_exprs : goal.exprs::add_expr_list-returns-in_ok-add_next_exprs
 exprs::add_expr_list-returns-in_ok-add_next_exprs t c = two_added _ _ _ (by (λ (x : Expr). mentioned_expr x) _ c.get.ensures c.in_ok-add_expr.ensures) (by (λ (l : List NextExpr). all_mentioned (map mentioned_next_expr l)) _ c.as_slice.ensures c.in_ok-add_next_exprs.ensures) (ap (λ (o : Option ExprList). maybe_mentioned (option_map mentioned_expr_list o)) c.in-Some.is ∙ expr_list_mentions c.in-Some.list)

@@ -1,6 +1,7 @@
 use Rattle.std.proofs.Common.{sym, ap, ◌∙◌}
 use Rattle.fort_tree.specs.declared.delimited.Delimited.{Delimited}
 use Rattle.fort_tree.specs.declared.expr.Atom.{Atom}
+use Rattle.fort_tree.specs.declared.expr.FillSpots.{FillSpots}
 use Rattle.fort_tree.specs.Measured.{Measured}
 use Rattle.fort_tree.specs.Measuring.{measured_atom, measured_delimited}
 use Rattle.fort_tree.proofs.MeasuresFlats.{measures-Name, measures-Number, measures-Text, measures-True, measures-False, measures-Self_, measures-Parens, measures-Delimited, measures-ArrayFill}
@@ -31,4 +32,4 @@ pub returns-in-Delimited : goal.returns-in-Delimited
 returns-in-Delimited c = c.form_spot.ensures ∙ ap (λ (f : Delimited). (measured_delimited f).spot) c.get.ensures ∙ sym (ap (λ (a : Atom). (measured_atom a).spot) c.in-Delimited.is ∙ ap (λ (m : Measured). m.spot) (measures-Delimited _))
 
 pub returns-in-ArrayFill : goal.returns-in-ArrayFill
-returns-in-ArrayFill c = sym (ap (λ (a : Atom). (measured_atom a).spot) c.in-ArrayFill.is ∙ ap (λ (m : Measured). m.spot) (measures-ArrayFill _ _ _ _ _ _ _ _ _ _ _ _))
+returns-in-ArrayFill c = ap (λ (s : FillSpots). s.array) c.get-in-ArrayFill.ensures ∙ sym (ap (λ (a : Atom). (measured_atom a).spot) c.in-ArrayFill.is ∙ ap (λ (m : Measured). m.spot) (measures-ArrayFill _ _ _ _))

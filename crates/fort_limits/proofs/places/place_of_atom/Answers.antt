@@ -26,4 +26,4 @@ pub returns-in-Delimited : goal.returns-in-Delimited
 returns-in-Delimited c = rw (c.in-Delimited.is, measures-Delimited) (cc)
 
 pub returns-in-ArrayFill : goal.returns-in-ArrayFill
-returns-in-ArrayFill c = rw (c.in-ArrayFill.is, measures-ArrayFill)
+returns-in-ArrayFill c = rw (c.in-ArrayFill.is, measures-ArrayFill) (cc)
