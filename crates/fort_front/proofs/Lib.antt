@@ -2,3 +2,5 @@ pub mod Overloaded
 pub mod Apart
 pub mod Refused
 pub mod Called
+pub mod Forms
+pub mod Greetings

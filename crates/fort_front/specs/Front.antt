@@ -1,5 +1,6 @@
--- The chapters "Grammar", "Operators", "Types", "Members" and "Overload rules", their refusals one after another: what `check_grammar` and `check_tokens` answer.
-use Rattle.std.specs.Prelude.{List, Result, Ok, Err}
+-- The chapters "Grammar", "Operators", "Types", "Members" and "Overload rules", their refusals one after another, and then "What is built": what `check_grammar` and
+-- `check_tokens` answer.
+use Rattle.std.specs.Prelude.{◌≡◌, ℕ, List, Option, MatchOption, Result, Ok, Err}
 use Rattle.fort_base.specs.declared.refusal.Place.{Place}
 use Rattle.fort_base.specs.declared.refusal.Rule.{Rule}
 use Rattle.fort_base.specs.declared.refusal.CheckFault.{CheckFault}
@@ -18,6 +19,7 @@ use Rattle.fort_member.specs.Answers.{AreMembers}
 use Rattle.fort_over.specs.Answers.{KeepAllRules}
 use Rattle.fort_over.specs.Answers as overloads
 use Rattle.fort_syntax.specs.Answer as grammar
+use Rattle.fort_front.specs.Greeting.{IsGreeting}
 
 -- The tokens are those of one component, which passes no limit.
 pub record IsGrammatical (tokens : Tokens) : Type 0 where
@@ -62,9 +64,14 @@ pub data Breaks (tokens : Tokens) (rule : Rule) (at : Place) : Type 0 where
       → HasGroups (flats c) groups → IsHierarchy c (type_names c) types → AreMembers c members → overloads.IsReported (declares c) members rule.0 at
       → Breaks tokens rule at
 
--- The rules are kept, or this is the one that is reported.
-abbrev pub Answers : Tokens → Result (Unit {0}) CheckFault → Type 0
-Answers tokens (Ok u) = IsFormed tokens
+-- The rules are kept, and the component is a greeting that prints this text; or they are kept, and it is no greeting.
+pub record IsAccepted (tokens : Tokens) (found : Option (List ℕ)) : Type 0 where
+  pub formed : IsFormed tokens
+  pub prints : MatchOption found ((text : List ℕ) → IsGreeting tokens formed.component text → ⊥) (λ text. IsGreeting tokens formed.component text)
+
+-- The rules are kept, and this is the text that the component prints, if it is a greeting; or this is the rule that is reported.
+abbrev pub Answers : Tokens → Result (Option (List ℕ)) CheckFault → Type 0
+Answers tokens (Ok found) = IsAccepted tokens found
 Answers tokens (Err (Refused rule at)) = Breaks tokens rule at
 Answers tokens (Err Memory) = Unit {0}
 
@@ -75,3 +82,7 @@ NeverBothInGrammar = (tokens : Tokens) (rule : Rule) (at : Place) → IsGrammati
 -- No token list keeps the rules and breaks one.
 abbrev pub NeverBoth : Type 0
 NeverBoth = (tokens : Tokens) (rule : Rule) (at : Place) → IsFormed tokens → Breaks tokens rule at → ⊥
+
+-- Tokens that keep the rules print one text at most.
+abbrev pub OneGreeting : Type 0
+OneGreeting = (tokens : Tokens) (f g : IsFormed tokens) (a b : List ℕ) → IsGreeting tokens f.component a → IsGreeting tokens g.component b → a ≡ b

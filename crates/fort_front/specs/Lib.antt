@@ -1,2 +1,3 @@
+pub mod Greeting
 pub mod Front
 pub mod Calls

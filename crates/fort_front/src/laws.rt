@@ -1,4 +1,4 @@
-ghost use Rattle.fort_front.specs.Front.{NeverBoth, NeverBothInGrammar};
+ghost use Rattle.fort_front.specs.Front.{NeverBoth, NeverBothInGrammar, OneGreeting};
 ghost use Rattle.fort_front.specs.Calls.{ExactlyOne, NeverAbstract};
 
 /// A law of token lists: none keeps the rules of the grammar, of grouping, of types, of members and of overloading, and breaks one too.
@@ -9,6 +9,11 @@ pub fn never_both()
 /// A law of token lists: none keeps the rules of the grammar and breaks one of them too.
 pub fn never_both_in_grammar()
     ensures { NeverBothInGrammar }
+{}
+
+/// A law of token lists that keep all these rules: such a one is a greeting of one text at most. The chapter is "What is built".
+pub fn one_greeting()
+    ensures { OneGreeting }
 {}
 
 /// A law of components that keep the rules: of each overload set exactly one declaration is most specific for all types of values to which

@@ -1,4 +1,2 @@
-pub mod Greeting
 pub mod Program
 pub mod Runs
-pub mod Reading

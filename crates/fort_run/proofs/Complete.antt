@@ -1,14 +1,13 @@
 -- Where no count rose, the words and the file decide the status, want of memory aside.
-use Rattle.std.proofs.Common.{◌≡◌, ℕ, ◌<◌, ◌≤◌, List, [], Some, length, ap, sym, ◌∙◌, subst, arith, inl, inr}
-use Rattle.std.specs.Prelude.{◌⊎◌, slice_get}
+use Rattle.std.proofs.Common.{◌≡◌, ℕ, ◌<◌, ◌≤◌, List, [], length, ap, ◌∙◌, sym, subst, arith, inl, inr}
+use Rattle.std.specs.Prelude.{◌⊎◌}
 use Rattle.fort_port.specs.Outside.{Held}
 use Rattle.fort_base.specs.declared.refusal.Rule.{Rule}
 use Rattle.fort_base.specs.declared.refusal.Place.{Place}
-use Rattle.fort_token.specs.declared.token.Token.{Token}
 use Rattle.fort_token.specs.declared.token.Tokens.{Tokens}
 use Rattle.fort_lex.proofs.Uniqueness.{one_list_of_tokens}
 use Rattle.fort_core.specs.declared.program.Program.{Program}
-use Rattle.fort_greet.specs.Greeting.{IsGreeting}
+use Rattle.fort_front.proofs.Greetings.{one_text}
 use Rattle.fort_greet.specs.Program.{IsProgram}
 use Rattle.fort_greet.specs.Runs.{cost, EndsSo, completes, runs_out}
 use Rattle.fort_greet.proofs.Ended.{greetings_end_so}
@@ -20,7 +19,7 @@ use Rattle.fort_run.specs.Notes.{line}
 use Rattle.fort_run.specs.Reply.{Reply, IsFile, Prints, IsProgramOf, IsRefused, TellsEnding, TellsRun, RunSays, Runs, Refuses, IsShownAs, IsNoComponent, ShowSays, Shows, ShowsNone, CommandSays, Judged, NoCommand, Unread, TooLarge, file_limit}
 use Rattle.fort_run.specs.Delivery.{Takes, Whole, OutFailed, NotesFailed}
 use Rattle.fort_run.specs.Outcome.{Outside, MeansToSay, Ends, Said, WantsMemory, IsCalm, Asks, Answers}
-use Rattle.fort_run.proofs.Apart.{prints_apart, shown_apart}
+use Rattle.fort_run.proofs.Apart.{IsFormedGreeting, prints_apart, shown_apart}
 use Rattle.fort_cmd.proofs.Commands.{one_command}
 
 -- What was meant was said, or memory was wanting.
@@ -46,17 +45,11 @@ judged o reply command file c asks within (Unread command' is rose e) = absurd (
 judged o reply command file c asks within (TooLarge command' file' is read long calm e) =
     absurd (let same : length file' ≡ length file = ap length (same_file o command command' file file' asks is read) in omega arith)
 
--- A greeting prints one text.
-same_said : (ts : Tokens) (a b : List ℕ) → IsGreeting ts a → IsGreeting ts b → b ≡ a
-same_said ts a b g h =
-    let k : Some g.says.0 ≡ Some h.says.0 = sym g.says.2 ∙ h.says.2 in
-    let t : g.says.0 ≡ h.says.0 = cc in
-    let e = sym g.says.3 ∙ ap (λ (x : Token). x.kind) t ∙ h.says.3 in
-    let n : g.says.1 ≡ h.says.1 = cc in
-    let z : Some a ≡ Some b = sym g.says.4 ∙ ap (slice_get ts.texts) n ∙ h.says.4 in cc
-
+-- A file prints one text.
 same_text : (file a b : List ℕ) → Prints file a → Prints file b → b ≡ a
-same_text file a b p q = same_said p.tokens a b p.greets (subst (λ t. IsGreeting t b) (one_list_of_tokens file q.tokens p.tokens q.has p.has) q.greets)
+same_text file a b p q =
+    let r : IsFormedGreeting b p.tokens = subst (IsFormedGreeting b) (one_list_of_tokens file q.tokens p.tokens q.has p.has) (q.formed, q.greets) in
+    one_text p.tokens r.0 p.formed b a r.1 p.greets
 
 -- How the run of a greeting ends.
 ends_so : (file text : List ℕ) (fuel : ℕ) (reply : Reply) (p : Program) → Prints file text → IsProgramOf file p → TellsRun p fuel reply → EndsSo text fuel reply.out reply.journal.ending

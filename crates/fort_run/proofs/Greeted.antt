@@ -1,11 +1,14 @@
--- What is said of a greeting tells its run.
-use Rattle.std.proofs.Common.{◌≡◌, ℕ, List, refl, sym, subst}
+-- What is said of a greeting tells its run; and which files print a text.
+use Rattle.std.proofs.Common.{◌≡◌, ℕ, List, Some, None, refl, sym, subst}
 use Rattle.fort_core.specs.declared.journal.Ending.TheVariants.{Completed}
 use Rattle.fort_core.specs.declared.program.Program.{Program}
 use Rattle.fort_greet.specs.Program.{IsProgram}
 use Rattle.fort_greet.specs.Runs.{EndsSo, completes, runs_out, Greets}
 use Rattle.fort_greet.specs.declared.greeted.Greeted.{Greeted}
-use Rattle.fort_run.specs.Reply.{TellsEnding, TellsRun}
+use Rattle.fort_token.specs.declared.token.Tokens.{Tokens}
+use Rattle.fort_lex.specs.Files.{HasTokens}
+use Rattle.fort_front.specs.Front.{IsAccepted}
+use Rattle.fort_run.specs.Reply.{Prints, IsNotBuilt, TellsEnding, TellsRun}
 use Rattle.fort_run.specs.Said.{said}
 use Rattle.fort_run.specs.declared.answer.Answer.TheVariants.{Ended, RanOut}
 
@@ -40,3 +43,11 @@ ran_out_tells text fuel g k n = (
     go : EndsSo text fuel g.output g.journal.ending → TellsEnding k.program g.journal.ending (said (RanOut g.journal g.output))
     go (completes enough out e) = absurd (n e)
     go (runs_out pick less out e) = subst (λ x. TellsEnding k.program x (said (RanOut g.journal g.output))) (sym e) (refl, refl)
+
+-- Tokens that are accepted with a text are those of a file that prints it.
+pub printed : (file text : List ℕ) (tokens : Tokens) → HasTokens file tokens → IsAccepted tokens (Some text) → Prints file text
+printed file text tokens has accepted = record { tokens = tokens; has = has; formed = accepted.formed; greets = accepted.prints }
+
+-- Tokens that are accepted with none are those of a file that isn't built.
+pub unbuilt : (file : List ℕ) (tokens : Tokens) → HasTokens file tokens → IsAccepted tokens None → IsNotBuilt file
+unbuilt file tokens has accepted = record { tokens = tokens; has = has; formed = accepted.formed; other = accepted.prints }

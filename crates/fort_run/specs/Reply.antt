@@ -6,6 +6,7 @@ use Rattle.fort_base.specs.declared.refusal.Place.{Place}
 use Rattle.fort_token.specs.declared.token.Tokens.{Tokens}
 use Rattle.fort_lex.specs.Files.{HasTokens, BreaksRule}
 use Rattle.fort_front.specs.Front.{IsGrammatical, BreaksGrammar, IsFormed, Breaks}
+use Rattle.fort_front.specs.Greeting.{IsGreeting}
 use Rattle.fort_yield.specs.Canonical.{canonical}
 use Rattle.fort_port.specs.Outside.{Holding, Untold, Absent, Held, Rose}
 use Rattle.fort_cmd.specs.declared.command.Command.{Command}
@@ -19,7 +20,6 @@ use Rattle.fort_core.specs.declared.term.Term.{Term}
 use Rattle.fort_machine.specs.Deeds.{Deed}
 use Rattle.fort_machine.specs.Journals.{Records}
 use Rattle.fort_machine.specs.Texts.{text as text_of}
-use Rattle.fort_greet.specs.Greeting.{IsGreeting}
 use Rattle.fort_greet.specs.Program.{IsProgram}
 use Rattle.fort_run.specs.Notes.{usage, read_fault, too_large, out_of_fuel, uncaught, refusal}
 
@@ -46,12 +46,12 @@ file_limit = 1048576
 
 -- ---- run
 
--- The file prints this text: it keeps the rules of its tokens, of the grammar, of grouping, of types, of members and of overloading, and it is a greeting.
+-- The file prints this text: it keeps the rules of its tokens, of the grammar, of grouping, of types, of members and of overloading, and its component is a greeting.
 pub record Prints (file text : List ℕ) : Type 0 where
   pub tokens : Tokens
   pub has : HasTokens file tokens
   pub formed : IsFormed tokens
-  pub greets : IsGreeting tokens text
+  pub greets : IsGreeting tokens formed.component text
 
 -- The program of the file, which is a greeting.
 abbrev pub IsProgramOf : List ℕ → Program → Type 0
@@ -63,12 +63,12 @@ pub record IsIllFormed (file : List ℕ) (rule : Rule) (place : Place) : Type 0 
   pub has : HasTokens file tokens
   pub breaks : Breaks tokens rule place
 
--- The file breaks no rule that is asked so far, and isn't built yet: its tokens are no greeting.
+-- The file breaks no rule that is asked so far, and isn't built yet: its component is no greeting.
 pub record IsNotBuilt (file : List ℕ) : Type 0 where
   pub tokens : Tokens
   pub has : HasTokens file tokens
   pub formed : IsFormed tokens
-  pub other : (text : List ℕ) → IsGreeting tokens text → ⊥
+  pub other : (text : List ℕ) → IsGreeting tokens formed.component text → ⊥
 
 -- The file is refused by this rule, at this place: a rule of its tokens that it breaks; or one of the grammar, of grouping, of types, of members or of overloading;
 -- or 901 at 1:1.

@@ -1,7 +1,6 @@
 //! The command `run`: a component's run, or its refusal.
 ghost use Rattle.std.specs.Prelude.{◌≡◌, ◌↔◌, ℕ, List as Seq, ◌≤◌, length, IfOk, IsTrue};
 ghost use Rattle.fort_core.specs.declared.journal.Ending.TheVariants as an_ending;
-ghost use Rattle.fort_front.specs.Front.{IsFormed};
 ghost use Rattle.fort_lex.specs.Files.{HasTokens};
 ghost use Rattle.fort_core.specs.declared.program.Program.{Program};
 ghost use Rattle.fort_greet.specs.Program.{IsProgram};
@@ -12,7 +11,7 @@ use crate::answer::{Answer, refused, refused_by};
 use fort_base::{Bytes, Memory, Place, Rule};
 use fort_core::Ending;
 use fort_front::check_tokens;
-use fort_greet::{Greeted, greet, greeting};
+use fort_greet::{Greeted, greet};
 use fort_lex::{Tokens, tokens};
 use std::alloc::Global;
 
@@ -45,19 +44,9 @@ fn formed(alloc: Global, name: Bytes, tokens: &Tokens, fuel: u64) -> Result<Answ
     ensures { IfOk result (λ a. (file : Seq ℕ) → HasTokens file tokens.now → RunSays name file fuel (said a)) }
 {
     match check_tokens(alloc, tokens) {
-        Ok(()) => greeted(alloc, name, tokens, fuel),
+        Ok(Some(text)) => run_greeting(alloc, text, fuel),
+        Ok(None) => refused(name, NOT_BUILT, WHOLE_FILE),
         Err(fault) => refused_by(name, fault),
-    }
-}
-
-/// What is to say of a file of these tokens, which keep the rules of the grammar, of grouping,
-/// of types, of members and of overloading.
-fn greeted(alloc: Global, name: Bytes, tokens: &Tokens, fuel: u64) -> Result<Answer, Memory>
-    ensures { IfOk result (λ a. (file : Seq ℕ) → HasTokens file tokens.now → IsFormed tokens.now → RunSays name file fuel (said a)) }
-{
-    match greeting(alloc, tokens)? {
-        Some(text) => run_greeting(alloc, text, fuel),
-        None => refused(name, NOT_BUILT, WHOLE_FILE),
     }
 }
 

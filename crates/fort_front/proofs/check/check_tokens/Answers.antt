@@ -1,5 +1,6 @@
 use Rattle.std.proofs.Common.{◌≡◌, Err, rules}
 use Rattle.fort_hier.specs.Hierarchies.{declares}
+use Rattle.fort_front.proofs.Greetings.{found_so}
 use Rattle.fort_front.proofs.Refused.{refused, types_refused, fields_refused, overloads_refused, are_over}
 use Rattle.fort_front.proofs.check.check_tokens.Goals as goal
 
@@ -29,14 +30,17 @@ returns-in_err-overloads c =
 
 pub returns : goal.returns
 returns c = record {
-  component = c.in_ok-component.component;
-  is = c.in_ok-component.ensures;
-  groups = c.in_ok-groups.field-0.list;
-  grouped = c.in_ok-groups.ensures;
-  types = c.in_ok-types.types;
-  typed = c.in_ok-types.ensures.ok;
-  members = c.in_ok-members.members;
-  belong = c.in_ok-members.ensures.ok;
-  ruled = c.in_ok-overloads.ensures.ok (declares c.in_ok-component.component)
-      (are_over c.in_ok-component.component c.in_ok-types.types c.in_ok-members.members c.in_ok-types.ensures.ok c.in_ok-members.ensures.ok);
+  formed = record {
+    component = c.in_ok-component.component;
+    is = c.in_ok-component.ensures;
+    groups = c.in_ok-groups.field-0.list;
+    grouped = c.in_ok-groups.ensures;
+    types = c.in_ok-types.types;
+    typed = c.in_ok-types.ensures.ok;
+    members = c.in_ok-members.members;
+    belong = c.in_ok-members.ensures.ok;
+    ruled = c.in_ok-overloads.ensures.ok (declares c.in_ok-component.component)
+        (are_over c.in_ok-component.component c.in_ok-types.types c.in_ok-members.members c.in_ok-types.ensures.ok c.in_ok-members.ensures.ok);
+  };
+  prints = found_so c.args.tokens.now c.in_ok-component.component c.in_ok-copy.field-0 (rw c.in_ok-copy.ensures c.greeting.ensures);
 }
