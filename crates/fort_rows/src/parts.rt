@@ -99,3 +99,14 @@ fn no_part_is_201_at_the_token_and_depth_is_202(rt: HostRuntime) -> Result<(), F
     assert_eq!(rt; behind_type(&rt, alloc, deep, 1), refused(202, 1, 105));
     Ok(())
 }
+
+#[test]
+fn one_semicolon_stands_between_two_items(rt: HostRuntime) -> Result<(), Fail> {
+    let alloc = rt.alloc();
+    assert_eq!(rt; behind_expr(&rt, alloc, "do a; b end", 0), Ok(5));
+    assert_eq!(rt;
+        behind_expr(&rt, alloc, "do a;; b end", 0),
+        refused(201, 1, 1)
+    );
+    Ok(())
+}

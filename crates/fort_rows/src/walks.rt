@@ -1,6 +1,9 @@
 //! The first machine on programs that are built by hand: what is printed, which picks are taken, and where the fuel ends it.
-use fort_base::{DeclId, List, Memory, SetId, Ty, TypeId, TypeTable};
-use fort_core::{BuiltIn, CoreBody, CoreDecl, CoreSet, Ending, Primitive, Program, Term, Value};
+use fort_base::{DeclId, List, Loc, Memory, SetId, Ty, TypeId, TypeTable};
+use fort_core::{
+    BuiltIn, CoreBody, CoreDecl, CoreKind, CoreSet, CoreShape, Ending, Pick, Primitive, Program,
+    Term, Value,
+};
 use fort_task::{Walked, is_walkable, walk};
 use std::alloc::Global;
 use std::process::Abort;
@@ -165,5 +168,72 @@ fn a_function_that_calls_itself_for_ever_is_out_of_fuel(rt: HostRuntime) -> Resu
         assert!(rt; matches!(all.journal.ending, Ending::OutOfFuel(_)));
         assert!(rt; all.journal.picks.len() as u64 == fuel);
     }
+    Ok(())
+}
+
+// The types up to the exceptions are leaves; the exceptions, of number 5 here, are one object at location 0.
+fn shapes(alloc: Global) -> Result<List<CoreShape>, Memory> {
+    let mut shapes = List::new(alloc);
+    for _ in 0..5 {
+        shapes.push(CoreShape {
+            kind: CoreKind::Leaf,
+            fields: List::new(alloc),
+        })?;
+    }
+    shapes.push(CoreShape {
+        kind: CoreKind::Single(Loc(0)),
+        fields: List::new(alloc),
+    })?;
+    Ok(shapes)
+}
+
+// `run(): () = println(2147483647 + 1)`
+fn overflow(alloc: Global) -> Result<Program, Memory> {
+    let sum = Term::Operator(SetId(2), two(alloc, number(2_147_483_647), number(1))?);
+    let run = Term::Call(SetId(1), one(alloc, sum)?);
+    let mut program = program(alloc, run, itself(alloc)?)?;
+    program.shapes = shapes(alloc)?;
+    Ok(program)
+}
+
+fn is_overflow(ending: &Ending) -> bool {
+    matches!(ending, Ending::Uncaught(Value::Object(TypeId(5), Loc(0))))
+}
+
+// How deep the thread of a pick stands, by the picks' order.
+fn depth(picks: &[Pick], at: usize) -> Option<usize> {
+    match picks.get(at)? {
+        Pick::Step(path, _) => Some(path.0.len()),
+        Pick::Attempt(path, _) => Some(path.0.len()),
+    }
+}
+
+#[test]
+fn an_overflow_is_uncaught(rt: HostRuntime) -> Result<(), Memory> {
+    let alloc = rt.alloc();
+    let all = walked(&rt, alloc, &overflow(alloc)?, 3)?;
+    assert!(rt; all.output.as_slice() == b"".as_slice());
+    assert!(rt; is_overflow(&all.journal.ending));
+    Ok(())
+}
+
+#[test]
+fn the_sum_steps_in_its_part(rt: HostRuntime) -> Result<(), Memory> {
+    let alloc = rt.alloc();
+    let all = walked(&rt, alloc, &overflow(alloc)?, 3)?;
+    let picks = all.journal.picks.as_slice();
+    let rows: [(usize, Option<usize>); 4] = [(0, Some(0)), (1, Some(1)), (2, Some(0)), (3, None)];
+    for (at, wanted) in rows {
+        assert!(rt; depth(picks, at) == wanted);
+    }
+    Ok(())
+}
+
+#[test]
+fn a_fuel_of_two_stops_before_the_exception(rt: HostRuntime) -> Result<(), Memory> {
+    let alloc = rt.alloc();
+    let some = walked(&rt, alloc, &overflow(alloc)?, 2)?;
+    assert!(rt; some.journal.picks.len() == 2);
+    assert!(rt; matches!(some.journal.ending, Ending::OutOfFuel(_)));
     Ok(())
 }

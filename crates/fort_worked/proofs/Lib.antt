@@ -1,0 +1,11 @@
+pub mod Picked
+pub mod OverflowRun
+pub mod TwoThreadsRun
+pub mod LetterRun
+pub mod Forms
+pub mod Acting
+pub mod Inverted
+pub mod FailingRun
+pub mod LeftOut
+pub mod SleepingRun
+pub mod Waiting

@@ -1,0 +1,7 @@
+pub mod Picks
+pub mod Letter
+pub mod Overflow
+pub mod TwoThreads
+pub mod Pieces
+pub mod Failing
+pub mod Sleeping
