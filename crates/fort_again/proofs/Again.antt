@@ -9,7 +9,7 @@ use Rattle.fort_tree.specs.Limits.{crowded}
 use Rattle.fort_lex.specs.Files.{HasTokens}
 use Rattle.fort_syntax.specs.Answer.{IsComponent}
 use Rattle.fort_syntax.proofs.Theorem.{at_most_one}
-use Rattle.fort_yield.specs.Canonical.{canonical, without_first_gap}
+use Rattle.fort_canonical.specs.Canonical.{canonical, without_first_gap}
 use Rattle.fort_shown.specs.Again.{IsReadAgain}
 use Rattle.fort_shown.proofs.Reading.{read_each}
 use Rattle.fort_moved.specs.Spots.{moved_token}

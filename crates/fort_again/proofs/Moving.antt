@@ -5,7 +5,7 @@ use Rattle.fort_base.specs.declared.refusal.Place.{Place}
 use Rattle.fort_token.specs.declared.token.Kind.{Kind}
 use Rattle.fort_token.specs.declared.token.Token.{Token}
 use Rattle.fort_tree.specs.Openers.{AllShallow, openers_round, open_behind, open_round, ends_with_also, turn, turned, is_also}
-use Rattle.fort_yield.specs.Canonical.{without_first_gap}
+use Rattle.fort_canonical.specs.Canonical.{without_first_gap}
 use Rattle.fort_moved.specs.Spots.{moved_token}
 use Rattle.fort_again.proofs.Apart.{is_place, is_itself, NoneAt, AreApart}
 

@@ -3,7 +3,7 @@ ghost use Rattle.fort_token.specs.declared.token.Tokens.{Tokens};
 ghost use Rattle.fort_tree.specs.declared.declarations.Component.{Component};
 ghost use Rattle.fort_lex.specs.Files.{HasTokens};
 ghost use Rattle.fort_syntax.specs.Answer.{IsComponent};
-ghost use Rattle.fort_yield.specs.Canonical.{canonical};
+ghost use Rattle.fort_canonical.specs.Canonical.{canonical};
 ghost use Rattle.fort_again.specs.Same.{IsSameTree};
 
 /// A law: where a file has a component, what is read from its canonical text has one too, and it is

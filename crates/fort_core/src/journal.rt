@@ -9,7 +9,7 @@ use std::alloc::Global;
 /// How a run ended.
 #[derive(Drop)]
 pub enum Ending {
-    /// There was no run: memory was wanting.
+    /// There was no run.
     NotRun,
     /// At `()`.
     Completed,

@@ -46,7 +46,7 @@ pub fn add_form(form: &Delimited, rows: &mut List<Row>) -> Result<(), Memory>
             block,
             ..
         } => {
-            add_generator(generator, rows)?;
+            add_generator(generator.get(), rows)?;
             add_next_generators(others.as_slice(), rows)?;
             add_block(block.as_slice(), rows)?;
         }
@@ -101,8 +101,8 @@ fn add_item(item: &Item, rows: &mut List<Row>) -> Result<(), Memory>
     ensures { OnOk result (rows.new ≡ rows.old ++ (measured_item item.now).flats) }
 {
     match item {
-        Item::Variable(variable) => add_variable(variable, rows)?,
-        Item::Names { value, .. } => add_expr(value, rows)?,
+        Item::Variable(variable) => add_variable(variable.get(), rows)?,
+        Item::Names { value, .. } => add_expr(value.get(), rows)?,
         Item::Expr(expr) => add_expr(expr, rows)?,
     }
     Ok(())

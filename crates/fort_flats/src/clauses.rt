@@ -4,7 +4,7 @@ ghost use Rattle.fort_tree.specs.Measuring.{measured_case_clause, measured_type_
 
 use crate::expressions::add_expr;
 use crate::units::add_flat;
-use fort_base::{List, Memory};
+use fort_base::{Boxed, List, Memory};
 use fort_tree::{CaseClause, Catch, ElseClause, Row, TypeClause};
 
 /// Adds the flat expressions of the clauses of a `case`.
@@ -42,13 +42,13 @@ pub fn add_type_clauses(clauses: &[TypeClause], rows: &mut List<Row>) -> Result<
 /// Adds the flat expressions of the `else` of a `case` or a `typecase`.
 #[cycle(add)]
 pub fn add_maybe_else_clause(
-    otherwise: &Option<ElseClause>,
+    otherwise: &Option<Boxed<ElseClause>>,
     rows: &mut List<Row>,
 ) -> Result<(), Memory>
     ensures { OnOk result (rows.new ≡ rows.old ++ all_flats (maybe_measured (option_map measured_else_clause otherwise.now))) }
 {
     if let Some(otherwise) = otherwise {
-        add_expr(&otherwise.value, rows)?;
+        add_expr(&otherwise.get().value, rows)?;
     }
     Ok(())
 }

@@ -6,7 +6,7 @@ ghost use Rattle.fort_limits.specs.Earliest.{earliest};
 
 use crate::places::place_of_item;
 use crate::walk::Walk;
-use fort_base::List;
+use fort_base::{Boxed, List};
 use fort_tree::{
     Also, Block, CaseClause, Catch, Delimited, Elif, ElseBlock, ElseClause, Finally, Item,
     NextGenerator, TypeClause, Variable,
@@ -68,7 +68,7 @@ impl Walk {
                 ..
             } => {
                 self.count(MOST_GENERATORS, 1 + others.as_slice().len(), for_.place);
-                self.generator(generator);
+                self.generator(generator.get());
                 self.next_generators(others);
                 self.block(block);
             }
@@ -139,10 +139,10 @@ impl Walk {
         ensures { self.new.earliest ≡ earliest self.old.earliest (measured_item item.now).crowded }
     {
         match item {
-            Item::Variable(variable) => self.variable(variable),
+            Item::Variable(variable) => self.variable(variable.get()),
             Item::Names { ty, value, .. } => {
-                self.type_tree(ty);
-                self.expr(value);
+                self.type_tree(ty.get());
+                self.expr(value.get());
             }
             Item::Expr(expr) => self.expr(expr),
         }
@@ -239,12 +239,12 @@ impl Walk {
     }
 
     #[cycle(tree)]
-    fn else_clause(&mut self, otherwise: &Option<ElseClause>)
+    fn else_clause(&mut self, otherwise: &Option<Boxed<ElseClause>>)
         ensures { self.new.earliest ≡ earliest self.old.earliest (all_crowded (maybe_measured (option_map measured_else_clause otherwise.now))) }
     {
         match otherwise {
             Some(otherwise) => {
-                self.expr(&otherwise.value);
+                self.expr(&otherwise.get().value);
             }
             None => {}
         }

@@ -129,7 +129,7 @@ pub(crate) fn place_of_item(item: &Item) -> Place
     ensures { result ≡ (measured_item item.now).spot.place }
 {
     match item {
-        Item::Variable(variable) => place_of_variable(variable),
+        Item::Variable(variable) => place_of_variable(variable.get()),
         Item::Names { left, .. } => left.place,
         Item::Expr(expr) => place_of_expr(expr),
     }

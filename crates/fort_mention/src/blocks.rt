@@ -5,7 +5,7 @@ ghost use Rattle.fort_mention.specs.Mentioning.{mentioned_delimited, mentioned_i
 
 use crate::exprs::{add_expr, add_flat, add_generator};
 use crate::types::add_type;
-use fort_base::{List, Memory};
+use fort_base::{Boxed, List, Memory};
 use fort_tree::{
     Also, BlockItem, CaseClause, Catch, Delimited, Elif, ElseBlock, ElseClause, Finally, Item,
     Name, NextGenerator, TypeClause, Variable,
@@ -46,7 +46,7 @@ pub fn add_form(form: &Delimited, names: &mut List<Name>) -> Result<(), Memory>
             block,
             ..
         } => {
-            add_generator(generator, names)?;
+            add_generator(generator.get(), names)?;
             add_next_generators(others.as_slice(), names)?;
             add_block(block.as_slice(), names)?;
         }
@@ -99,10 +99,10 @@ fn add_item(item: &Item, names: &mut List<Name>) -> Result<(), Memory>
     ensures { OnOk result (names.new ≡ names.old ++ mentioned_item item.now) }
 {
     match item {
-        Item::Variable(variable) => add_variable(variable, names)?,
+        Item::Variable(variable) => add_variable(variable.get(), names)?,
         Item::Names { ty, value, .. } => {
-            add_type(ty, names)?;
-            add_expr(value, names)?;
+            add_type(ty.get(), names)?;
+            add_expr(value.get(), names)?;
         }
         Item::Expr(expr) => add_expr(expr, names)?,
     }
@@ -207,11 +207,14 @@ fn add_type_clause(clause: &TypeClause, names: &mut List<Name>) -> Result<(), Me
 }
 
 #[cycle(tree)]
-fn add_else_clause(otherwise: &Option<ElseClause>, names: &mut List<Name>) -> Result<(), Memory>
+fn add_else_clause(
+    otherwise: &Option<Boxed<ElseClause>>,
+    names: &mut List<Name>,
+) -> Result<(), Memory>
     ensures { OnOk result (names.new ≡ names.old ++ maybe_mentioned (option_map mentioned_else_clause otherwise.now)) }
 {
     if let Some(otherwise) = otherwise {
-        add_expr(&otherwise.value, names)?;
+        add_expr(&otherwise.get().value, names)?;
     }
     Ok(())
 }

@@ -9,3 +9,4 @@ mod listing;
 mod order;
 
 pub use judging::broken_rule;
+pub use order::are_below;

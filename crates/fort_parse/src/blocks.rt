@@ -92,7 +92,7 @@ impl<F: Fn(Global, &[Bytes], usize, usize, &mut Cursor<'_>, bool) -> Result<Run,
         let var = tokens.word(Reserved::Var)?;
         let name = tokens.name()?;
         let variable = self.variable_from(tokens, Some(var), name)?;
-        Ok(Item::Variable(variable))
+        Ok(Item::Variable(Boxed::new(self.alloc, variable)?))
     }
 
     #[tactic(auto, unfolding(crate::specs::Blocks::names_from))]
@@ -101,9 +101,9 @@ impl<F: Fn(Global, &[Bytes], usize, usize, &mut Cursor<'_>, bool) -> Result<Run,
         ensures { Reads ((block_spec.names_from self.now.names.now (run_at self.now.names.now self.now.depth) names).run tokens.old) result tokens.new }
     {
         let colon = tokens.colon()?;
-        let ty = self.types().type_tree(tokens)?;
+        let ty = Boxed::new(self.alloc, self.types().type_tree(tokens)?)?;
         let equals = tokens.equals()?;
-        let value = self.expr(tokens, false)?;
+        let value = Boxed::new(self.alloc, self.expr(tokens, false)?)?;
         Ok(Item::Names {
             left: names.left,
             first: names.first,
@@ -132,7 +132,7 @@ impl<F: Fn(Global, &[Bytes], usize, usize, &mut Cursor<'_>, bool) -> Result<Run,
     {
         if let Some(name) = plain_name(&first) {
             let variable = self.variable_from(tokens, None, name)?;
-            return Ok(Item::Variable(variable));
+            return Ok(Item::Variable(Boxed::new(self.alloc, variable)?));
         }
         match plain_names(self.alloc, &first)? {
             Some(names) => self.names_from(tokens, names),
@@ -301,23 +301,24 @@ impl<F: Fn(Global, &[Bytes], usize, usize, &mut Cursor<'_>, bool) -> Result<Run,
         &self,
         tokens: &mut Cursor<'_>,
         semicolon: Option<Spot>,
-    ) -> Result<Option<ElseClause>, Fault>
+    ) -> Result<Option<Boxed<ElseClause>>, Fault>
         requires { Nests self.now.names.now self.now.depth (F.pre self.now.inner) (F.post self.now.inner) }
         ensures { Reads ((block_spec.else_from self.now.names.now (run_at self.now.names.now self.now.depth) semicolon).run tokens.old) result tokens.new }
     {
         let else_ = tokens.word(Reserved::Else)?;
         let arrow = tokens.mark(Mark::DoubleArrow)?;
         let value = self.expr(tokens, false)?;
-        Ok(Some(ElseClause {
+        let clause = ElseClause {
             semicolon,
             else_,
             arrow,
             value,
-        }))
+        };
+        Ok(Some(Boxed::new(self.alloc, clause)?))
     }
 
     #[tactic(auto, unfolding(crate::specs::Blocks::second_else))]
-    fn second_else(&self, tokens: &mut Cursor<'_>) -> Result<Option<ElseClause>, Fault>
+    fn second_else(&self, tokens: &mut Cursor<'_>) -> Result<Option<Boxed<ElseClause>>, Fault>
         requires { Nests self.now.names.now self.now.depth (F.pre self.now.inner) (F.post self.now.inner) }
         ensures { Reads ((block_spec.second_else self.now.names.now (run_at self.now.names.now self.now.depth)).run tokens.old) result tokens.new }
     {
@@ -330,7 +331,7 @@ impl<F: Fn(Global, &[Bytes], usize, usize, &mut Cursor<'_>, bool) -> Result<Run,
         &self,
         tokens: &mut Cursor<'_>,
         ended: bool,
-    ) -> Result<Option<ElseClause>, Fault>
+    ) -> Result<Option<Boxed<ElseClause>>, Fault>
         requires { Nests self.now.names.now self.now.depth (F.pre self.now.inner) (F.post self.now.inner) }
         ensures { Reads ((block_spec.else_clause self.now.names.now (run_at self.now.names.now self.now.depth) ended).run tokens.old) result tokens.new }
     {

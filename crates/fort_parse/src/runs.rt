@@ -144,7 +144,7 @@ impl<F: Fn(Global, &[Bytes], usize, usize, &mut Cursor<'_>, bool) -> Result<Run,
         &self,
         tokens: &mut Cursor<'_>,
         for_: Spot,
-        generator: Generator,
+        generator: Boxed<Generator>,
         others: List<NextGenerator>,
     ) -> Result<Delimited, Fault>
         requires { Nests self.now.names.now self.now.depth (F.pre self.now.inner) (F.post self.now.inner) }
@@ -168,7 +168,7 @@ impl<F: Fn(Global, &[Bytes], usize, usize, &mut Cursor<'_>, bool) -> Result<Run,
         requires { Nests self.now.names.now self.now.depth (F.pre self.now.inner) (F.post self.now.inner) }
         ensures { Reads ((runs.for_form self.now.names.now (run_at self.now.names.now self.now.depth) for_).run tokens.old) result tokens.new }
     {
-        let generator = self.generator(tokens, false)?;
+        let generator = Boxed::new(self.alloc, self.generator(tokens, false)?)?;
         let others = self.next_generators(tokens)?;
         self.for_rest(tokens, for_, generator, others)
     }

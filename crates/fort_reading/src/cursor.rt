@@ -256,17 +256,6 @@ impl<'a> Cursor<'a> {
         }
     }
 
-    /// Whether the next token is this symbol and no gap stands before it.
-    #[tactic(auto, unfolding(crate::specs::Words::sees_tight))]
-    pub fn sees_tight_mark(&self, mark: Mark) -> bool
-        ensures { result ≡ spec.sees_tight (spec.is_mark mark) (next_of self.now) }
-    {
-        match self.next() {
-            Some(token) => is_empty(token.gap) && is_mark(mark, token.kind),
-            None => false,
-        }
-    }
-
     /// Whether the next token is this reserved word.
     #[tactic(auto, unfolding(crate::specs::Words::sees))]
     pub fn sees_word(&self, word: Reserved) -> bool
@@ -285,17 +274,6 @@ impl<'a> Cursor<'a> {
     {
         match self.next() {
             Some(token) => is_range(token.kind),
-            None => false,
-        }
-    }
-
-    /// Whether the next token is `=`.
-    #[tactic(auto, unfolding(crate::specs::Words::sees))]
-    pub fn sees_eq(&self) -> bool
-        ensures { result ≡ spec.sees spec.is_eq (next_of self.now) }
-    {
-        match self.next() {
-            Some(token) => is_eq(token.kind),
             None => false,
         }
     }

@@ -1,5 +1,5 @@
 //! The members of components, by examples of the chapter "Members".
-use fort_base::{CheckFault, Place, Rule};
+use fort_base::{CheckFault, Place};
 use fort_hier::hierarchy;
 use fort_lex::tokens;
 use fort_member::members;
@@ -18,48 +18,61 @@ fn members_of(rt: &impl Abort, alloc: Global, source: &str) -> Result<Members, C
     members(alloc, &tree, &types)
 }
 
-/// How a source is answered: its rule and place, or nothing where it is accepted.
-fn answer(rt: &impl Abort, alloc: Global, source: &str) -> Option<CheckFault> {
+/// How a source is answered: the number of its rule and its place, or three zeros where it is accepted.
+fn answer(rt: &impl Abort, alloc: Global, source: &str) -> (u16, u32, u32) {
     match members_of(rt, alloc, source) {
-        Ok(_) => None,
-        Err(fault) => Some(fault),
+        Err(CheckFault::Refused(rule, place)) => (rule.0, place.line, place.column),
+        _ => (0, 0, 0),
     }
 }
 
-fn refused(rule: u16, line: u32, column: u32) -> Option<CheckFault> {
-    Some(CheckFault::Refused(Rule(rule), Place { line, column }))
-}
+const FIELDS: [(&str, u16, u32, u32); 6] = [
+    (
+        "component T\nobject O(a: ZZ32)\nvar a: ZZ32 = 1\nend\nend",
+        451,
+        3,
+        1,
+    ),
+    (
+        "component T\ntrait A\nf: ZZ32\nend\ntrait B\nf: String\nend\ntrait C extends { A, B } end\nend",
+        451,
+        8,
+        7,
+    ),
+    (
+        "component T\nobject O extends A end\ntrait A\nf: ZZ32\nf: ZZ32\nend\nend",
+        451,
+        5,
+        1,
+    ),
+    (
+        "component T\ntrait A\nf: ZZ32\nend\ntrait B extends A end\nobject O extends B end\nend",
+        452,
+        6,
+        8,
+    ),
+    (
+        "component T\ntrait A\nf: ZZ32\nend\ntrait B extends A\nf: Any\nend\nend",
+        452,
+        5,
+        7,
+    ),
+    (
+        "component T\ntrait A\nf: (Object, ZZ32)\nend\nobject O extends A\nf: (String, ZZ32) = (\"\", 1)\nend\nend",
+        0,
+        0,
+        0,
+    ),
+];
 
 #[test]
 fn a_rule_on_fields_is_broken(rt: HostRuntime) -> Result<(), Fail> {
-    let rows: [(&str, Option<CheckFault>); 6] = [
-        (
-            "component T\nobject O(a: ZZ32)\nvar a: ZZ32 = 1\nend\nend",
-            refused(451, 3, 1),
-        ),
-        (
-            "component T\ntrait A\nf: ZZ32\nend\ntrait B\nf: String\nend\ntrait C extends { A, B } end\nend",
-            refused(451, 8, 7),
-        ),
-        (
-            "component T\nobject O extends A end\ntrait A\nf: ZZ32\nf: ZZ32\nend\nend",
-            refused(451, 5, 1),
-        ),
-        (
-            "component T\ntrait A\nf: ZZ32\nend\ntrait B extends A end\nobject O extends B end\nend",
-            refused(452, 6, 8),
-        ),
-        (
-            "component T\ntrait A\nf: ZZ32\nend\ntrait B extends A\nf: Any\nend\nend",
-            refused(452, 5, 7),
-        ),
-        (
-            "component T\ntrait A\nf: (Object, ZZ32)\nend\nobject O extends A\nf: (String, ZZ32) = (\"\", 1)\nend\nend",
-            None,
-        ),
-    ];
-    for (source, wanted) in rows {
-        assert_eq!(rt; answer(&rt, rt.alloc(), source), wanted, "{source}");
+    for (source, rule, line, column) in &FIELDS {
+        assert_eq!(rt;
+            answer(&rt, rt.alloc(), source),
+            (*rule, *line, *column),
+            "{source}"
+        );
     }
     Ok(())
 }

@@ -1,5 +1,5 @@
 //! The longest expression and type at a token, by examples of the chapter "Grammar".
-use fort_base::{CheckFault, Place, Rule};
+use fort_base::CheckFault;
 use fort_lex::tokens;
 use fort_parts::{expr_at, type_at};
 use std::alloc::Global;
@@ -34,13 +34,10 @@ fn behind_type(
     Ok(behind)
 }
 
-fn refused(rule: u16, line: u32, column: u32) -> Result<usize, CheckFault> {
-    Err(CheckFault::Refused(Rule(rule), Place { line, column }))
-}
-
 #[test]
 fn an_expression_goes_as_far_as_it_can(rt: HostRuntime) -> Result<(), Fail> {
-    let rows: [(&str, usize, usize); 8] = [
+    let rows: [(&str, usize, usize); 9] = [
+        ("do a; b end", 0, 5),
         ("a + )", 0, 1),
         ("f(a, b) c := atomic d e", 0, 11),
         ("f(a, b) c := atomic )", 0, 7),
@@ -79,34 +76,45 @@ fn a_type_goes_as_far_as_it_can(rt: HostRuntime) -> Result<(), Fail> {
     Ok(())
 }
 
+/// The number of the rule that is broken and its place, or three zeros.
+fn broken(answer: Result<usize, CheckFault>) -> (u16, u32, u32) {
+    match answer {
+        Err(CheckFault::Refused(rule, place)) => (rule.0, place.line, place.column),
+        _ => (0, 0, 0),
+    }
+}
+
+const DEEP: &str =
+    "a ((((((((((((((((((((((((((((((((((((((((((((((((((((((((((((((((((((((((((((((((((((((((((((((((((((( 1";
+
+const BROKEN_EXPRESSIONS: [(&str, usize, u16, u32, u32); 5] = [
+    ("a\n if b then", 1, 201, 2, 2),
+    ("a\n b c", 3, 201, 2, 4),
+    ("", 0, 201, 1, 1),
+    ("do a;; b end", 0, 201, 1, 1),
+    (DEEP, 0, 202, 1, 105),
+];
+
 #[test]
-fn no_part_is_201_at_the_token_and_depth_is_202(rt: HostRuntime) -> Result<(), Fail> {
-    let alloc = rt.alloc();
-    assert_eq!(rt;
-        behind_expr(&rt, alloc, "a\n if b then", 1),
-        refused(201, 2, 2)
-    );
-    assert_eq!(rt; behind_expr(&rt, alloc, "a\n b c", 3), refused(201, 2, 4));
-    assert_eq!(rt; behind_expr(&rt, alloc, "", 0), refused(201, 1, 1));
-    assert_eq!(rt;
-        behind_type(&rt, alloc, "a: (A, ) B", 2),
-        refused(201, 1, 4)
-    );
-    assert_eq!(rt; behind_type(&rt, alloc, "a\n B", 2), refused(201, 2, 2));
-    let deep =
-        "a ((((((((((((((((((((((((((((((((((((((((((((((((((((((((((((((((((((((((((((((((((((((((((((((((((((( 1";
-    assert_eq!(rt; behind_expr(&rt, alloc, deep, 0), refused(202, 1, 105));
-    assert_eq!(rt; behind_type(&rt, alloc, deep, 1), refused(202, 1, 105));
+fn no_expression_is_201_at_the_token_and_depth_is_202(rt: HostRuntime) -> Result<(), Fail> {
+    for (source, at, rule, line, column) in &BROKEN_EXPRESSIONS {
+        let answer = broken(behind_expr(&rt, rt.alloc(), source, *at));
+        assert_eq!(rt; answer, (*rule, *line, *column), "{source}");
+    }
     Ok(())
 }
 
+const BROKEN_TYPES: [(&str, usize, u16, u32, u32); 3] = [
+    ("a: (A, ) B", 2, 201, 1, 4),
+    ("a\n B", 2, 201, 2, 2),
+    (DEEP, 1, 202, 1, 105),
+];
+
 #[test]
-fn one_semicolon_stands_between_two_items(rt: HostRuntime) -> Result<(), Fail> {
-    let alloc = rt.alloc();
-    assert_eq!(rt; behind_expr(&rt, alloc, "do a; b end", 0), Ok(5));
-    assert_eq!(rt;
-        behind_expr(&rt, alloc, "do a;; b end", 0),
-        refused(201, 1, 1)
-    );
+fn no_type_is_201_at_the_token_and_depth_is_202(rt: HostRuntime) -> Result<(), Fail> {
+    for (source, at, rule, line, column) in &BROKEN_TYPES {
+        let answer = broken(behind_type(&rt, rt.alloc(), source, *at));
+        assert_eq!(rt; answer, (*rule, *line, *column), "{source}");
+    }
     Ok(())
 }

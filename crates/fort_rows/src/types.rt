@@ -58,28 +58,29 @@ fn count(alloc: Global, kinds: &[Kind]) -> Result<Option<usize>, Memory> {
     }
 }
 
+const LONGEST: [(&[Kind], Option<usize>); 9] = [
+    (&[], None),
+    (&[T], Some(1)),
+    (&[T, ARROW, T, ARROW, T], Some(3)),
+    (&[T, ARROW, CLOSE], Some(1)),
+    (
+        &[OPEN, CLOSE, ARROW, OPEN, T, COMMA, T, CLOSE, COMMA],
+        Some(8),
+    ),
+    (&[OPEN, T, COMMA, CLOSE], None),
+    (
+        &[ARRAY, OPEN_STATIC, T, COMMA, ZZ32, CLOSE_STATIC, ARROW, T],
+        Some(8),
+    ),
+    (&[ARRAY, OPEN_STATIC, T, COMMA, T, CLOSE_STATIC], Some(1)),
+    (&[T, OPEN_STATIC, T, COMMA, ZZ32, CLOSE_STATIC], Some(1)),
+];
+
 #[test]
 fn the_longest_type_is_read(rt: HostRuntime) -> Result<(), Memory> {
-    let alloc = rt.alloc();
-    assert!(rt; count(alloc, &[])? == None);
-    assert!(rt; count(alloc, &[T])? == Some(1));
-    assert!(rt; count(alloc, &[T, ARROW, T, ARROW, T])? == Some(3));
-    assert!(rt; count(alloc, &[T, ARROW, CLOSE])? == Some(1));
-    assert!(rt;
-        count(
-            alloc,
-            &[OPEN, CLOSE, ARROW, OPEN, T, COMMA, T, CLOSE, COMMA]
-        )? == Some(8)
-    );
-    assert!(rt; count(alloc, &[OPEN, T, COMMA, CLOSE])? == None);
-    assert!(rt;
-        count(
-            alloc,
-            &[ARRAY, OPEN_STATIC, T, COMMA, ZZ32, CLOSE_STATIC, ARROW, T]
-        )? == Some(8)
-    );
-    assert!(rt; count(alloc, &[ARRAY, OPEN_STATIC, T, COMMA, T, CLOSE_STATIC])? == Some(1));
-    assert!(rt; count(alloc, &[T, OPEN_STATIC, T, COMMA, ZZ32, CLOSE_STATIC])? == Some(1));
+    for (kinds, wanted) in &LONGEST {
+        assert!(rt; count(rt.alloc(), kinds)? == *wanted);
+    }
     Ok(())
 }
 

@@ -20,7 +20,7 @@ use Rattle.fort_token.specs.declared.token.Kind.TheVariants as kind
 use Rattle.fort_lex.specs.declared.meaning.Meaning.{Meaning}
 use Rattle.fort_lex.specs.declared.meaning.Meaning.TheVariants as a_meaning
 use Rattle.fort_lex.specs.Meanings.{meaning_of, is_numbered, is_numbered_shape, has_number, is_text_shape, is_text_word, KindFor, MeansShape, Means, escaped_char, said, said_behind}
-use Rattle.fort_yield.specs.Canonical.{escaped, quoted, kind_text}
+use Rattle.fort_canonical.specs.Canonical.{escaped, quoted, kind_text}
 use Rattle.fort_shown.proofs.Signs.{IsSign, is_sign, and_both, never}
 use Rattle.fort_shown.proofs.Tables.{sign_of, sign_else, shows_as, kind_any, word_written, mark_written, op_written}
 use Rattle.fort_shown.proofs.Numbers.{decimal_is}

@@ -15,7 +15,7 @@ use Rattle.fort_scan.specs.Places.{gap_kind, has_line_feed}
 use Rattle.fort_scan.specs.Tokens.{Piece, IsToken, continues, with_mark, HasPieces}
 use Rattle.fort_scan.specs.Faults.{IsList}
 use Rattle.fort_scan.proofs.Theorem.{one_list, tokens_sound}
-use Rattle.fort_yield.specs.Canonical.{gap_text}
+use Rattle.fort_canonical.specs.Canonical.{gap_text}
 use Rattle.fort_shown.proofs.Signs.{is_inner, and_both, never}
 use Rattle.fort_shown.proofs.Words.{Follows, Stood, fronts, every-right}
 use Rattle.fort_shown.proofs.Written.{Begins, shown_word, is_written, written_stands, written_begins}

@@ -20,9 +20,9 @@ use Rattle.fort_token.specs.declared.token.Tokens.{Tokens}
 use Rattle.fort_lex.specs.Meanings.{has_number, is_text_word, Means, said}
 use Rattle.fort_lex.specs.Files.{once, numbered_in, names_of, texts_of, texts_after, AreTokens, StandsFor, HasTokens}
 use Rattle.fort_lex.proofs.Uniqueness.{one_list_of_tokens}
-use Rattle.fort_yield.specs.Canonical.{gap_text, kind_text, token_text, without_first_gap, canonical}
-use Rattle.fort_yield.specs.Written.{IsAlike}
-use Rattle.fort_yield.proofs.Writing.{alike_shown}
+use Rattle.fort_canonical.specs.Canonical.{gap_text, kind_text, token_text, without_first_gap, canonical}
+use Rattle.fort_canonical.specs.Written.{IsAlike}
+use Rattle.fort_canonical.proofs.Writing.{alike_shown}
 use Rattle.fort_shown.specs.Again.{IsReadAgain}
 use Rattle.fort_shown.proofs.Signs.{and_both}
 use Rattle.fort_shown.proofs.Written.{shown_word, number_small}

@@ -22,7 +22,7 @@ use Rattle.fort_lex.specs.declared.reserved.TheConstants.{WORDS}
 use Rattle.fort_lex.specs.declared.marks.TheConstants.{MARKS}
 use Rattle.fort_lex.specs.Spellings.{is_sign, word_ascii, word_sign, mark_ascii, mark_sign, spells_word, spells_mark, reserved_in, reserved_named, mark_in, mark_named, operator_in, operator_named, has_operator_form}
 use Rattle.fort_lex.specs.Meanings.{meaning_of, is_numbered, KindFor}
-use Rattle.fort_yield.specs.Canonical.{sign_or, word_text, mark_text, operator_text, op_text}
+use Rattle.fort_canonical.specs.Canonical.{sign_or, word_text, mark_text, operator_text, op_text}
 use Rattle.fort_shown.proofs.Signs.{signs, and_both}
 
 -- ---- the sign of a meaning

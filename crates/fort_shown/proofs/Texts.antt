@@ -17,7 +17,7 @@ use Rattle.fort_scan.specs.Spelling.{closes_text, is_control}
 use Rattle.fort_scan.specs.Tokens.{is_escape}
 use Rattle.fort_scan.specs.Words.{text_fault}
 use Rattle.fort_lex.specs.Meanings.{said_behind}
-use Rattle.fort_yield.specs.Canonical.{escaped}
+use Rattle.fort_canonical.specs.Canonical.{escaped}
 use Rattle.fort_shown.proofs.Signs.{and_both}
 
 -- what is written for some characters, and the quote that ends it

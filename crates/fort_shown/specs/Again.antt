@@ -2,7 +2,7 @@
 -- of showing.
 use Rattle.std.specs.Prelude.{◌≡◌, map}
 use Rattle.fort_token.specs.declared.token.Tokens.{Tokens}
-use Rattle.fort_yield.specs.Canonical.{without_first_gap}
+use Rattle.fort_canonical.specs.Canonical.{without_first_gap}
 
 -- The second tokens are the first ones, read again from their canonical text: the same kinds over the same names and texts, and the
 -- same gaps, but that the first token has none before it. Places are those of the new text.

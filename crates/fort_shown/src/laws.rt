@@ -1,8 +1,8 @@
 ghost use Rattle.std.specs.Prelude.{◌≡◌, ℕ, List};
 ghost use Rattle.fort_token.specs.declared.token.Tokens.{Tokens};
 ghost use Rattle.fort_lex.specs.Files.{HasTokens};
-ghost use Rattle.fort_yield.specs.Canonical.{canonical};
-ghost use Rattle.fort_yield.specs.Written.{IsAlike};
+ghost use Rattle.fort_canonical.specs.Canonical.{canonical};
+ghost use Rattle.fort_canonical.specs.Written.{IsAlike};
 ghost use Rattle.fort_shown.specs.Again.{IsReadAgain};
 
 /// A law: the canonical text of a file's tokens has tokens itself, and each reading of it gives

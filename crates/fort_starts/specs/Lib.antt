@@ -1,3 +1,4 @@
 pub mod Beginnings
+pub mod Declarations
 pub mod Endings
 pub mod Plain

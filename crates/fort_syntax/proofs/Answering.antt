@@ -14,7 +14,7 @@ use Rattle.fort_tree.specs.Openers.{AllShallow}
 use Rattle.fort_tree.specs.Tokens.{Spellings}
 use Rattle.fort_reading.specs.declared.fault.Fault.TheVariants as because
 use Rattle.fort_reading.specs.Parser.{Row, Outcome, Read, Failed, next_of}
-use Rattle.fort_syntax.specs.Declarations.{whole}
+use Rattle.fort_declarations.specs.Declarations.{whole}
 use Rattle.fort_syntax.specs.Answer.{HasNone, IsFault, Breaks, Syntax, Reading, Answers, last_token, fault_place}
 use Rattle.fort_syntax.proofs.Theorem.{found, has_none, fault_at}
 

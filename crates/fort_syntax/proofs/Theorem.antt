@@ -10,11 +10,11 @@ use Rattle.fort_reading.specs.declared.fault.Fault.TheVariants.{Syntax, TooDeep}
 use Rattle.fort_reading.specs.Parser.{Row, Outcome, Read, Failed, next_of, Locally}
 use Rattle.fort_reading.proofs.Laws.{Only, only_then, only_read, only_failed, Gets, reads, ends, gets_then}
 use Rattle.fort_parse.proofs.AllRuns.{sound_expr_at, complete_expr_at, sound_variable_at, complete_variable_at}
-use Rattle.fort_syntax.specs.Declarations.{component, nothing_after, whole}
+use Rattle.fort_declarations.specs.Declarations.{component, nothing_after, whole}
 use Rattle.fort_syntax.specs.Answer.{HasNone, StopsAt, IsFault, AtMostOne, last_token, place_or_first, fault_place}
-use Rattle.fort_syntax.proofs.Parts.{PartLaws}
-use Rattle.fort_syntax.proofs.DeclarationsSound.{YieldsComponent, sound_component}
-use Rattle.fort_syntax.proofs.DeclarationsComplete.{complete_component}
+use Rattle.fort_declarations.proofs.Parts.{PartLaws}
+use Rattle.fort_declarations.proofs.DeclarationsSound.{YieldsComponent, sound_component}
+use Rattle.fort_declarations.proofs.DeclarationsComplete.{complete_component}
 
 part_laws : (names : Spellings) (n : ℕ) → PartLaws names n
 part_laws names n = record {

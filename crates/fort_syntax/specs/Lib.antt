@@ -1,4 +1,1 @@
 pub mod Answer
-pub mod Names
-pub mod Methods
-pub mod Declarations

@@ -2,8 +2,8 @@ ghost use Rattle.std.specs.Prelude.{◌≡◌, Some, None, option_map};
 ghost use Rattle.fort_reading.specs.Parser.{next_of};
 ghost use Rattle.fort_syntax.specs.Answer.{Answers, Reading, fault_place, last_token, place_or_first};
 
-use crate::frame::whole;
 use fort_base::{CheckFault, Place, Rule};
+use fort_declarations::whole;
 use fort_limits::{TOO_DEEP, TOO_MANY, first_crowded, first_deep};
 use fort_reading::{Cursor, Fault};
 use fort_token::{Token, Tokens};

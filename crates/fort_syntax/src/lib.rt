@@ -1,14 +1,8 @@
-//! Reading declarations and components, over expressions and types.
+//! The one component that a file's tokens are, or the first broken rule of the grammar, with its place.
 #![tactic(auto)]
 
 mod answer;
-mod declarations;
-mod frame;
 mod laws;
-mod methods;
-mod names;
-mod syntax;
-mod values;
 
 pub use answer::{SYNTAX, component};
 pub use laws::at_most_one_tree;

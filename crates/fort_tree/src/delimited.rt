@@ -3,7 +3,7 @@ use crate::declarations::Variable;
 use crate::expr::{Expr, Flat, Generator};
 use crate::spot::{Name, NextName, Spot};
 use crate::types::TypeTree;
-use fort_base::List;
+use fort_base::{Boxed, List};
 
 /// `Delim`: a form that begins with a word and ends with `end`.
 #[cycle(tree)]
@@ -37,7 +37,7 @@ pub enum Delimited {
     /// `"for" Gen ("," Gen)* "do" Block "end"`
     For {
         for_: Spot,
-        generator: Generator,
+        generator: Boxed<Generator>,
         others: List<NextGenerator>,
         do_: Spot,
         block: Block,
@@ -49,7 +49,7 @@ pub enum Delimited {
         subject: Flat,
         of: Spot,
         clauses: List<CaseClause>,
-        otherwise: Option<ElseClause>,
+        otherwise: Option<Boxed<ElseClause>>,
         end: Spot,
     },
     /// `"typecase" Name "=" Flat "of" (Type "=>" Expr by Sep) [Sep "else" "=>" Expr] "end"`; it has a clause
@@ -61,7 +61,7 @@ pub enum Delimited {
         subject: Flat,
         of: Spot,
         clauses: List<TypeClause>,
-        otherwise: Option<ElseClause>,
+        otherwise: Option<Boxed<ElseClause>>,
         end: Spot,
     },
     /// `"try" Block ["catch" Name (Type "=>" Expr by Sep)] ["finally" Block] "end"`; it has a `catch` or a
@@ -176,7 +176,7 @@ pub struct BlockItem {
 #[derive(Drop)]
 pub enum Item {
     /// `Var`
-    Variable(Variable),
+    Variable(Boxed<Variable>),
     /// `"(" Name ("," Name)+ ")" ":" Type "=" Expr`; `others` has a name at least.
     Names {
         left: Spot,
@@ -184,9 +184,9 @@ pub enum Item {
         others: List<NextName>,
         right: Spot,
         colon: Spot,
-        ty: TypeTree,
+        ty: Boxed<TypeTree>,
         equals: Spot,
-        value: Expr,
+        value: Boxed<Expr>,
     },
     /// `Expr`; it doesn't begin as a declaration of a name or of names in parentheses does, up to the `:`.
     Expr(Expr),

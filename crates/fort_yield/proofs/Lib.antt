@@ -1,3 +1,1 @@
 pub mod More
-pub mod Showing
-pub mod Writing

@@ -9,12 +9,11 @@ ghost use Rattle.fort_yield.specs.Parts.{entry_tokens};
 use crate::delimited::put_variable;
 use crate::expr::put_expr;
 use crate::members::{put_object_entries, put_trait_entries};
-use crate::put::{
-    put_mark, put_name, put_next_names, put_operator, put_semicolon, put_var, put_word,
-};
+use crate::put::{put_next_names, put_var};
 use crate::types::{put_maybe_parameters, put_type};
 use fort_base::{List, Memory};
 use fort_ops::Op;
+use fort_put::{put_mark, put_name, put_operator, put_semicolon, put_word};
 use fort_token::{Mark, Reserved, Token};
 use fort_tree::{
     Comprises, Declaration, Declared, Excludes, Extends, Function, FunctionName, Names,

@@ -7,12 +7,11 @@ ghost use Rattle.fort_tree.specs.Tokens.{word};
 ghost use Rattle.fort_tree.specs.Yield.{said_delimited, said_item, said_variable, said_also, said_block_item, said_case_clause, said_catch, said_elif, said_else_block, said_else_clause, said_finally, said_next_generator, said_type_clause};
 
 use crate::expr::{put_expr, put_flat, put_generator};
-use crate::put::{
-    put_mark, put_name, put_next_names, put_operator, put_semicolon, put_var, put_word,
-};
+use crate::put::{put_next_names, put_var};
 use crate::types::put_type;
-use fort_base::{List, Memory};
+use fort_base::{Boxed, List, Memory};
 use fort_ops::Op;
+use fort_put::{put_mark, put_name, put_operator, put_semicolon, put_word};
 use fort_token::{Mark, Reserved, Token};
 use fort_tree::{
     Also, BlockItem, CaseClause, Catch, Delimited, Elif, ElseBlock, ElseClause, Finally, Flat,
@@ -73,7 +72,7 @@ pub fn put_delimited(form: &Delimited, out: &mut List<Token>) -> Result<(), Memo
             end,
         } => {
             put_word(out, Reserved::For, *for_)?;
-            put_generator(generator, out)?;
+            put_generator(generator.get(), out)?;
             put_next_generators(others.as_slice(), out)?;
             put_word(out, Reserved::Do, *do_)?;
             put_block(block.as_slice(), out)?;
@@ -259,7 +258,7 @@ fn put_type_clause(clause: &TypeClause, out: &mut List<Token>) -> Result<(), Mem
 
 #[cycle(put)]
 fn put_otherwise(
-    otherwise: &Option<ElseClause>,
+    otherwise: &Option<Boxed<ElseClause>>,
     end: Spot,
     out: &mut List<Token>,
 ) -> Result<(), Memory>
@@ -272,14 +271,14 @@ fn put_otherwise(
 
 #[cycle(put)]
 fn put_maybe_else_clause(
-    otherwise: &Option<ElseClause>,
+    otherwise: &Option<Boxed<ElseClause>>,
     out: &mut List<Token>,
 ) -> Result<(), Memory>
     ensures { OnOk result (out.new ≡ out.old ++ else_tokens (option_map said_else_clause otherwise.now)) }
 {
     match otherwise {
         None => Ok(()),
-        Some(clause) => put_else_clause(clause, out),
+        Some(clause) => put_else_clause(clause.get(), out),
     }
 }
 
@@ -357,7 +356,7 @@ fn put_item(item: &Item, out: &mut List<Token>) -> Result<(), Memory>
     ensures { OnOk result (out.new ≡ out.old ++ tokens_of (said_item item.now)) }
 {
     match item {
-        Item::Variable(variable) => put_variable(variable, out)?,
+        Item::Variable(variable) => put_variable(variable.get(), out)?,
         Item::Names {
             left,
             first,
@@ -373,9 +372,9 @@ fn put_item(item: &Item, out: &mut List<Token>) -> Result<(), Memory>
             put_next_names(others.as_slice(), out)?;
             put_mark(out, Mark::CloseParen, *right)?;
             put_operator(out, Op::Range, *colon)?;
-            put_type(ty, out)?;
+            put_type(ty.get(), out)?;
             put_operator(out, Op::Eq, *equals)?;
-            put_expr(value, out)?;
+            put_expr(value.get(), out)?;
         }
         Item::Expr(expr) => put_expr(expr, out)?,
     }

@@ -7,10 +7,10 @@ ghost use Rattle.fort_yield.specs.Parts.{prefix_tokens};
 ghost use Rattle.fort_tree.specs.Yield.{said_expr, said_head, said_generator, said_flat, said_flat_part, said_operand, said_run, said_run_part, said_postfix, said_atom, said_expr_list, said_next_expr};
 
 use crate::delimited::put_delimited;
-use crate::put::{put_mark, put_name, put_operator, put_token, put_word};
 use crate::types::{put_maybe_parameters, put_type};
 use fort_base::{Boxed, List, Memory};
 use fort_ops::Op;
+use fort_put::{put_mark, put_name, put_operator, put_token, put_word};
 use fort_token::{Kind, Mark, Reserved, Token};
 use fort_tree::{
     AssignSign, Atom, Big, Expr, ExprList, Flat, FlatPart, Generator, Head, NextExpr, Operand,

@@ -7,10 +7,10 @@ ghost use Rattle.fort_yield.specs.Parts.{entry_tokens};
 use crate::declarations::{put_function_name, put_result};
 use crate::delimited::put_variable;
 use crate::expr::put_expr;
-use crate::put::{put_mark, put_name, put_operator, put_semicolon, put_word};
 use crate::types::{put_parameter, put_type};
 use fort_base::{List, Memory};
 use fort_ops::Op;
+use fort_put::{put_mark, put_name, put_operator, put_semicolon, put_word};
 use fort_token::{Mark, Reserved, Token};
 use fort_tree::{
     Method, MethodBody, MethodParameter, MethodParameters, NextMethodParameter, ObjectEntry,

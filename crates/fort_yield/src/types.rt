@@ -3,9 +3,9 @@ ghost use Rattle.std.specs.Prelude.{◌≡◌, ◌++◌, OnOk, map, option_map};
 ghost use Rattle.fort_tree.specs.Said.{tokens_of, all_tokens, maybe_tokens};
 ghost use Rattle.fort_tree.specs.Types.{said_type, said_simple_type, said_type_list, said_next_type, said_parameter, said_next_parameter, said_parameters};
 
-use crate::put::{put_mark, put_name, put_operator};
 use fort_base::{List, Memory};
 use fort_ops::Op;
+use fort_put::{put_mark, put_name, put_operator};
 use fort_token::{Mark, Token};
 use fort_tree::{NextParameter, NextType, Parameter, Parameters, SimpleType, TypeList, TypeTree};
 

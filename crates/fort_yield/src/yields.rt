@@ -3,8 +3,8 @@ ghost use Rattle.std.specs.Prelude.{◌≡◌, ◌++◌, OnOk, IfOk};
 ghost use Rattle.fort_tree.specs.Component.{yield, export_tokens};
 
 use crate::declarations::put_declarations;
-use crate::put::{put_name, put_word};
 use fort_base::{Bytes, List, Memory};
+use fort_put::{put_name, put_word};
 use fort_token::{Reserved, Token, Tokens};
 use fort_tree::{Component, Export};
 use std::alloc::Global;

@@ -9,7 +9,8 @@ use Rattle.fort_tree.specs.declared.delimited.Finally.{Finally}
 use Rattle.fort_tree.specs.declared.delimited.NextGenerator.{NextGenerator}
 use Rattle.fort_tree.specs.declared.delimited.CaseClause.{CaseClause}
 use Rattle.fort_tree.specs.declared.delimited.TypeClause.{TypeClause}
-use Rattle.fort_tree.specs.declared.delimited.ElseClause.{ElseClause}
+use Rattle.fort_tree.specs.declared.delimited.ElseClause.{ElseClause, out-ElseClause}
+use Rattle.fort_tree.specs.declared.declarations.Variable.{Variable}
 use Rattle.fort_tree.specs.declared.delimited.Catch.{Catch}
 use Rattle.fort_tree.specs.declared.delimited.BlockItem.{BlockItem}
 use Rattle.fort_tree.specs.declared.expr.Expr.{Expr}
@@ -23,7 +24,7 @@ use Rattle.fort_tree.specs.declared.expr.Atom.{Atom}
 use Rattle.fort_tree.specs.declared.expr.NextExpr.{NextExpr}
 use Rattle.fort_tree.specs.declared.grouped.Row.{Row}
 use Rattle.fort_tree.specs.Measured.{Joined, all_flats, maybe_measured, listed_parts}
-use Rattle.fort_tree.specs.Measuring.{measured_also, measured_atom, measured_block_item, measured_case_clause, measured_catch, measured_delimited, measured_elif, measured_else_block, measured_else_clause, measured_expr, measured_finally, measured_flat, measured_flat_part, measured_generator, measured_head, measured_item, measured_next_expr, measured_next_generator, measured_postfix, measured_run_part, measured_type_clause}
+use Rattle.fort_tree.specs.Measuring.{measured_also, measured_atom, measured_block_item, measured_case_clause, measured_catch, measured_delimited, measured_elif, measured_else_block, measured_else_clause, measured_expr, measured_finally, measured_flat, measured_flat_part, measured_generator, measured_head, measured_item, measured_next_expr, measured_next_generator, measured_postfix, measured_run_part, measured_type_clause, measured_variable}
 use Rattle.fort_flats.proofs.Lists.{last, one_more, one_more_unit}
 use Rattle.fort_flats.proofs.Steps.{by, nothing_added, one_added, two_added, three_added, four_added}
 use Rattle.fort_flats.proofs.FlatsExpressions.{flats-ArrayFill, flats-Assign, flats-Atom, flats-Atomic, flats-Big, flats-Call, flats-Delimited, flats-False, flats-Field, flats-Flat, flats-Fn, flats-Infix, flats-Name, flats-Number, flats-Open, flats-OpenAssign, flats-Parallel, flats-Parens, flats-Postfix, flats-Power, flats-Run, flats-Self_, flats-Sequential, flats-Subscript, flats-Text, flats-Throw, flats-True, flats-Tryatomic, flats_expr_list, flats_flat, flats_next_expr, flats_operand, flats_run}
@@ -45,7 +46,7 @@ pub blocks::add_form-returns-in_ok-add_block-in-While : goal.blocks::add_form-re
 blocks::add_form-returns-in_ok-add_block-in-While t c = two_added _ _ _ c.in_ok-add_flat-in-While.ensures (by (λ (b : List BlockItem). all_flats (map measured_block_item b)) _ c.as_slice-in-While.ensures c.in_ok-add_block-in-While.ensures) (ap (λ (x : Delimited). (measured_delimited x).flats) c.in-While.is ∙ flats-While _ _ _ _ _)
 
 pub blocks::add_form-returns-in_ok-add_block-in-For : goal.blocks::add_form-returns-in_ok-add_block-in-For
-blocks::add_form-returns-in_ok-add_block-in-For t c = three_added _ _ _ _ c.in_ok-add_generator-in-For.ensures (by (λ (l : List NextGenerator). all_flats (map measured_next_generator l)) _ c.as_slice-in-For.ensures c.in_ok-add_next_generators-in-For.ensures)
+blocks::add_form-returns-in_ok-add_block-in-For t c = three_added _ _ _ _ (by (λ (x : Generator). (measured_generator x).flats) _ c.get.ensures c.in_ok-add_generator-in-For.ensures) (by (λ (l : List NextGenerator). all_flats (map measured_next_generator l)) _ c.as_slice-in-For.ensures c.in_ok-add_next_generators-in-For.ensures)
     (by (λ (b : List BlockItem). all_flats (map measured_block_item b)) _ c.as_slice-in-For-2.ensures c.in_ok-add_block-in-For.ensures) (ap (λ (x : Delimited). (measured_delimited x).flats) c.in-For.is ∙ flats-For _ _ _ _ _ _)
 
 pub blocks::add_form-returns-in_ok-add_maybe_else_clause-in-Case : goal.blocks::add_form-returns-in_ok-add_maybe_else_clause-in-Case
@@ -61,10 +62,10 @@ blocks::add_form-returns-in_ok-add_maybe_finally-in-Try t c = three_added _ _ _ 
     (ap (λ (x : Delimited). (measured_delimited x).flats) c.in-Try.is ∙ flats-Try _ _ _ _ _)
 
 pub blocks::add_item-returns-in_ok-add_variable-in-Variable : goal.blocks::add_item-returns-in_ok-add_variable-in-Variable
-blocks::add_item-returns-in_ok-add_variable-in-Variable t c = one_added _ c.in_ok-add_variable-in-Variable.ensures (ap (λ (x : Item). (measured_item x).flats) c.in-Variable.is ∙ flats-Variable _)
+blocks::add_item-returns-in_ok-add_variable-in-Variable t c = one_added _ (by (λ (x : Variable). (measured_variable x).flats) _ c.get.ensures c.in_ok-add_variable-in-Variable.ensures) (ap (λ (x : Item). (measured_item x).flats) c.in-Variable.is ∙ flats-Variable _)
 
 pub blocks::add_item-returns-in_ok-add_expr-in-Names : goal.blocks::add_item-returns-in_ok-add_expr-in-Names
-blocks::add_item-returns-in_ok-add_expr-in-Names t c = one_added _ c.in_ok-add_expr-in-Names.ensures (ap (λ (x : Item). (measured_item x).flats) c.in-Names.is ∙ flats-Names _ _ _ _ _ _ _ _)
+blocks::add_item-returns-in_ok-add_expr-in-Names t c = one_added _ (by (λ (x : Expr). (measured_expr x).flats) _ c.get-in-Names.ensures c.in_ok-add_expr-in-Names.ensures) (ap (λ (x : Item). (measured_item x).flats) c.in-Names.is ∙ flats-Names _ _ _ _ _ _ _ _)
 
 pub blocks::add_item-returns-in_ok-add_expr-in-Expr : goal.blocks::add_item-returns-in_ok-add_expr-in-Expr
 blocks::add_item-returns-in_ok-add_expr-in-Expr t c = one_added _ c.in_ok-add_expr-in-Expr.ensures (ap (λ (x : Item). (measured_item x).flats) c.in-Expr.is ∙ flats-Expr _)
@@ -88,7 +89,7 @@ clauses::add_maybe_catch-returns-in_ok-add_type_clauses t c = one_added _ (by (�
     (ap (λ (o : Option Catch). all_flats (listed_parts (option_map measured_catch o))) c.in-Some.is ∙ flats_catch c.in-Some.catch)
 
 pub clauses::add_maybe_else_clause-returns-in_ok-add_expr : goal.clauses::add_maybe_else_clause-returns-in_ok-add_expr
-clauses::add_maybe_else_clause-returns-in_ok-add_expr t c = one_added _ c.in_ok-add_expr.ensures
+clauses::add_maybe_else_clause-returns-in_ok-add_expr t c = one_added _ (by (λ (x : ElseClause). (measured_expr (out-ElseClause x).value).flats) _ c.get.ensures c.in_ok-add_expr.ensures)
     (ap (λ (o : Option ElseClause). all_flats (maybe_measured (option_map measured_else_clause o))) c.in-Some.is ∙ last (measured_else_clause c.in-Some.otherwise) ∙ flats_else_clause c.in-Some.otherwise)
 
 pub expressions::add_expr-returns-in_ok-add_flat-in-Flat : goal.expressions::add_expr-returns-in_ok-add_flat-in-Flat

@@ -9,7 +9,8 @@ use Rattle.fort_tree.specs.declared.delimited.Finally.{Finally}
 use Rattle.fort_tree.specs.declared.delimited.NextGenerator.{NextGenerator}
 use Rattle.fort_tree.specs.declared.delimited.CaseClause.{CaseClause}
 use Rattle.fort_tree.specs.declared.delimited.TypeClause.{TypeClause}
-use Rattle.fort_tree.specs.declared.delimited.ElseClause.{ElseClause}
+use Rattle.fort_tree.specs.declared.delimited.ElseClause.{ElseClause, out-ElseClause}
+use Rattle.fort_tree.specs.declared.declarations.Variable.{Variable}
 use Rattle.fort_tree.specs.declared.delimited.Catch.{Catch}
 use Rattle.fort_tree.specs.declared.delimited.BlockItem.{BlockItem}
 use Rattle.fort_tree.specs.declared.expr.Expr.{Expr}
@@ -25,7 +26,7 @@ use Rattle.fort_tree.specs.declared.expr.NextExpr.{NextExpr}
 use Rattle.fort_tree.specs.declared.types.TypeTree.{TypeTree}
 use Rattle.fort_mention.specs.Mentioned.{all_mentioned, maybe_mentioned}
 use Rattle.fort_mention.specs.Mentions.{mentioned_type}
-use Rattle.fort_mention.specs.Mentioning.{mentioned_also, mentioned_atom, mentioned_block_item, mentioned_case_clause, mentioned_catch, mentioned_delimited, mentioned_elif, mentioned_else_block, mentioned_else_clause, mentioned_expr, mentioned_expr_list, mentioned_finally, mentioned_flat, mentioned_flat_part, mentioned_generator, mentioned_head, mentioned_item, mentioned_next_expr, mentioned_next_generator, mentioned_postfix, mentioned_run_part, mentioned_type_clause}
+use Rattle.fort_mention.specs.Mentioning.{mentioned_also, mentioned_atom, mentioned_block_item, mentioned_case_clause, mentioned_catch, mentioned_delimited, mentioned_elif, mentioned_else_block, mentioned_else_clause, mentioned_expr, mentioned_expr_list, mentioned_finally, mentioned_flat, mentioned_flat_part, mentioned_generator, mentioned_head, mentioned_item, mentioned_next_expr, mentioned_next_generator, mentioned_postfix, mentioned_run_part, mentioned_type_clause, mentioned_variable}
 use Rattle.fort_mention.proofs.Steps.{by, nothing_added, one_added, two_added, three_added, four_added, one_more_of}
 use Rattle.fort_mention.proofs.MentionsFlats.{mentions-ArrayFill, mentions-Assign, mentions-Atom, mentions-Atomic, mentions-Big, mentions-Call, mentions-Delimited, mentions-False, mentions-Field, mentions-Flat, mentions-Fn, mentions-Infix, mentions-Name, mentions-Number, mentions-Open, mentions-OpenAssign, mentions-Parallel, mentions-Parens, mentions-Postfix, mentions-Power, mentions-Run, mentions-Self_, mentions-Sequential, mentions-Subscript, mentions-Text, mentions-Throw, mentions-True, mentions-Tryatomic, expr_list_mentions, flat_mentions, next_expr_mentions, operand_mentions, run_mentions}
 use Rattle.fort_mention.proofs.MentionsBlocks.{mentions-Case, mentions-Do, mentions-Expr, mentions-For, mentions-If, mentions-Names, mentions-Try, mentions-Typecase, mentions-Variable, mentions-While, also_mentions, block_item_mentions, case_clause_mentions, catch_mentions, elif_mentions, else_block_mentions, else_clause_mentions, finally_mentions, next_generator_mentions, type_clause_mentions, variable_mentions}
@@ -152,7 +153,7 @@ pub blocks::add_form-returns-in_ok-add_block-in-While : goal.blocks::add_form-re
 blocks::add_form-returns-in_ok-add_block-in-While t c = two_added _ _ _ c.in_ok-add_flat-in-While.ensures (by (λ (l : List BlockItem). all_mentioned (map mentioned_block_item l)) _ c.as_slice-in-While.ensures c.in_ok-add_block-in-While.ensures) (ap (λ (x : Delimited). mentioned_delimited x) c.in-While.is ∙ mentions-While _ _ _ _ _)
 
 pub blocks::add_form-returns-in_ok-add_block-in-For : goal.blocks::add_form-returns-in_ok-add_block-in-For
-blocks::add_form-returns-in_ok-add_block-in-For t c = three_added _ _ _ _ c.in_ok-add_generator-in-For.ensures (by (λ (l : List NextGenerator). all_mentioned (map mentioned_next_generator l)) _ c.as_slice-in-For.ensures c.in_ok-add_next_generators-in-For.ensures) (by (λ (l : List BlockItem). all_mentioned (map mentioned_block_item l)) _ c.as_slice-in-For-2.ensures c.in_ok-add_block-in-For.ensures) (ap (λ (x : Delimited). mentioned_delimited x) c.in-For.is ∙ mentions-For _ _ _ _ _ _)
+blocks::add_form-returns-in_ok-add_block-in-For t c = three_added _ _ _ _ (by (λ (x : Generator). mentioned_generator x) _ c.get.ensures c.in_ok-add_generator-in-For.ensures) (by (λ (l : List NextGenerator). all_mentioned (map mentioned_next_generator l)) _ c.as_slice-in-For.ensures c.in_ok-add_next_generators-in-For.ensures) (by (λ (l : List BlockItem). all_mentioned (map mentioned_block_item l)) _ c.as_slice-in-For-2.ensures c.in_ok-add_block-in-For.ensures) (ap (λ (x : Delimited). mentioned_delimited x) c.in-For.is ∙ mentions-For _ _ _ _ _ _)
 
 pub blocks::add_form-returns-in_ok-add_else_clause-in-Case : goal.blocks::add_form-returns-in_ok-add_else_clause-in-Case
 blocks::add_form-returns-in_ok-add_else_clause-in-Case t c = three_added _ _ _ _ c.in_ok-add_flat-in-Case.ensures (by (λ (l : List CaseClause). all_mentioned (map mentioned_case_clause l)) _ c.as_slice-in-Case.ensures c.in_ok-add_case_clauses-in-Case.ensures) c.in_ok-add_else_clause-in-Case.ensures (ap (λ (x : Delimited). mentioned_delimited x) c.in-Case.is ∙ mentions-Case _ _ _ _ _ _)
@@ -168,10 +169,10 @@ blocks::add_block-loop-entry-preserved t c = one_more_of mentioned_block_item c.
     (one_added _ c.in_ok-add_item.ensures (block_item_mentions c.entry-item.result))
 
 pub blocks::add_item-returns-in_ok-add_variable-in-Variable : goal.blocks::add_item-returns-in_ok-add_variable-in-Variable
-blocks::add_item-returns-in_ok-add_variable-in-Variable t c = one_added _ c.in_ok-add_variable-in-Variable.ensures (ap (λ (x : Item). mentioned_item x) c.in-Variable.is ∙ mentions-Variable _)
+blocks::add_item-returns-in_ok-add_variable-in-Variable t c = one_added _ (by (λ (x : Variable). mentioned_variable x) _ c.get.ensures c.in_ok-add_variable-in-Variable.ensures) (ap (λ (x : Item). mentioned_item x) c.in-Variable.is ∙ mentions-Variable _)
 
 pub blocks::add_item-returns-in_ok-add_expr-in-Names : goal.blocks::add_item-returns-in_ok-add_expr-in-Names
-blocks::add_item-returns-in_ok-add_expr-in-Names t c = two_added _ _ _ c.in_ok-add_type-in-Names.ensures c.in_ok-add_expr-in-Names.ensures (ap (λ (x : Item). mentioned_item x) c.in-Names.is ∙ mentions-Names _ _ _ _ _ _ _ _)
+blocks::add_item-returns-in_ok-add_expr-in-Names t c = two_added _ _ _ (by (λ (x : TypeTree). mentioned_type x) _ c.get-in-Names.ensures c.in_ok-add_type-in-Names.ensures) (by (λ (x : Expr). mentioned_expr x) _ c.get-in-Names-2.ensures c.in_ok-add_expr-in-Names.ensures) (ap (λ (x : Item). mentioned_item x) c.in-Names.is ∙ mentions-Names _ _ _ _ _ _ _ _)
 
 pub blocks::add_item-returns-in_ok-add_expr-in-Expr : goal.blocks::add_item-returns-in_ok-add_expr-in-Expr
 blocks::add_item-returns-in_ok-add_expr-in-Expr t c = one_added _ c.in_ok-add_expr-in-Expr.ensures (ap (λ (x : Item). mentioned_item x) c.in-Expr.is ∙ mentions-Expr _)
@@ -212,7 +213,7 @@ pub blocks::add_type_clause-returns : goal.blocks::add_type_clause-returns
 blocks::add_type_clause-returns t c = two_added _ _ _ c.in_ok-add_type.ensures c.in_ok-add_expr.ensures (type_clause_mentions c.args.clause.now)
 
 pub blocks::add_else_clause-returns-in_ok-add_expr : goal.blocks::add_else_clause-returns-in_ok-add_expr
-blocks::add_else_clause-returns-in_ok-add_expr t c = one_added _ c.in_ok-add_expr.ensures (ap (λ (o : Option ElseClause). maybe_mentioned (option_map mentioned_else_clause o)) c.in-Some.is ∙ else_clause_mentions c.in-Some.otherwise)
+blocks::add_else_clause-returns-in_ok-add_expr t c = one_added _ (by (λ (x : ElseClause). mentioned_expr (out-ElseClause x).value) _ c.get.ensures c.in_ok-add_expr.ensures) (ap (λ (o : Option ElseClause). maybe_mentioned (option_map mentioned_else_clause o)) c.in-Some.is ∙ else_clause_mentions c.in-Some.otherwise)
 
 pub blocks::add_catch-returns-in_ok-add_type_clauses : goal.blocks::add_catch-returns-in_ok-add_type_clauses
 blocks::add_catch-returns-in_ok-add_type_clauses t c = one_added _ (by (λ (l : List TypeClause). all_mentioned (map mentioned_type_clause l)) _ c.as_slice.ensures c.in_ok-add_type_clauses.ensures) (ap (λ (o : Option Catch). maybe_mentioned (option_map mentioned_catch o)) c.in-Some.is ∙ catch_mentions c.in-Some.catch)

@@ -1,0 +1,3 @@
+pub mod Names
+pub mod Methods
+pub mod Declarations
