@@ -1,0 +1,2 @@
+mod Alongs
+pub mod Walking

@@ -1,0 +1,4 @@
+pub mod First
+pub mod Tight
+pub mod Loose
+pub mod Walks

@@ -1,0 +1,10 @@
+//! The names in scope, as a list of bindings.
+#![tactic(auto)]
+
+mod binding;
+mod scopes;
+#[cfg(test)]
+mod tests;
+
+pub use binding::{ALREADY_BOUND, Binding};
+pub use scopes::Scope;
