@@ -1,0 +1,6 @@
+use Rattle.std.proofs.Common.{sym, ap}
+use Rattle.fort_prim.specs.Answers.{reply}
+use Rattle.fort_prim.proofs.words.texts_equal.Goals as goal
+
+pub returns-in-None : goal.returns-in-None
+returns-in-None c p = sym (ap (reply p) (c.in-None.ensures _))

@@ -1,0 +1,4 @@
+pub mod Outcomes
+pub mod Operations
+pub mod Answers
+pub mod Arguments

@@ -1,0 +1,8 @@
+//! The store of a run: a finite map from locations to values. The chapter "Store and effects" of docs/MACHINE.md.
+#![tactic(auto)]
+
+mod store;
+#[cfg(test)]
+mod tests;
+
+pub use store::Store;
