@@ -2,5 +2,4 @@ pub mod Overloaded
 pub mod Apart
 pub mod Refused
 pub mod Called
-pub mod Forms
 pub mod Greetings

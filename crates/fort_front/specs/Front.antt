@@ -19,7 +19,7 @@ use Rattle.fort_member.specs.Answers.{AreMembers}
 use Rattle.fort_over.specs.Answers.{KeepAllRules}
 use Rattle.fort_over.specs.Answers as overloads
 use Rattle.fort_syntax.specs.Answer as grammar
-use Rattle.fort_front.specs.Greeting.{IsGreeting}
+use Rattle.fort_greeting.specs.Greeting.{IsGreeting}
 
 -- The tokens are those of one component, which passes no limit.
 pub record IsGrammatical (tokens : Tokens) : Type 0 where

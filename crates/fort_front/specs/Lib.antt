@@ -1,3 +1,2 @@
-pub mod Greeting
 pub mod Front
 pub mod Calls

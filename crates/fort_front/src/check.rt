@@ -2,8 +2,8 @@ ghost use Rattle.std.specs.Prelude.{◌≡◌, IfOk};
 ghost use Rattle.std.specs.Option.{option_copied};
 ghost use Rattle.fort_front.specs.Front.{Answers, GrammarAnswers};
 
-use crate::greeting::greeting;
 use fort_base::{Bytes, CheckFault, List, Memory};
+use fort_greeting::greeting;
 use fort_group::groups;
 use fort_hier::hierarchy;
 use fort_member::members;

@@ -2,7 +2,6 @@
 #![tactic(auto)]
 
 mod check;
-mod greeting;
 mod laws;
 
 pub use check::{check_grammar, check_tokens};

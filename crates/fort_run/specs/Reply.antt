@@ -6,7 +6,7 @@ use Rattle.fort_base.specs.declared.refusal.Place.{Place}
 use Rattle.fort_token.specs.declared.token.Tokens.{Tokens}
 use Rattle.fort_lex.specs.Files.{HasTokens, BreaksRule}
 use Rattle.fort_front.specs.Front.{IsGrammatical, BreaksGrammar, IsFormed, Breaks}
-use Rattle.fort_front.specs.Greeting.{IsGreeting}
+use Rattle.fort_greeting.specs.Greeting.{IsGreeting}
 use Rattle.fort_canonical.specs.Canonical.{canonical}
 use Rattle.fort_port.specs.Outside.{Holding, Untold, Absent, Held, Rose}
 use Rattle.fort_cmd.specs.declared.command.Command.{Command}

@@ -1,6 +1,6 @@
 use Rattle.std.proofs.Common.{◌≡◌, Err, rules}
 use Rattle.fort_hier.specs.Hierarchies.{declares}
-use Rattle.fort_front.proofs.Greetings.{found_so}
+use Rattle.fort_greeting.proofs.Greetings.{found_so}
 use Rattle.fort_front.proofs.Refused.{refused, types_refused, fields_refused, overloads_refused, are_over}
 use Rattle.fort_front.proofs.check.check_tokens.Goals as goal
 

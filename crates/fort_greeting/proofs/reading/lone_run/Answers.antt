@@ -1,8 +1,8 @@
 use Rattle.std.proofs.Common.{sym, ap, ◌∙◌}
 use Rattle.fort_tree.specs.declared.expr.Expr.TheVariants as an_expr
-use Rattle.fort_front.specs.Greeting.{only_run}
-use Rattle.fort_front.proofs.Forms.{one_flat}
-use Rattle.fort_front.proofs.greeting.lone_run.Goals as goal
+use Rattle.fort_greeting.specs.Greeting.{only_run}
+use Rattle.fort_greeting.proofs.Forms.{one_flat}
+use Rattle.fort_greeting.proofs.reading.lone_run.Goals as goal
 
 pub returns-in-Flat : goal.returns-in-Flat
 returns-in-Flat c = λ run. (

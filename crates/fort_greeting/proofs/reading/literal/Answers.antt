@@ -2,9 +2,9 @@ use Rattle.std.proofs.Common.{◌≡◌, [], None, rules, refl, ap, ◌∙◌}
 use Rattle.fort_tree.specs.declared.expr.Atom.TheVariants as an_atom
 use Rattle.fort_tree.specs.declared.expr.Run.{Run}
 use Rattle.fort_tree.specs.declared.spot.Spot.{Spot}
-use Rattle.fort_front.specs.Greeting.{literal}
-use Rattle.fort_front.proofs.Forms.{found, none_found, none_such}
-use Rattle.fort_front.proofs.greeting.literal.Goals as goal
+use Rattle.fort_greeting.specs.Greeting.{literal}
+use Rattle.fort_greeting.proofs.Forms.{found, none_found, none_such}
+use Rattle.fort_greeting.proofs.reading.literal.Goals as goal
 
 pub returns-in_err-run : goal.returns-in_err-run
 returns-in_err-run c =

@@ -5,7 +5,7 @@ ghost use Rattle.fort_tree.specs.declared.declarations.Function.{Function as a_f
 ghost use Rattle.fort_tree.specs.declared.expr.Expr.{Expr as an_expr};
 ghost use Rattle.fort_tree.specs.declared.expr.Run.{Run as a_run};
 ghost use Rattle.fort_tree.specs.declared.spot.Spot.{Spot};
-ghost use Rattle.fort_front.specs.Greeting as spec;
+ghost use Rattle.fort_greeting.specs.Greeting as spec;
 
 use fort_base::Bytes;
 use fort_token::Tokens;
@@ -14,8 +14,9 @@ use fort_tree::{
     Name, Run, RunPart, SimpleType, TypeTree,
 };
 
-/// The text that a component of these tokens prints, in UTF-8, where it is a greeting.
-pub(crate) fn greeting<'t>(tokens: &'t Tokens, component: &Component) -> Option<&'t Bytes>
+/// The text that a component of these tokens prints, in UTF-8, where it is a greeting; `None` exactly where it is none. It takes no
+/// memory. The chapter is "What is built".
+pub fn greeting<'t>(tokens: &'t Tokens, component: &Component) -> Option<&'t Bytes>
     ensures { (text : Seq ℕ) → (option_copied result ≡ Some text) ↔ spec.IsGreeting tokens.now component.now text }
 {
     if !is_executable(tokens, component.export) {

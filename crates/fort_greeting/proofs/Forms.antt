@@ -14,7 +14,7 @@ use Rattle.fort_tree.specs.declared.expr.Postfix.{Postfix}
 use Rattle.fort_tree.specs.declared.expr.Run.{Run}
 use Rattle.fort_tree.specs.declared.delimited.Delimited.TheOpen.{Atom-F, Expr-F, RunPart-F}
 use Rattle.fort_tree.specs.declared.delimited.Delimited.TheViews as views
-use Rattle.fort_front.specs.Greeting.{only_run, lone_run, literal, only_expr, in_parentheses, beside, IsFunction, IsCall}
+use Rattle.fort_greeting.specs.Greeting.{only_run, lone_run, literal, only_expr, in_parentheses, beside, IsFunction, IsCall}
 
 -- ---- a run
 

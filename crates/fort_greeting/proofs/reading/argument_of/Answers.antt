@@ -2,9 +2,9 @@ use Rattle.std.proofs.Common.{◌≡◌, ◌∷◌, [], None, rules, refl, sym, 
 use Rattle.std.specs.Option.{option_copied}
 use Rattle.fort_tree.specs.declared.expr.RunPart.{RunPart}
 use Rattle.fort_tree.specs.declared.expr.RunPart.TheVariants as a_run_part
-use Rattle.fort_front.specs.Greeting.{IsCall}
-use Rattle.fort_front.proofs.Forms.{calls, part_of_call, no_postfix, found, none_found, none_such}
-use Rattle.fort_front.proofs.greeting.argument_of.Goals as goal
+use Rattle.fort_greeting.specs.Greeting.{IsCall}
+use Rattle.fort_greeting.proofs.Forms.{calls, part_of_call, no_postfix, found, none_found, none_such}
+use Rattle.fort_greeting.proofs.reading.argument_of.Goals as goal
 
 pub returns-in_err-part : goal.returns-in_err-part
 returns-in_err-part c =

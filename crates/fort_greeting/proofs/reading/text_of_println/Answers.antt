@@ -2,9 +2,9 @@ use Rattle.std.proofs.Common.{◌≡◌, None, rules, refl, sym, ap, ◌∙◌, 
 use Rattle.std.specs.Prelude.{codes}
 use Rattle.fort_tree.specs.declared.expr.Expr.{Expr}
 use Rattle.fort_tree.specs.declared.expr.Run.{Run}
-use Rattle.fort_front.specs.Greeting.{IsCall, IsPrintln, literal}
-use Rattle.fort_front.proofs.Forms.{found, none_found, none_such}
-use Rattle.fort_front.proofs.greeting.text_of_println.Goals as goal
+use Rattle.fort_greeting.specs.Greeting.{IsCall, IsPrintln, literal}
+use Rattle.fort_greeting.proofs.Forms.{found, none_found, none_such}
+use Rattle.fort_greeting.proofs.reading.text_of_println.Goals as goal
 
 pub returns-in_err-argument : goal.returns-in_err-argument
 returns-in_err-argument c =

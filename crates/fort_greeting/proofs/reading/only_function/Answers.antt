@@ -1,8 +1,8 @@
 use Rattle.std.proofs.Common.{◌≡◌, ◌∷◌, [], None, rules, refl, ap, ◌∙◌}
 use Rattle.std.specs.Option.{option_copied}
-use Rattle.fort_front.specs.Greeting.{declared}
-use Rattle.fort_front.proofs.Forms.{found, none_found, none_such}
-use Rattle.fort_front.proofs.greeting.only_function.Goals as goal
+use Rattle.fort_greeting.specs.Greeting.{declared}
+use Rattle.fort_greeting.proofs.Forms.{found, none_found, none_such}
+use Rattle.fort_greeting.proofs.reading.only_function.Goals as goal
 
 pub returns-in_err-declared : goal.returns-in_err-declared
 returns-in_err-declared c =

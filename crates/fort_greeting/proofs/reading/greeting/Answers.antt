@@ -1,9 +1,9 @@
 use Rattle.std.proofs.Common.{◌≡◌, None, rules, refl, sym, ap, ◌∙◌, subst}
 use Rattle.std.specs.Prelude.{slice_get}
 use Rattle.std.specs.Option.{option_copied}
-use Rattle.fort_front.specs.Greeting.{IsRun, IsGreeting}
-use Rattle.fort_front.proofs.Forms.{found, none_found, none_such}
-use Rattle.fort_front.proofs.greeting.greeting.Goals as goal
+use Rattle.fort_greeting.specs.Greeting.{IsRun, IsGreeting}
+use Rattle.fort_greeting.proofs.Forms.{found, none_found, none_such}
+use Rattle.fort_greeting.proofs.reading.greeting.Goals as goal
 
 pub returns-in_err-function : goal.returns-in_err-function
 returns-in_err-function c =

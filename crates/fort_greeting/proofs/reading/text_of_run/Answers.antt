@@ -1,5 +1,5 @@
 use Rattle.std.proofs.Common.{◌≡◌, None, rules, refl}
-use Rattle.fort_front.proofs.greeting.text_of_run.Goals as goal
+use Rattle.fort_greeting.proofs.reading.text_of_run.Goals as goal
 
 pub returns : goal.returns
 returns c = λ text. (
