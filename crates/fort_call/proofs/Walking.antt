@@ -4,7 +4,7 @@ use Rattle.std.specs.Prelude.{slice_get, get_or, option_and_then}
 use Rattle.std.proofs.lemmas.Option.{slice_get_within, slice_get_read}
 use Rattle.fort_base.specs.declared.table.TypeTable.{TypeTable}
 use Rattle.fort_base.specs.declared.ty.Ty.{Ty}
-use Rattle.fort_types.specs.Hierarchy.{Hierarchy}
+use Rattle.fort_types.specs.Hierarchy.{DeclaredTypes}
 use Rattle.fort_types.specs.Table.{HasRows}
 use Rattle.fort_set.specs.declared.member.Member.{Member}
 use Rattle.fort_set.specs.declared.member.MemberSet.{MemberSet}
@@ -21,11 +21,11 @@ same_there xs i j x y p q e = let r : slice_get xs i ≡ Some y = subst (λ k. s
 
 -- ---- one declaration more
 
-least_before : (h : Hierarchy) (ms : List Member) (ts : List Ty) (to : ℕ) (d : Member) → IsLeast h ms ts (to + 1) d → IsLeast h ms ts to d
+least_before : (h : DeclaredTypes) (ms : List Member) (ts : List Ty) (to : ℕ) (d : Member) → IsLeast h ms ts (to + 1) d → IsLeast h ms ts to d
 least_before h ms ts to d l = record { applicable = l.applicable; least = λ k e b q. l.least k e (omega arith) q }
 
 -- A declaration that is taken leads.
-taken : (h : Hierarchy) (ms : List Member) (ts : List Ty) (to : ℕ) (best : Option ℕ) (o : Option Member) (next : Member) → slice_get ms to ≡ Some next
+taken : (h : DeclaredTypes) (ms : List Member) (ts : List Ty) (to : ℕ) (best : Option ℕ) (o : Option Member) (next : Member) → slice_get ms to ≡ Some next
     → o ≡ option_and_then (λ i. slice_get ms i) best → Leads h ms ts to best → IsTaken h ts o next → Leads h ms ts (to + 1) (Some to)
 taken h ms ts to None None next q f l t = (omega arith, next, q, t, λ j d b e w. first j d (near j to b) e w)
   where
@@ -43,7 +43,7 @@ taken h ms ts to (Some b) (Some g) next q f l t = (omega arith, next, q, t.0, λ
     first j d (inr c) e w = subst (λ (x : Member). IsMoreSpecific h next x) (same_there ms to j next d q e c) (along_itself h next.parameters)
 
 -- Where none is taken the one before it still leads.
-kept : (h : Hierarchy) (ms : List Member) (ts : List Ty) (to : ℕ) (best : Option ℕ) (o : Option Member) (next : Member) → slice_get ms to ≡ Some next
+kept : (h : DeclaredTypes) (ms : List Member) (ts : List Ty) (to : ℕ) (best : Option ℕ) (o : Option Member) (next : Member) → slice_get ms to ≡ Some next
     → o ≡ option_and_then (λ i. slice_get ms i) best → Leads h ms ts to best → (IsTaken h ts o next → ⊥) → Leads h ms ts (to + 1) best
 kept h ms ts to None None next q f l t = λ j d b e a. first j d (near j to b) e a
   where
@@ -68,12 +68,12 @@ pub none_yet : (table : TypeTable) (ms : List Member) (ts : List Ty) → LeadsSo
 none_yet table ms ts = record { told = λ h r. λ j d b e a. omega arith }
 
 pub one_taken : (table : TypeTable) (ms : List Member) (ts : List Ty) (to : ℕ) (best : Option ℕ) (o : Option Member) (next : Member) (b : Bool) → slice_get ms to ≡ Some next
-    → o ≡ option_and_then (λ i. slice_get ms i) best → ((h : Hierarchy) → HasRows h table → IsTrue b ↔ IsTaken h ts o next) → true ≡ b
+    → o ≡ option_and_then (λ i. slice_get ms i) best → ((h : DeclaredTypes) → HasRows h table → IsTrue b ↔ IsTaken h ts o next) → true ≡ b
     → LeadsSoFar table ms ts to best → LeadsSoFar table ms ts (to + 1) (Some to)
 one_taken table ms ts to best o next b q f t e l = record { told = λ h r. taken h ms ts to best o next q f (l.told h r) ((t h r).0 (sym e)) }
 
 pub one_kept : (table : TypeTable) (ms : List Member) (ts : List Ty) (to : ℕ) (best : Option ℕ) (o : Option Member) (next : Member) (b : Bool) → slice_get ms to ≡ Some next
-    → o ≡ option_and_then (λ i. slice_get ms i) best → ((h : Hierarchy) → HasRows h table → IsTrue b ↔ IsTaken h ts o next) → false ≡ b
+    → o ≡ option_and_then (λ i. slice_get ms i) best → ((h : DeclaredTypes) → HasRows h table → IsTrue b ↔ IsTaken h ts o next) → false ≡ b
     → LeadsSoFar table ms ts to best → LeadsSoFar table ms ts (to + 1) best
 one_kept table ms ts to best o next b q f t e l = record { told = λ h r. kept h ms ts to best o next q f (l.told h r) (λ w. let z : b ≡ true = (t h r).1 w in absurd cc) }
 
@@ -84,14 +84,14 @@ in_length xs i x e = slice_get_within xs i x e
 
 -- None is applicable, so none is most specific.
 pub none_leads : (table : TypeTable) (s : MemberSet) (ms : List Member) (ts : List Ty) → ms ≡ s.members → LeadsSoFar table ms ts (length ms) None
-    → (h : Hierarchy) → HasRows h table → (i : ℕ) → IsMostSpecific h s ts i → ⊥
+    → (h : DeclaredTypes) → HasRows h table → (i : ℕ) → IsMostSpecific h s ts i → ⊥
 none_leads table s ms ts e l h r i m =
     let is : slice_get ms i ≡ Some m.chosen = subst (λ xs. slice_get xs i ≡ Some m.chosen) (sym e) m.is in
     l.told h r i m.chosen (in_length ms i m.chosen is) is m.applicable
 
 -- The one that leads is over all, so it is most specific.
 pub over_all : (table : TypeTable) (s : MemberSet) (ms : List Member) (ts : List Ty) (b : ℕ) (chosen : Member) → ms ≡ s.members → LeadsSoFar table ms ts (length ms) (Some b)
-    → chosen ≡ get_or ms b chosen → (h : Hierarchy) → HasRows h table → IsOver h ms ts chosen → IsMostSpecific h s ts b
+    → chosen ≡ get_or ms b chosen → (h : DeclaredTypes) → HasRows h table → IsOver h ms ts chosen → IsMostSpecific h s ts b
 over_all table s ms ts b chosen e l f h r o =
     let w = l.told h r in
     let q : slice_get ms b ≡ Some chosen = slice_get_read ms (length ms) b chosen refl w.0 f in
@@ -105,7 +105,7 @@ over_all table s ms ts b chosen e l f h r o =
 
 -- It isn't over all, so none is.
 pub not_over : (table : TypeTable) (s : MemberSet) (ms : List Member) (ts : List Ty) (b : ℕ) (chosen : Member) → ms ≡ s.members → LeadsSoFar table ms ts (length ms) (Some b)
-    → chosen ≡ get_or ms b chosen → (h : Hierarchy) → HasRows h table → (IsOver h ms ts chosen → ⊥) → (i : ℕ) → IsMostSpecific h s ts i → ⊥
+    → chosen ≡ get_or ms b chosen → (h : DeclaredTypes) → HasRows h table → (IsOver h ms ts chosen → ⊥) → (i : ℕ) → IsMostSpecific h s ts i → ⊥
 not_over table s ms ts b chosen e l f h r n i m =
     let w = l.told h r in
     let q : slice_get ms b ≡ Some chosen = slice_get_read ms (length ms) b chosen refl w.0 f in
@@ -122,13 +122,13 @@ pub none_asked : (table : TypeTable) (ms : List Member) (ts : List Ty) (chosen :
 none_asked table ms ts chosen = record { told = λ h r j d b e. absurd (omega arith) }
 
 pub one_asked : (table : TypeTable) (ms : List Member) (ts : List Ty) (chosen : Member) (to : ℕ) (x : Member) → slice_get ms to ≡ Some x
-    → ((h : Hierarchy) → HasRows h table → GivesWay h ts chosen x) → OverSoFar table ms ts chosen to → OverSoFar table ms ts chosen (to + 1)
+    → ((h : DeclaredTypes) → HasRows h table → GivesWay h ts chosen x) → OverSoFar table ms ts chosen to → OverSoFar table ms ts chosen (to + 1)
 one_asked table ms ts chosen to x q g o = record { told = λ h r j d b e. next h r j d (near j to b) e }
   where
-    next : (h : Hierarchy) → HasRows h table → (j : ℕ) (d : Member) → (j < to) ⊎ (j ≡ to) → slice_get ms j ≡ Some d → GivesWay h ts chosen d
+    next : (h : DeclaredTypes) → HasRows h table → (j : ℕ) (d : Member) → (j < to) ⊎ (j ≡ to) → slice_get ms j ≡ Some d → GivesWay h ts chosen d
     next h r j d (inl b) e = o.told h r j d b e
     next h r j d (inr b) e = subst (λ (x : Member). GivesWay h ts chosen x) (same_there ms to j x d q e b) (g h r)
 
 pub all_asked : (table : TypeTable) (ms : List Member) (ts : List Ty) (chosen : Member) (to : ℕ) → length ms ≤ to → OverSoFar table ms ts chosen to
-    → (h : Hierarchy) → HasRows h table → IsOver h ms ts chosen
+    → (h : DeclaredTypes) → HasRows h table → IsOver h ms ts chosen
 all_asked table ms ts chosen to l o h r j d e = o.told h r j d (let m = in_length ms j d e in omega arith) e

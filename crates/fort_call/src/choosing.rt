@@ -1,7 +1,7 @@
 //! The most specific declaration, found by two walks over a set.
 ghost use Rattle.std.specs.Prelude.{◌≡◌, ◌↔◌, IsTrue, MatchOption, ℕ, length, slice_get, option_and_then, List as Seq};
 ghost use Rattle.std.specs.Option.{option_copied};
-ghost use Rattle.fort_types.specs.declared.hierarchy.Declared.{Declared};
+ghost use Rattle.fort_types.specs.declared.hierarchy.DeclaredType.{DeclaredType};
 ghost use Rattle.fort_types.specs.Table.{HasRows};
 ghost use Rattle.fort_set.specs.Applicable.{IsApplicable};
 ghost use Rattle.fort_set.specs.Best.{IsMostSpecific};
@@ -15,7 +15,7 @@ use fort_set::{Member, MemberSet};
 /// the table has; `None` where there is none, which is so where no declaration is applicable, or where the set breaks a rule of the
 /// chapter "Overload rules". It takes no memory, and each declaration is asked twice.
 pub fn most_specific(table: &TypeTable, set: &MemberSet, types: &List<Ty>) -> Option<usize>
-    ensures { (h : Seq Declared) → HasRows h table.now →
+    ensures { (h : Seq DeclaredType) → HasRows h table.now →
         MatchOption result ((i : ℕ) → IsMostSpecific h set.now types.now i → ⊥) (λ i. IsMostSpecific h set.now types.now i) }
 {
     let members = set.members.as_slice();
@@ -53,7 +53,7 @@ fn found(members: &[Member], at: Option<usize>) -> Option<&Member>
 
 /// Whether a declaration is applicable, and more specific than the one that was found so far.
 fn is_taken(table: &TypeTable, types: &List<Ty>, best: Option<&Member>, next: &Member) -> bool
-    ensures { (h : Seq Declared) → HasRows h table.now → IsTrue result ↔ IsTaken h types.now (option_copied best.entry) next.now }
+    ensures { (h : Seq DeclaredType) → HasRows h table.now → IsTrue result ↔ IsTaken h types.now (option_copied best.entry) next.now }
 {
     if !are_below(table, types, &next.parameters) {
         return false;
@@ -66,7 +66,7 @@ fn is_taken(table: &TypeTable, types: &List<Ty>, best: Option<&Member>, next: &M
 
 /// Whether a declaration isn't applicable, or another one is more specific.
 fn gives_way(table: &TypeTable, types: &List<Ty>, chosen: &Member, other: &Member) -> bool
-    ensures { (h : Seq Declared) → HasRows h table.now → IsTrue result ↔ GivesWay h types.now chosen.now other.now }
+    ensures { (h : Seq DeclaredType) → HasRows h table.now → IsTrue result ↔ GivesWay h types.now chosen.now other.now }
 {
     !are_below(table, types, &other.parameters)
         || are_below(table, &chosen.parameters, &other.parameters)
@@ -74,7 +74,7 @@ fn gives_way(table: &TypeTable, types: &List<Ty>, chosen: &Member, other: &Membe
 
 /// Whether a declaration is more specific than each applicable one.
 fn is_over(table: &TypeTable, members: &[Member], types: &List<Ty>, chosen: &Member) -> bool
-    ensures { (h : Seq Declared) → HasRows h table.now → IsTrue result ↔ IsOver h members.now types.now chosen.now }
+    ensures { (h : Seq DeclaredType) → HasRows h table.now → IsTrue result ↔ IsOver h members.now types.now chosen.now }
 {
     for member in members {
         if !gives_way(table, types, chosen, member) {

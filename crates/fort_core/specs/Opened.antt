@@ -44,6 +44,7 @@ node_at (Term-F.Also blocks) = a_node.Also blocks
 node_at (Term-F.Try body variable clauses last) = a_node.Try body variable clauses last
 node_at (Term-F.Atomic mode body) = a_node.Atomic mode body
 node_at (Term-F.Asleep marks body) = a_node.Asleep marks body
+node_at (Term-F.Stepped part) = a_node.Stepped part
 
 -- a term, as its node
 abbrev pub opened : Term → Node

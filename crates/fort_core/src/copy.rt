@@ -180,6 +180,7 @@ impl Term {
                 let (marks, body) = both(copy_marks(alloc, marks), copy_boxed(alloc, body))?;
                 Ok(Term::Asleep(marks, body))
             }
+            Term::Stepped(part) => Ok(Term::Stepped(copy_boxed(alloc, part)?)),
         }
     }
 }

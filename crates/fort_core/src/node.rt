@@ -40,6 +40,7 @@ pub enum Node {
     Try(Term, u32, List<(Term, Ty)>, Option<Term>),
     Atomic(Mode, Term),
     Asleep(List<(Loc, Value)>, Term),
+    Stepped(Term),
 }
 
 /// A value whose parts can be taken; each variant is that of the value.

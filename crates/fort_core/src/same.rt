@@ -87,6 +87,7 @@ impl Term {
             }
             Term::Atomic(mode, body) => self.is_atomic(*mode, body),
             Term::Asleep(marks, body) => self.is_asleep(marks, body),
+            Term::Stepped(part) => self.is_stepped(part),
         }
     }
 }

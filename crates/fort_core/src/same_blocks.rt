@@ -186,4 +186,14 @@ impl Term {
             _ => false,
         }
     }
+
+    #[cycle(same)]
+    pub(crate) fn is_stepped(&self, part: &Boxed<Term>) -> bool
+        ensures { IsTrue result ↔ (self.now ≡ Term.Stepped part.now) }
+    {
+        match self {
+            Term::Stepped(a) => same_boxed(a, part),
+            _ => false,
+        }
+    }
 }

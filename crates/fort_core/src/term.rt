@@ -100,6 +100,10 @@ pub enum Term {
     /// that it began from, with the values there, in rising order of the locations, each once. It sleeps while
     /// all these values are there. Stands only in a run. One attempt takes it on as `Atomic`.
     Asleep(List<(Loc, Value)>, Boxed<Term>),
+    /// A part of a parallel form in which a step was taken; once it is finished it stands by itself. Once a part
+    /// beside it is a throw, it goes on to its end, while an unfinished part that isn't so marked takes no step
+    /// any more. Stands only in a run, and only there. Has no step of its own.
+    Stepped(Boxed<Term>),
 }
 
 // Along the rests of blocks by a loop, so that a long block takes no stack.
@@ -196,6 +200,7 @@ impl Drop for Term {
                     drop_marks(marks);
                     return drop_boxed(body);
                 }
+                Term::Stepped(part) => return drop_boxed(part),
             }
         }
     }
@@ -295,6 +300,7 @@ impl Term {
             ),
             Term::Atomic(mode, body) => Node::Atomic(mode, body.into_inner()),
             Term::Asleep(marks, body) => Node::Asleep(marks, body.into_inner()),
+            Term::Stepped(part) => Node::Stepped(part.into_inner()),
         }
     }
 }

@@ -54,7 +54,7 @@ use Rattle.fort_parse.specs.Blocks.{is_ended}
 use Rattle.fort_parse.proofs.Entries.{StopsAfter, stops_last, first_apart, gets_entries}
 use Rattle.fort_declarations.specs.Names.{opr_name}
 use Rattle.fort_declarations.specs.Methods.{operator_method_from}
-use Rattle.fort_starts.specs.Declarations.{begins_trait_member, begins_object_member, begins_declaration_kind, begins_trait_entry, begins_object_entry, begins_declared}
+use Rattle.fort_first.specs.Declarations.{begins_trait_member, begins_object_member, begins_declaration_kind, begins_trait_entry, begins_object_entry, begins_declared}
 use Rattle.fort_declarations.specs.Declarations.{trait_field, trait_operator, trait_named, trait_member_at, trait_entry, trait_entries, trait_from, object_variable, object_var, object_operator, object_named, object_member_at, object_entry, object_entries, object_rest, object_from, variable_declaration, var_declaration, operator_declaration, named_declaration, declaration_at, declared, declarations, export_from, export, component}
 use Rattle.fort_declarations.proofs.Parts.{PartLaws}
 use Rattle.fort_declarations.proofs.Followers.{Follows, Ended, ended, declaration_follows, trait_follows, object_follows, end_follows, end_begins_no_declaration, end_begins_no_trait_member, end_begins_no_object_member}

@@ -36,11 +36,11 @@ use Rattle.fort_reading.proofs.Laws.{Only, only_read, only_failed, only_then, on
 use Rattle.fort_reading.proofs.Taking.{only_name, only_word, only_colon, only_called}
 use Rattle.fort_reading.proofs.Yields.{Yields, both}
 use Rattle.fort_parse_types.proofs.Sound.{sound_type_tree}
-use Rattle.fort_starts.specs.Beginnings.{begins_apart_of}
+use Rattle.fort_first.specs.Beginnings.{begins_apart_of}
 use Rattle.fort_parse.specs.Blocks.{is_ended}
 use Rattle.fort_parse.proofs.Statements.{YieldsVariable}
 use Rattle.fort_parse.proofs.Entries.{YieldsEntry, YieldsEntries, begun, only_entries}
-use Rattle.fort_starts.specs.Declarations.{begins_trait_member, begins_object_member, begins_declaration_kind, begins_trait_entry, begins_object_entry, begins_declared}
+use Rattle.fort_first.specs.Declarations.{begins_trait_member, begins_object_member, begins_declaration_kind, begins_trait_entry, begins_object_entry, begins_declared}
 use Rattle.fort_declarations.specs.Declarations.{trait_field, trait_operator, trait_named, trait_member_at, trait_entry, trait_entries, trait_from, object_variable, object_var, object_operator, object_named, object_member_at, object_entry, object_entries, object_rest, object_from, variable_declaration, var_declaration, operator_declaration, named_declaration, word_declaration, declaration_for, declaration_at, declared, declarations, export_from, export, component}
 use Rattle.fort_declarations.proofs.Parts.{PartLaws}
 use Rattle.fort_declarations.proofs.NamesSound.{sound_semicolon, sound_opr_name, sound_extends, sound_excludes, sound_comprises, sound_object_parameters}

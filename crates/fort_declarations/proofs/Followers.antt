@@ -15,12 +15,12 @@ use Rattle.fort_reading.specs.Words.{is_mark, is_eq, same_mark, sees}
 use Rattle.fort_reading.proofs.Taking.{not_mark, not_this, is_eq_is}
 use Rattle.fort_reading.proofs.Yields.{both, false_right}
 use Rattle.fort_parse_types.proofs.Complete.{type_stops, type_stops_at}
-use Rattle.fort_starts.specs.Beginnings.{assigns, begins_apart_of}
+use Rattle.fort_first.specs.Beginnings.{assigns, begins_apart_of}
 use Rattle.fort_parse.proofs.Statements.{expr_stops}
 use Rattle.fort_parse.proofs.FormFirsts.{line_stops}
 use Rattle.fort_parse.proofs.Stops.{mark_ends_expr, word_ends_expr}
 use Rattle.fort_parse.proofs.Entries.{StopsAfter}
-use Rattle.fort_starts.specs.Declarations.{begins_declaration_kind, begins_trait_member, begins_object_member}
+use Rattle.fort_first.specs.Declarations.{begins_declaration_kind, begins_trait_member, begins_object_member}
 
 -- what ends a declaration or a member
 pub record Follows (next : Option Token) : Type 0 where

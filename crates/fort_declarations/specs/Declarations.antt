@@ -27,7 +27,7 @@ use Rattle.fort_tree.specs.Tokens.{Spellings}
 use Rattle.fort_reading.specs.Parser.{Parser, Eater, pure, wrong, ◌>>=◌, look, fork, fork_eater, token, accept, choose, no_eater, ◌>>|◌, chain, same_budget}
 use Rattle.fort_reading.specs.Words.{is_mark, is_word, is_range, spot_if, name_of, called_of, sees}
 use Rattle.fort_parse_types.specs.Types.{type_tree}
-use Rattle.fort_starts.specs.Declarations.{begins_trait_entry, begins_object_entry, begins_declared}
+use Rattle.fort_first.specs.Declarations.{begins_trait_entry, begins_object_entry, begins_declared}
 use Rattle.fort_parse.specs.Blocks.{is_ended}
 use Rattle.fort_parse.specs.Runs.{variable_at}
 use Rattle.fort_declarations.specs.Names.{semicolon, opr_name, extends, excludes, comprises, object_parameters}

@@ -18,7 +18,7 @@ use Rattle.fort_tree.specs.declared.declarations.Parameters.{Parameters}
 use Rattle.fort_tree.specs.Tokens.{Spellings}
 use Rattle.fort_reading.specs.Parser.{Parser, Eater, pure, wrong, ◌>>=◌, fork, fork_eater, token, accept, ◌>>|◌, chain, same_budget}
 use Rattle.fort_reading.specs.Words.{is_mark, is_word, is_range, is_eq, spot_if, sees}
-use Rattle.fort_starts.specs.Declarations.{ends_without_body}
+use Rattle.fort_first.specs.Declarations.{ends_without_body}
 use Rattle.fort_parse_types.specs.Types.{type_tree, parameter, next_parameter, maybe_parameters}
 use Rattle.fort_parse.specs.Runs.{expr_at}
 use Rattle.fort_declarations.specs.Names.{takes_one, takes_two, sees_second}

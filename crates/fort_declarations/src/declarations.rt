@@ -6,8 +6,8 @@ ghost use Rattle.fort_declarations.specs.Declarations as spec;
 
 use crate::syntax::Syntax;
 use fort_base::List;
+use fort_first::{begins_declared, begins_object_entry, begins_trait_entry};
 use fort_reading::{Cursor, Fault, add};
-use fort_starts::{begins_declared, begins_object_entry, begins_trait_entry};
 use fort_token::{Kind, Mark, Reserved};
 use fort_tree::{
     Declaration, Declared, FunctionName, Name, Object, ObjectEntry, ObjectMember, ObjectParameters,

@@ -8,8 +8,8 @@ ghost use Rattle.fort_declarations.specs.Methods as spec;
 use crate::names::{takes_one, takes_two};
 use crate::syntax::Syntax;
 use fort_base::List;
+use fort_first::ends_without_body;
 use fort_reading::{Cursor, Fault, add, single};
-use fort_starts::ends_without_body;
 use fort_token::{Mark, Reserved};
 use fort_tree::{
     Function, FunctionName, Method, MethodBody, MethodParameter, MethodParameters,

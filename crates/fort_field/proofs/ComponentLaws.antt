@@ -9,10 +9,10 @@ use Rattle.fort_tree.specs.declared.declarations.Component.{Component}
 use Rattle.fort_tree.specs.declared.declarations.Declaration.{Declaration}
 use Rattle.fort_tree.specs.declared.declarations.Declaration.TheVariants as declaration
 use Rattle.fort_tree.specs.declared.declarations.Declared as in_tree
-use Rattle.fort_types.specs.declared.hierarchy.Declared.{Declared}
-use Rattle.fort_types.specs.declared.hierarchy.Kind.TheVariants as a_kind
-use Rattle.fort_types.specs.Hierarchy.{Hierarchy}
-use Rattle.fort_hier.specs.declared.heads.Head.{Head}
+use Rattle.fort_types.specs.declared.hierarchy.DeclaredType.{DeclaredType}
+use Rattle.fort_types.specs.declared.hierarchy.TypeKind.TheVariants as a_kind
+use Rattle.fort_types.specs.Hierarchy.{DeclaredTypes}
+use Rattle.fort_hier.specs.declared.heads.TypeHead.{TypeHead}
 use Rattle.fort_hier.specs.declared.numbers.Numbers.{Numbers}
 use Rattle.fort_hier.specs.Heads.{head_of, heads_from, heads_of, head_place}
 use Rattle.fort_hier.specs.Hierarchies.{declares, places_of}
@@ -62,9 +62,9 @@ module _ (c : Component) where
 
   -- ---- what the code's lists are
 
-  module _ {names : List Spelling} {heads : List Head} {numbers : Numbers} {size : ℕ} (e : names ≡ c.names) (f : heads ≡ heads_of c)
+  module _ {names : List Spelling} {heads : List TypeHead} {numbers : Numbers} {size : ℕ} (e : names ≡ c.names) (f : heads ≡ heads_of c)
       (known : HoldsNumbers (all_types c.names heads) numbers) (long : size ≡ 18 + length heads) where
-    pub types_are : {types : Hierarchy} → ((list : List Spelling) → HoldsNumbers list numbers → length list ≡ size → types ≡ built_in_declared ++ map (declared_by list names) heads) → types ≡ declares c
+    pub types_are : {types : DeclaredTypes} → ((list : List Spelling) → HoldsNumbers list numbers → length list ≡ size → types ≡ built_in_declared ++ map (declared_by list names) heads) → types ≡ declares c
     types_are w = w (all_types c.names heads) known (all_long c.names heads ∙ sym long) ∙ ap (λ z. built_in_declared ++ map (declared_by (all_types c.names heads) z) heads) e
         ∙ ap (λ z. built_in_declared ++ map (declared_by (all_types c.names z) c.names) z) f
 
@@ -75,7 +75,7 @@ module _ (c : Component) where
         ∙ ap (λ z. replicate 17 [] ++ flat_map (declared_own (all_types c.names z) c.names) declarations) f
         ∙ ap (λ z. replicate 17 [] ++ flat_map (declared_own (types_of c) c.names) z) g
 
-  pub places_are : {places : List Place} {heads : List Head} → heads ≡ heads_of c → places ≡ map head_place heads → places ≡ places_of c
+  pub places_are : {places : List Place} {heads : List TypeHead} → heads ≡ heads_of c → places ≡ map head_place heads → places ≡ places_of c
   places_are f w = w ∙ ap (map head_place) f
 
 -- ---- built-in types
@@ -97,7 +97,7 @@ from_front (z ∷ xs) ys zero x l e = e
 from_front (z ∷ xs) ys (suc k) x l e = from_front xs ys k x (omega arith) e
 
 -- What a type extends has a number below 2.
-abbrev IsLow : Declared → Type 0
+abbrev IsLow : DeclaredType → Type 0
 IsLow d = (b : ℕ) → Contains d.extends b → b < 2
 
 low_none : IsLow (plain a_kind.Trait [])
@@ -107,7 +107,7 @@ low_one : (kind : _) (x : ℕ) → x < 2 → IsLow (plain kind (x ∷ []))
 low_one kind x l b (zero, m, e) = subst (λ z. z < 2) e l
 low_one kind x l b (suc k, m, e) = absurd (omega arith)
 
-low_at : (a : ℕ) (d : Declared) → slice_get built_in_declared a ≡ Some d → IsLow d
+low_at : (a : ℕ) (d : DeclaredType) → slice_get built_in_declared a ≡ Some d → IsLow d
 low_at zero d e = subst IsLow (let s : plain a_kind.Trait [] ≡ d = cc in s) low_none
 low_at (suc zero) d e = subst IsLow (let s : plain a_kind.Trait (0 ∷ []) ≡ d = cc in s) (low_one a_kind.Trait 0 (omega arith))
 low_at (suc (suc k)) d e = elim (in_front 5 (plain a_kind.Leaf (0 ∷ [])) (replicate 10 (plain a_kind.Object (1 ∷ []))) k d e) as (λ _. IsLow d) [

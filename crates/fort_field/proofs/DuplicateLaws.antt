@@ -4,9 +4,9 @@ use Rattle.std.specs.List.{slice_get, Contains}
 use Rattle.std.proofs.lemmas.Option.{slice_get_within, slice_get-get_or}
 use Rattle.fort_base.specs.declared.ids.NameId.{NameId}
 use Rattle.fort_base.specs.declared.refusal.Place.{Place}
-use Rattle.fort_types.specs.declared.hierarchy.Declared.{Declared}
-use Rattle.fort_types.specs.declared.hierarchy.Kind.TheVariants as a_kind
-use Rattle.fort_types.specs.Hierarchy.{Hierarchy}
+use Rattle.fort_types.specs.declared.hierarchy.DeclaredType.{DeclaredType}
+use Rattle.fort_types.specs.declared.hierarchy.TypeKind.TheVariants as a_kind
+use Rattle.fort_types.specs.Hierarchy.{DeclaredTypes}
 use Rattle.fort_tree.specs.Limits.{IsBefore}
 use Rattle.fort_hier.specs.Earliest.{IsEarliest, IsFirst, Keeps}
 use Rattle.fort_hier.proofs.First.{Among, not_before, first_same, first_more, first_all, same_place}
@@ -14,7 +14,7 @@ use Rattle.fort_set.specs.declared.field.Field.{Field}
 use Rattle.fort_field.specs.Inherited.{DeclaresNone, Has, inherited}
 use Rattle.fort_field.specs.Gathering.{HasAll}
 use Rattle.fort_field.specs.Rules.{IsRepeated, DeclaresTwice, GetsTwo, IsDuplicate}
-use Rattle.fort_field.specs.Walks.{Names, KeepsAny, Differ, DifferAt, SomeDiffer, fields_of}
+use Rattle.fort_field.specs.Walks.{HasFieldNamed, KeepsAny, Differ, DifferAt, SomeDiffer, fields_of}
 use Rattle.fort_field.proofs.Items.{get_of, of_get}
 use Rattle.fort_field.proofs.InheritLaws.{declares_of, none_named, none_declared}
 use Rattle.fort_field.proofs.RepeatLaws.{TwiceAt}
@@ -82,11 +82,11 @@ twice_all own i best l f = first_all (TwiceAt own) (DeclaresTwice own) i best
 -- ---- both ways of breaking 451, one after the other
 
 -- The first is that a type declares two; behind it stand the types' names, one after another.
-abbrev pub DuplicateAt : Hierarchy → List (List Field) → List Place → ℕ → Place → Type 0
+abbrev pub DuplicateAt : DeclaredTypes → List (List Field) → List Place → ℕ → Place → Type 0
 DuplicateAt h own places zero place = DeclaresTwice own place
 DuplicateAt h own places (suc k) place = (slice_get places k ≡ Some place) × GetsTwo h own (length h - length places + k)
 
-pub duplicate_first : (h : Hierarchy) (own : List (List Field)) (places : List Place) (best : Option Place) → IsFirst (DeclaresTwice own) best → IsFirst (Among (DuplicateAt h own places) 1) best
+pub duplicate_first : (h : DeclaredTypes) (own : List (List Field)) (places : List Place) (best : Option Place) → IsFirst (DeclaresTwice own) best → IsFirst (Among (DuplicateAt h own places) 1) best
 duplicate_first h own places best f = first_as (DeclaresTwice own) (Among (DuplicateAt h own places) 1) best (λ place w. (0, omega arith, w)) (λ place w. back w.0 place w.1 w.2) f
   where
     back : (k : ℕ) (place : Place) → k < 1 → DuplicateAt h own places k place → DeclaresTwice own place
@@ -94,18 +94,18 @@ duplicate_first h own places best f = first_as (DeclaresTwice own) (Among (Dupli
     back (suc k) place l w = absurd (omega arith)
 
 -- a type that gets no two, and one that does
-pub duplicate_same : (h : Hierarchy) (own : List (List Field)) (places : List Place) (i : ℕ) (best : Option Place) → (GetsTwo h own (length h - length places + i) → ⊥)
+pub duplicate_same : (h : DeclaredTypes) (own : List (List Field)) (places : List Place) (i : ℕ) (best : Option Place) → (GetsTwo h own (length h - length places + i) → ⊥)
     → IsFirst (Among (DuplicateAt h own places) (1 + i)) best → IsFirst (Among (DuplicateAt h own places) (1 + (i + 1))) best
 duplicate_same h own places i best n f = let e : 1 + i ≡ suc i = omega arith in let g : suc i + 1 ≡ 1 + (i + 1) = omega arith in subst (λ z. IsFirst (Among (DuplicateAt h own places) z) best) g
     (first_same (DuplicateAt h own places) (suc i) best (λ place w. n w.1) (subst (λ z. IsFirst (Among (DuplicateAt h own places) z) best) e f))
 
-pub duplicate_more : (h : Hierarchy) (own : List (List Field)) (places : List Place) (i : ℕ) (best kept : Option Place) (place : Place) → slice_get places i ≡ Some place
+pub duplicate_more : (h : DeclaredTypes) (own : List (List Field)) (places : List Place) (i : ℕ) (best kept : Option Place) (place : Place) → slice_get places i ≡ Some place
     → GetsTwo h own (length h - length places + i) → Keeps best place kept → IsFirst (Among (DuplicateAt h own places) (1 + i)) best → IsFirst (Among (DuplicateAt h own places) (1 + (i + 1))) kept
 duplicate_more h own places i best kept place e w k f = let g : 1 + i ≡ suc i = omega arith in let r : suc i + 1 ≡ 1 + (i + 1) = omega arith in subst (λ z. IsFirst (Among (DuplicateAt h own places) z) kept) r
     (first_more (DuplicateAt h own places) (suc i) best kept place (e, w) (λ other v. same_place places i place other e v.0) k
     (subst (λ z. IsFirst (Among (DuplicateAt h own places) z) best) g f))
 
-pub duplicate_all : (h : Hierarchy) (own : List (List Field)) (places : List Place) (i : ℕ) (best : Option Place) → length places ≤ i → IsFirst (Among (DuplicateAt h own places) (1 + i)) best
+pub duplicate_all : (h : DeclaredTypes) (own : List (List Field)) (places : List Place) (i : ℕ) (best : Option Place) → length places ≤ i → IsFirst (Among (DuplicateAt h own places) (1 + i)) best
     → IsFirst (IsDuplicate h own places) best
 duplicate_all h own places i best l f = first_as (Among (DuplicateAt h own places) (1 + i)) (IsDuplicate h own places) best (λ place w. there w.0 place w.2) back f
   where
@@ -121,16 +121,16 @@ duplicate_all h own places i best l f = first_as (Among (DuplicateAt h own place
 
 -- ---- one trait
 
-one_declared : (h : Hierarchy) (a : ℕ) (d e : Declared) → slice_get h a ≡ Some d → slice_get h a ≡ Some e → d ≡ e
+one_declared : (h : DeclaredTypes) (a : ℕ) (d e : DeclaredType) → slice_get h a ≡ Some d → slice_get h a ≡ Some e → d ≡ e
 one_declared h a d e p q = cc
 
-pub kind_at : (h : Hierarchy) (a : ℕ) (d e : Declared) → slice_get h a ≡ Some d → slice_get h a ≡ Some e → d.kind ≡ a_kind.Trait → e.kind ≡ a_kind.Trait
-kind_at h a d e p q k = subst (λ (z : Declared). z.kind ≡ a_kind.Trait) (one_declared h a d e p q) k
+pub kind_at : (h : DeclaredTypes) (a : ℕ) (d e : DeclaredType) → slice_get h a ≡ Some d → slice_get h a ≡ Some e → d.kind ≡ a_kind.Trait → e.kind ≡ a_kind.Trait
+kind_at h a d e p q k = subst (λ (z : DeclaredType). z.kind ≡ a_kind.Trait) (one_declared h a d e p q) k
 
 apart_or_not : (i j : ℕ) → (i < j) ⊎ ((j < i) ⊎ (i ≡ j))
 apart_or_not i j = grind arith
 
-list_of : (h : Hierarchy) (own all : List (List Field)) → HasAll h own all → (b : ℕ) → b < length h → slice_get all b ≡ Some (fields_of all b)
+list_of : (h : DeclaredTypes) (own all : List (List Field)) → HasAll h own all → (b : ℕ) → b < length h → slice_get all b ≡ Some (fields_of all b)
 list_of h own all t b l = let n = t.number in slice_get-get_or all b [] (omega arith)
 
 -- two fields of one name at two places
@@ -155,7 +155,7 @@ pub differ_told : (own : List Field) (all : List (List Field)) (b c : ℕ) (r : 
 differ_told own all b c r n w = (λ e. (n, w.0 e), λ v. w.1 v.1)
 
 -- where each name stands once, a trait gets no two
-pub gets_none : (h : Hierarchy) (own all : List (List Field)) (a : ℕ) → HasAll h own all → a < length h → IsFirst (IsRepeated (fields_of all a)) None → IsTrue false ↔ GetsTwo h own a
+pub gets_none : (h : DeclaredTypes) (own all : List (List Field)) (a : ℕ) → HasAll h own all → a < length h → IsFirst (IsRepeated (fields_of all a)) None → IsTrue false ↔ GetsTwo h own a
 gets_none h own all a t l n = (λ e. let q : false ≡ true = e in absurd cc, λ w. absurd (never w))
   where
     never : GetsTwo h own a → ⊥
@@ -167,14 +167,14 @@ gets_none h own all a t l n = (λ e. let q : false ≡ true = e in absurd cc, λ
         let r = twice (fields_of all a) i.0 j.0 x.0 y.0 i.1 j.1 (x.2 ∙ e ∙ sym y.2) (λ q. m (sym x.3 ∙ q ∙ y.3)) in
         n r.0 r.1
 
-pub no_trait : (h : Hierarchy) (own : List (List Field)) (a : ℕ) (d : Declared) → slice_get h a ≡ Some d → (d.kind ≡ a_kind.Trait → ⊥) → IsTrue false ↔ GetsTwo h own a
+pub no_trait : (h : DeclaredTypes) (own : List (List Field)) (a : ℕ) (d : DeclaredType) → slice_get h a ≡ Some d → (d.kind ≡ a_kind.Trait → ⊥) → IsTrue false ↔ GetsTwo h own a
 no_trait h own a d e n = (λ q. let f : false ≡ true = q in absurd cc, λ w. absurd (never w))
   where
     never : GetsTwo h own a → ⊥
-    never w = n (ap (λ (z : Declared). z.kind) (one_declared h a d w.0.0 e w.0.1) ∙ w.0.2)
+    never w = n (ap (λ (z : DeclaredType). z.kind) (one_declared h a d w.0.0 e w.0.1) ∙ w.0.2)
 
 -- what the search through the types that a trait extends says
-pub gets_told : (h : Hierarchy) (own all : List (List Field)) (a : ℕ) (d : Declared) (r : Bool) → HasAll h own all → slice_get h a ≡ Some d → d.kind ≡ a_kind.Trait
+pub gets_told : (h : DeclaredTypes) (own all : List (List Field)) (a : ℕ) (d : DeclaredType) (r : Bool) → HasAll h own all → slice_get h a ≡ Some d → d.kind ≡ a_kind.Trait
     → IsTrue r ↔ SomeDiffer (fields_of own a) all d.extends → IsTrue r ↔ GetsTwo h own a
 gets_told h own all a d r t e k w = (λ v. there (w.0 v), λ v. w.1 (back v))
   where
@@ -190,8 +190,8 @@ gets_told h own all a d r t e k w = (λ v. there (w.0 v), λ v. w.1 (back v))
     back (trait, b, c, f, g, eb, ec, unlike, hf, hg, q, m, none) =
         let x = (t.each b (fields_of all b) (list_of h own all t b eb.3)).all f hf in let y = (t.each c (fields_of all c) (list_of h own all t c ec.3)).all g hg in
         let i = get_of (fields_of all b) x.0 x.1 in let j = get_of (fields_of all c) y.0 y.1 in
-        let ib = get_of d.extends b (subst (λ (z : Declared). Contains z.extends b) (one_declared h a eb.0 d eb.1 e) eb.2) in
-        let ic = get_of d.extends c (subst (λ (z : Declared). Contains z.extends c) (one_declared h a ec.0 d ec.1 e) ec.2) in (
+        let ib = get_of d.extends b (subst (λ (z : DeclaredType). Contains z.extends b) (one_declared h a eb.0 d eb.1 e) eb.2) in
+        let ic = get_of d.extends c (subst (λ (z : DeclaredType). Contains z.extends c) (one_declared h a ec.0 d ec.1 e) ec.2) in (
           ib.0,
           b,
           ib.1,
@@ -206,7 +206,7 @@ gets_told h own all a d r t e k w = (λ v. there (w.0 v), λ v. w.1 (back v))
                 x.0,
                 i.1,
                 (
-                  λ n. none_named own a f.name none (subst (λ (z : NameId). Names (fields_of own a) z) x.2 n),
+                  λ n. none_named own a f.name none (subst (λ (z : NameId). HasFieldNamed (fields_of own a) z) x.2 n),
                   (j.0, y.0, j.1, (y.2 ∙ sym q ∙ sym x.2, λ z. m (sym x.3 ∙ sym z ∙ y.3))),
                 ),
               ),

@@ -9,7 +9,7 @@ use Rattle.fort_base.specs.declared.ids.NameId.{NameId}
 use Rattle.indexmap.specs.IndexMap.{get}
 use Rattle.fort_set.specs.declared.field.Field.{Field}
 use Rattle.fort_field.specs.declared.gathering.Gathering.{Gathering}
-use Rattle.fort_field.specs.Walks.{SomeIn, Names, IsLike, LikeAt, KnowsNames, Gathers, fields_of}
+use Rattle.fort_field.specs.Walks.{SomeIn, HasFieldNamed, IsLike, LikeAt, KnowsNames, Gathers, fields_of}
 use Rattle.fort_field.proofs.Items.{of_get, in_none, get_left, get_end, get_cases, taken_more}
 
 -- the fields that a trait declares, and no further ones
@@ -22,16 +22,16 @@ gathers_own own = record {
 }
 
 -- a further field of a name that is declared
-pub gathers_declared : (own further fs : List Field) (x : Field) → Names own x.name → Gathers own further fs → Gathers own (further ++ x ∷ []) fs
+pub gathers_declared : (own further fs : List Field) (x : Field) → HasFieldNamed own x.name → Gathers own further fs → Gathers own (further ++ x ∷ []) fs
 gathers_declared own further fs x d g = record {
   first = g.first;
-  from = λ f w. elim (g.from f w) as (λ _. Contains own f ⊎ (Contains (further ++ x ∷ []) f × (Names own f.name → ⊥))) [
+  from = λ f w. elim (g.from f w) as (λ _. Contains own f ⊎ (Contains (further ++ x ∷ []) f × (HasFieldNamed own f.name → ⊥))) [
     | inl o ↦ inl o
     | inr v ↦ inr (Contains-append_left further (x ∷ []) f v.0, v.1)
   ];
   all = λ f w n. elim (Contains-push_cases further x f w) as (λ _. SomeIn (IsLike f) fs) [
     | inl v ↦ g.all f v n
-    | inr e ↦ absurd (n (subst (λ (z : Field). Names own z.name) e d))
+    | inr e ↦ absurd (n (subst (λ (z : Field). HasFieldNamed own z.name) e d))
   ];
   differ = g.differ;
 }
@@ -40,7 +40,7 @@ gathers_declared own further fs x d g = record {
 pub gathers_known : (own further fs : List Field) (x : Field) → SomeIn (IsLike x) fs → Gathers own further fs → Gathers own (further ++ x ∷ []) fs
 gathers_known own further fs x k g = record {
   first = g.first;
-  from = λ f w. elim (g.from f w) as (λ _. Contains own f ⊎ (Contains (further ++ x ∷ []) f × (Names own f.name → ⊥))) [
+  from = λ f w. elim (g.from f w) as (λ _. Contains own f ⊎ (Contains (further ++ x ∷ []) f × (HasFieldNamed own f.name → ⊥))) [
     | inl o ↦ inl o
     | inr v ↦ inr (Contains-append_left further (x ∷ []) f v.0, v.1)
   ];
@@ -52,22 +52,22 @@ gathers_known own further fs x k g = record {
 }
 
 -- a further field that is put at the end
-pub gathers_new : (own further fs : List Field) (x : Field) → (Names own x.name → ⊥) → (SomeIn (IsLike x) fs → ⊥) → Gathers own further fs → Gathers own (further ++ x ∷ []) (fs ++ x ∷ [])
+pub gathers_new : (own further fs : List Field) (x : Field) → (HasFieldNamed own x.name → ⊥) → (SomeIn (IsLike x) fs → ⊥) → Gathers own further fs → Gathers own (further ++ x ∷ []) (fs ++ x ∷ [])
 gathers_new own further fs x d k g = record {
   first = (
     g.first.0 ++ x ∷ [],
     ap (λ z. z ++ x ∷ []) g.first.1 ∙ append_assoc own g.first.0 (x ∷ []),
-    λ f w. elim (Contains-push_cases g.first.0 x f w) as (λ _. Names own f.name → ⊥) [
+    λ f w. elim (Contains-push_cases g.first.0 x f w) as (λ _. HasFieldNamed own f.name → ⊥) [
       | inl v ↦ g.first.2 f v
-      | inr e ↦ subst (λ (z : Field). Names own z.name → ⊥) e d
+      | inr e ↦ subst (λ (z : Field). HasFieldNamed own z.name → ⊥) e d
     ],
   );
-  from = λ f w. elim (Contains-push_cases fs x f w) as (λ _. Contains own f ⊎ (Contains (further ++ x ∷ []) f × (Names own f.name → ⊥))) [
-    | inl v ↦ (elim (g.from f v) as (λ _. Contains own f ⊎ (Contains (further ++ x ∷ []) f × (Names own f.name → ⊥))) [
+  from = λ f w. elim (Contains-push_cases fs x f w) as (λ _. Contains own f ⊎ (Contains (further ++ x ∷ []) f × (HasFieldNamed own f.name → ⊥))) [
+    | inl v ↦ (elim (g.from f v) as (λ _. Contains own f ⊎ (Contains (further ++ x ∷ []) f × (HasFieldNamed own f.name → ⊥))) [
       | inl o ↦ inl o
       | inr u ↦ inr (Contains-append_left further (x ∷ []) f u.0, u.1)
     ])
-    | inr e ↦ inr (subst (λ (z : Field). Contains (further ++ x ∷ []) z) e (Contains-push further x), subst (λ (z : Field). Names own z.name → ⊥) e d)
+    | inr e ↦ inr (subst (λ (z : Field). Contains (further ++ x ∷ []) z) e (Contains-push further x), subst (λ (z : Field). HasFieldNamed own z.name → ⊥) e d)
   ];
   all = λ f w n. elim (Contains-push_cases further x f w) as (λ _. SomeIn (IsLike f) (fs ++ x ∷ [])) [
     | inl v ↦ (let s = g.all f v n in (s.0, s.1, get_left fs (x ∷ []) s.0 s.1 s.2, s.3))
@@ -90,14 +90,14 @@ gathers_new own further fs x d k g = record {
 one_more : (further fields : List Field) (i : ℕ) (x : Field) → slice_get fields i ≡ Some x → (further ++ take i fields) ++ x ∷ [] ≡ further ++ take (i + 1) fields
 one_more further fields i x e = append_assoc further (take i fields) (x ∷ []) ∙ ap (λ z. further ++ z) (taken_more fields i x e)
 
-pub inherits_held : (own further fields fs : List Field) (i : ℕ) (x : Field) → slice_get fields i ≡ Some x → Names own x.name ⊎ SomeIn (IsLike x) fs
+pub inherits_held : (own further fields fs : List Field) (i : ℕ) (x : Field) → slice_get fields i ≡ Some x → HasFieldNamed own x.name ⊎ SomeIn (IsLike x) fs
     → Gathers own (further ++ take i fields) fs → Gathers own (further ++ take (i + 1) fields) fs
 inherits_held own further fields fs i x e w g = subst (λ z. Gathers own z fs) (one_more further fields i x e) (elim w as (λ _. Gathers own ((further ++ take i fields) ++ x ∷ []) fs) [
   | inl d ↦ gathers_declared own (further ++ take i fields) fs x d g
   | inr k ↦ gathers_known own (further ++ take i fields) fs x k g
 ])
 
-pub inherits_new : (own further fields fs gs : List Field) (i : ℕ) (x : Field) → slice_get fields i ≡ Some x → (Names own x.name ⊎ SomeIn (IsLike x) fs → ⊥) → gs ≡ fs ++ x ∷ []
+pub inherits_new : (own further fields fs gs : List Field) (i : ℕ) (x : Field) → slice_get fields i ≡ Some x → (HasFieldNamed own x.name ⊎ SomeIn (IsLike x) fs → ⊥) → gs ≡ fs ++ x ∷ []
     → Gathers own (further ++ take i fields) fs → Gathers own (further ++ take (i + 1) fields) gs
 inherits_new own further fields fs gs i x e n p g = subst (λ z. Gathers own z gs) (one_more further fields i x e)
     (subst (λ z. Gathers own ((further ++ take i fields) ++ x ∷ []) z) (sym p) (gathers_new own (further ++ take i fields) fs x (λ d. n (inl d)) (λ k. n (inr k)) g))

@@ -3,7 +3,7 @@ use Rattle.std.proofs.Common.{◌≡◌, Result, Ok, Err, IfOk, ◌<◌, ◌≤�
 use Rattle.std.specs.List.{slice_get}
 use Rattle.std.proofs.lemmas.Option.{slice_get_within, slice_get-get_or}
 use Rattle.fort_base.specs.declared.table.TypeTable.{TypeTable}
-use Rattle.fort_types.specs.Hierarchy.{Hierarchy, Extends, Path, stop, along, Sound}
+use Rattle.fort_types.specs.Hierarchy.{DeclaredTypes, Extends, Path, stop, along, Sound}
 use Rattle.fort_types.specs.Table.{is_set, HasRows}
 use Rattle.fort_hier.proofs.ByRows.{path_of, set_of}
 use Rattle.fort_field.specs.Walks.{count_of, AreHeights}
@@ -55,7 +55,7 @@ set_in rows i j row e f = cc
 in_set : (rows : List (List Bool)) (i j : ℕ) (row : List Bool) (b : Bool) → slice_get rows i ≡ Some row → slice_get row j ≡ Some b → IsTrue (is_set rows i j) → slice_get row j ≡ Some true
 in_set rows i j row b e f t = cc
 
-pub heights_fall : (h : Hierarchy) (table : TypeTable) → HasRows h table → Sound h → AreHeights h (map count_of table.below)
+pub heights_fall : (h : DeclaredTypes) (table : TypeTable) → HasRows h table → Sound h → AreHeights h (map count_of table.below)
 heights_fall h table t s = record {
   number = map_long count_of table.below ∙ t.below.high;
   bounded = λ a n e. let r = of_map count_of table.below a n e in let l = at_most r.0 in let w = t.below.wide a r.0 r.1 in let q = r.2 in omega arith;
@@ -81,7 +81,7 @@ heights_fall h table t s = record {
             at false f = f
 
 -- what is counted in the rows is a number for each type
-pub heights_told : (h : Hierarchy) (table : TypeTable) (rows : List (List Bool)) {E : Type 0} (r : Result (List ℕ) E) → HasRows h table → Sound h → rows ≡ table.below
+pub heights_told : (h : DeclaredTypes) (table : TypeTable) (rows : List (List Bool)) {E : Type 0} (r : Result (List ℕ) E) → HasRows h table → Sound h → rows ≡ table.below
     → IfOk r (λ counts. counts ≡ map count_of rows) → IfOk r (AreHeights h)
 heights_told h table rows (Ok counts) t s q e = subst (AreHeights h) (sym (e ∙ ap (map count_of) q)) (heights_fall h table t s)
 heights_told h table rows (Err fault) t s q e = e

@@ -4,13 +4,13 @@ use Rattle.std.specs.List.{slice_get, slice_set, Contains, flat_map}
 use Rattle.std.proofs.lemmas.Option.{slice_get_within, slice_get-get_or, get_or_from_slice_get}
 use Rattle.std.proofs.lemmas.List.Elements.{Contains-append_left, Contains-append_right, Contains-append_cases}
 use Rattle.fort_base.specs.declared.ids.NameId.{NameId}
-use Rattle.fort_types.specs.declared.hierarchy.Declared.{Declared}
-use Rattle.fort_types.specs.declared.hierarchy.Kind.TheVariants as a_kind
-use Rattle.fort_types.specs.Hierarchy.{Hierarchy, Extends, Leaf}
+use Rattle.fort_types.specs.declared.hierarchy.DeclaredType.{DeclaredType}
+use Rattle.fort_types.specs.declared.hierarchy.TypeKind.TheVariants as a_kind
+use Rattle.fort_types.specs.Hierarchy.{DeclaredTypes, Extends, Leaf}
 use Rattle.fort_set.specs.declared.field.Field.{Field}
 use Rattle.fort_field.specs.Inherited.{Declares, DeclaresNone, Has, declared, inherited}
 use Rattle.fort_field.specs.Gathering.{HasGathered, HasTo, HasAll}
-use Rattle.fort_field.specs.Walks.{Names, Gathers, AreHeights, fields_of}
+use Rattle.fort_field.specs.Walks.{HasFieldNamed, Gathers, AreHeights, fields_of}
 use Rattle.fort_field.proofs.Items.{get_of, of_get, in_none, one}
 
 -- ---- the fields of a type, by its number
@@ -23,10 +23,10 @@ declares_of (x ∷ own) (suc a) f w = declares_of own a f w
 pub of_declares : (own : List (List Field)) (a : ℕ) (f : Field) → Declares own a f → Contains (fields_of own a) f
 of_declares own a f w = subst (λ z. Contains z f) (sym (get_or_from_slice_get own a w.0 [] w.1)) w.2
 
-pub none_named : (own : List (List Field)) (a : ℕ) (name : NameId) → DeclaresNone own a name → Names (fields_of own a) name → ⊥
+pub none_named : (own : List (List Field)) (a : ℕ) (name : NameId) → DeclaresNone own a name → HasFieldNamed (fields_of own a) name → ⊥
 none_named own a name n w = n w.1 (declares_of own a w.1 (of_get (fields_of own a) w.0 w.1 w.2)) w.3
 
-pub none_declared : (own : List (List Field)) (a : ℕ) (name : NameId) → (Names (fields_of own a) name → ⊥) → DeclaresNone own a name
+pub none_declared : (own : List (List Field)) (a : ℕ) (name : NameId) → (HasFieldNamed (fields_of own a) name → ⊥) → DeclaresNone own a name
 none_declared own a name n f d e = let g = get_of (fields_of own a) f (of_declares own a f d) in n (g.0, f, g.1, e)
 
 -- ---- lists joined
@@ -45,10 +45,10 @@ of_joined f (z ∷ xs) y w = elim (Contains-append_cases (f z) (flat_map f xs) y
 
 -- ---- one trait
 
-one_declared : (h : Hierarchy) (a : ℕ) (d e : Declared) → slice_get h a ≡ Some d → slice_get h a ≡ Some e → d ≡ e
+one_declared : (h : DeclaredTypes) (a : ℕ) (d e : DeclaredType) → slice_get h a ≡ Some d → slice_get h a ≡ Some e → d ≡ e
 one_declared h a d e p q = cc
 
-pub gathered_has : (h : Hierarchy) (own all : List (List Field)) (a : ℕ) (d : Declared) (fs : List Field) → slice_get h a ≡ Some d → d.kind ≡ a_kind.Trait → length own ≡ length h → length all ≡ length h
+pub gathered_has : (h : DeclaredTypes) (own all : List (List Field)) (a : ℕ) (d : DeclaredType) (fs : List Field) → slice_get h a ≡ Some d → d.kind ≡ a_kind.Trait → length own ≡ length h → length all ≡ length h
     → ((b : ℕ) (gs : List Field) → Extends h a b → slice_get all b ≡ Some gs → HasGathered h own b gs) → Gathers (fields_of own a) (flat_map (fields_of all) d.extends) fs → HasGathered h own a fs
 gathered_has h own all a d fs e k lo la done g = record {
   first = λ ds p. (g.first.0, g.first.1 ∙ ap (λ z. z ++ g.first.0) (get_or_from_slice_get own a ds [] p), λ f w. none_declared own a f.name (g.first.2 f w));
@@ -63,19 +63,19 @@ gathered_has h own all a d fs e k lo la done g = record {
     list_of : (b : ℕ) → b < length h → slice_get all b ≡ Some (fields_of all b)
     list_of b l = slice_get-get_or all b [] (omega arith)
 
-    from_above : (f : Field) → Contains (flat_map (fields_of all) d.extends) f → (Names (fields_of own a) f.name → ⊥) → Has h own a f
+    from_above : (f : Field) → Contains (flat_map (fields_of all) d.extends) f → (HasFieldNamed (fields_of own a) f.name → ⊥) → Has h own a f
     from_above f w n = let r = of_joined (fields_of all) d.extends f w in let x = declares_of all r.0 f r.2 in let l = slice_get_within all r.0 x.0 x.1 in
         inherited (d, e, k) (none_declared own a f.name n) (d, e, r.1, omega arith) ((done r.0 x.0 (d, e, r.1, omega arith) x.1).has f x.2)
 
     every : (f : Field) → Has h own a f → (g : Field) × Contains fs g × (g.name ≡ f.name) × (g.ty ≡ f.ty)
     every f (declared w) = (f, subst (λ z. Contains z f) (sym g.first.1) (Contains-append_left (fields_of own a) g.first.0 f (of_declares own a f w)), refl, refl)
     every f (inherited {b = b} t n x v) = let gs = list_of b x.3 in let m = (done b (fields_of all b) x gs).all f v in
-        let within = subst (λ (z : Declared). Contains z.extends b) (one_declared h a x.0 d x.1 e) x.2 in
-        let s = g.all m.0 (in_joined (fields_of all) d.extends b m.0 within m.1) (λ w. none_named own a f.name n (subst (λ (z : NameId). Names (fields_of own a) z) m.2 w)) in
+        let within = subst (λ (z : DeclaredType). Contains z.extends b) (one_declared h a x.0 d x.1 e) x.2 in
+        let s = g.all m.0 (in_joined (fields_of all) d.extends b m.0 within m.1) (λ w. none_named own a f.name n (subst (λ (z : NameId). HasFieldNamed (fields_of own a) z) m.2 w)) in
         (s.1, of_get fs s.0 s.1 s.2, s.3.0 ∙ m.2, s.3.1 ∙ m.3)
 
 -- a type that is no trait has what it declares
-pub leaf_has : (h : Hierarchy) (own : List (List Field)) (a : ℕ) (fs : List Field) → slice_get own a ≡ Some fs → Leaf h a → HasGathered h own a fs
+pub leaf_has : (h : DeclaredTypes) (own : List (List Field)) (a : ℕ) (fs : List Field) → slice_get own a ≡ Some fs → Leaf h a → HasGathered h own a fs
 leaf_has h own a fs e l = record {
   first = λ ds p. ([], one own a ds fs p e ∙ nil ds, λ f w. absurd (in_none f w));
   has = λ f w. declared (fs, e, w);
@@ -89,12 +89,12 @@ leaf_has h own a fs e l = record {
 
     every : (f : Field) → Has h own a f → (g : Field) × Contains fs g × (g.name ≡ f.name) × (g.ty ≡ f.ty)
     every f (declared w) = (f, subst (λ z. Contains z f) (one own a fs w.0 e w.1) w.2, refl, refl)
-    every f (inherited t n x v) = let q = one_declared h a t.0 l.0 t.1 l.1 in absurd (l.2 (ap (λ (z : Declared). z.kind) (sym q) ∙ t.2))
+    every f (inherited t n x v) = let q = one_declared h a t.0 l.0 t.1 l.1 in absurd (l.2 (ap (λ (z : DeclaredType). z.kind) (sym q) ∙ t.2))
 
 -- ---- all types
 
 -- nothing is known of a trait at first
-pub begins : (h : Hierarchy) (own : List (List Field)) (heights : List ℕ) → length own ≡ length h → HasTo h own heights 0 0 own
+pub begins : (h : DeclaredTypes) (own : List (List Field)) (heights : List ℕ) → length own ≡ length h → HasTo h own heights 0 0 own
 begins h own heights e = record {
   number = e;
   leaves = λ a fs p l. leaf_has h own a fs p l;
@@ -106,7 +106,7 @@ near : (j n : ℕ) → j < n + 1 → (j < n) ⊎ (j ≡ n)
 near j n b = grind arith
 
 -- a type of that height that is no trait, or one of another height
-pub passed_by : (h : Hierarchy) (own : List (List Field)) (heights : List ℕ) (height i : ℕ) (all : List (List Field)) → (slice_get heights i ≡ Some height → Leaf h i)
+pub passed_by : (h : DeclaredTypes) (own : List (List Field)) (heights : List ℕ) (height i : ℕ) (all : List (List Field)) → (slice_get heights i ≡ Some height → Leaf h i)
     → HasTo h own heights height i all → HasTo h own heights height (i + 1) all
 passed_by h own heights height i all n t = record {
   number = t.number;
@@ -139,7 +139,7 @@ same_or_not : (a i : ℕ) → (a ≡ i) ⊎ (a ≡ i → ⊥)
 same_or_not a i = grind arith
 
 -- a trait of that height
-pub put_in : (h : Hierarchy) (own : List (List Field)) (heights : List ℕ) (height i : ℕ) (all : List (List Field)) (fs : List Field) → HasGathered h own i fs
+pub put_in : (h : DeclaredTypes) (own : List (List Field)) (heights : List ℕ) (height i : ℕ) (all : List (List Field)) (fs : List Field) → HasGathered h own i fs
     → HasTo h own heights height i all → HasTo h own heights height (i + 1) (slice_set all i fs)
 put_in h own heights height i all fs g t = record {
   number = set_long all i fs ∙ t.number;
@@ -159,13 +159,13 @@ put_in h own heights height i all fs g t = record {
     either a gs p k = elim (same_or_not a i) as (λ _. HasGathered h own a gs) [ inl e ↦ here a gs e p | inr n ↦ k (set_there all i a fs gs n p) ]
 
 -- the trait that is asked: what it extends is known
-pub known_above : (h : Hierarchy) (own : List (List Field)) (heights : List ℕ) (height i : ℕ) (all : List (List Field)) → AreHeights h heights → slice_get heights i ≡ Some height
+pub known_above : (h : DeclaredTypes) (own : List (List Field)) (heights : List ℕ) (height i : ℕ) (all : List (List Field)) → AreHeights h heights → slice_get heights i ≡ Some height
     → HasTo h own heights height i all → (b : ℕ) (gs : List Field) → Extends h i b → slice_get all b ≡ Some gs → HasGathered h own b gs
 known_above h own heights height i all r e t b gs x p = let n = r.number in
     let q = slice_get-get_or heights b 0 (let l = x.3 in omega arith) in t.lower b (get_or heights b 0) gs p q (r.falls i b height (get_or heights b 0) x e q)
 
 -- all types of that height are asked
-pub next_height : (h : Hierarchy) (own : List (List Field)) (heights : List ℕ) (height i : ℕ) (all : List (List Field)) → length h ≤ i → HasTo h own heights height i all → HasTo h own heights (height + 1) 0 all
+pub next_height : (h : DeclaredTypes) (own : List (List Field)) (heights : List ℕ) (height i : ℕ) (all : List (List Field)) → length h ≤ i → HasTo h own heights height i all → HasTo h own heights (height + 1) 0 all
 next_height h own heights height i all l t = record {
   number = t.number;
   leaves = t.leaves;
@@ -177,7 +177,7 @@ next_height h own heights height i all l t = record {
 }
 
 -- all heights are asked
-pub all_known : (h : Hierarchy) (own : List (List Field)) (heights : List ℕ) (height : ℕ) (all : List (List Field)) → AreHeights h heights → length h < height → HasTo h own heights height 0 all → HasAll h own all
+pub all_known : (h : DeclaredTypes) (own : List (List Field)) (heights : List ℕ) (height : ℕ) (all : List (List Field)) → AreHeights h heights → length h < height → HasTo h own heights height 0 all → HasAll h own all
 all_known h own heights height all r l t = record {
   number = t.number;
   each = λ a fs p. let n = r.number in let k = slice_get_within all a fs p in let s = t.number in let q = slice_get-get_or heights a 0 (omega arith) in

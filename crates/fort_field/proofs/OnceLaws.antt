@@ -3,7 +3,7 @@ use Rattle.std.proofs.Common.{◌≡◌, ◌≢◌, ◌<◌, ◌≤◌, ◌+◌,
 use Rattle.std.specs.List.{slice_get, Contains}
 use Rattle.std.proofs.lemmas.Option.{slice_get_within, slice_get-get_or}
 use Rattle.fort_base.specs.declared.refusal.Place.{Place}
-use Rattle.fort_types.specs.Hierarchy.{Hierarchy}
+use Rattle.fort_types.specs.Hierarchy.{DeclaredTypes}
 use Rattle.fort_set.specs.declared.field.Field.{Field}
 use Rattle.fort_field.specs.Inherited.{Has, declared, inherited, EachOnce, AreAllFields}
 use Rattle.fort_field.specs.Gathering.{HasGathered, HasAll}
@@ -21,7 +21,7 @@ in_parts [] ys k x e = inr (of_get ys k x e)
 in_parts (z ∷ xs) ys zero x e = inl e
 in_parts (z ∷ xs) ys (suc k) x e = in_parts xs ys k x e
 
-module _ (h : Hierarchy) (own : List (List Field)) (places : List Place) (fewer : length places ≤ length h)
+module _ (h : DeclaredTypes) (own : List (List Field)) (places : List Place) (fewer : length places ≤ length h)
     (high : (a : ℕ) (f : Field) → Has h own a f → length h - length places ≤ a)
     (none : (place : Place) → IsDuplicate h own places place → ⊥) where
   -- no type with a field gets one from two others

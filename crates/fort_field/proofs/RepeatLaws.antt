@@ -1,4 +1,4 @@
--- Names that stand twice, and the places of 451.
+-- HasFieldNamed that stand twice, and the places of 451.
 use Rattle.std.proofs.Common.{◌≡◌, ◌<◌, ◌≤◌, ◌+◌, ℕ, zero, suc, List, [], ◌∷◌, take, length, Option, Some, refl, ap, ◌∙◌, arith}
 use Rattle.std.specs.List.{slice_get}
 use Rattle.std.proofs.lemmas.Option.{slice_get_within}
@@ -7,7 +7,7 @@ use Rattle.fort_hier.specs.Earliest.{IsFirst, Keeps}
 use Rattle.fort_hier.proofs.First.{Among, first_same, first_more, first_all}
 use Rattle.fort_set.specs.declared.field.Field.{Field}
 use Rattle.fort_field.specs.Rules.{IsRepeated}
-use Rattle.fort_field.specs.Walks.{Names}
+use Rattle.fort_field.specs.Walks.{HasFieldNamed}
 use Rattle.fort_field.proofs.Items.{one}
 
 -- The field at a number has the name of one before it.
@@ -27,12 +27,12 @@ of_taken (y ∷ xs) zero k x e = absurd cc
 of_taken (y ∷ xs) (suc i) zero x e = (omega arith, e)
 of_taken (y ∷ xs) (suc i) (suc k) x e = let r = of_taken xs i k x e in (let l = r.0 in omega arith, r.1)
 
-pub repeated_same : (fs : List Field) (i : ℕ) (x : Field) (best : Option Place) → slice_get fs i ≡ Some x → (Names (take i fs) x.name → ⊥)
+pub repeated_same : (fs : List Field) (i : ℕ) (x : Field) (best : Option Place) → slice_get fs i ≡ Some x → (HasFieldNamed (take i fs) x.name → ⊥)
     → IsFirst (Among (RepeatedAt fs) i) best → IsFirst (Among (RepeatedAt fs) (i + 1)) best
 repeated_same fs i x best e n f = first_same (RepeatedAt fs) i best
     (λ place w. n (w.0, w.1, in_taken fs i w.0 w.1 w.3 w.4, w.6 ∙ ap (λ (z : Field). z.name) (one fs i x w.2 e w.5))) f
 
-pub repeated_more : (fs : List Field) (i : ℕ) (x : Field) (best kept : Option Place) → slice_get fs i ≡ Some x → Names (take i fs) x.name → Keeps best x.place kept
+pub repeated_more : (fs : List Field) (i : ℕ) (x : Field) (best kept : Option Place) → slice_get fs i ≡ Some x → HasFieldNamed (take i fs) x.name → Keeps best x.place kept
     → IsFirst (Among (RepeatedAt fs) i) best → IsFirst (Among (RepeatedAt fs) (i + 1)) kept
 repeated_more fs i x best kept e w k f = let t = of_taken fs i w.0 w.1 w.2 in first_more (RepeatedAt fs) i best kept x.place
     (w.0, w.1, x, t.0, t.1, e, w.3, refl) (λ other v. v.7 ∙ ap (λ (z : Field). z.place) (one fs i x v.2 e v.5)) k f

@@ -4,7 +4,7 @@ use Rattle.fort_base.specs.declared.refusal.CheckFault.{CheckFault}
 use Rattle.fort_base.specs.declared.refusal.CheckFault.TheVariants as a_fault
 use Rattle.fort_base.specs.declared.refusal.Place.{Place}
 use Rattle.fort_tree.specs.declared.declarations.Component.{Component}
-use Rattle.fort_types.specs.Hierarchy.{Hierarchy}
+use Rattle.fort_types.specs.Hierarchy.{DeclaredTypes}
 use Rattle.fort_hier.specs.Earliest.{IsFirst}
 use Rattle.fort_hier.specs.Hierarchies.{declares, places_of}
 use Rattle.fort_set.specs.declared.field.Field.{Field}
@@ -57,11 +57,11 @@ none_broken c d n rule place (not_below q w) = n place w
 -- ---- from the lists that the code holds to the component
 
 module _ (c : Component) where
-  pub lists_by : (Q : Hierarchy → List (List Field) → List Place → Type 0) {h : Hierarchy} {own : List (List Field)} {places : List Place}
+  pub lists_by : (Q : DeclaredTypes → List (List Field) → List Place → Type 0) {h : DeclaredTypes} {own : List (List Field)} {places : List Place}
       → h ≡ declares c → own ≡ own_fields c → places ≡ places_of c → Q h own places → Q (declares c) (own_fields c) (places_of c)
   lists_by Q {own = own} {places = places} e f g w = subst (λ z. Q (declares c) (own_fields c) z) g (subst (λ z. Q (declares c) z places) f (subst (λ z. Q z own places) e w))
 
-  pub lists_of : (Q : Hierarchy → List (List Field) → List Place → Type 0) {h : Hierarchy} {own : List (List Field)} {places : List Place}
+  pub lists_of : (Q : DeclaredTypes → List (List Field) → List Place → Type 0) {h : DeclaredTypes} {own : List (List Field)} {places : List Place}
       → h ≡ declares c → own ≡ own_fields c → places ≡ places_of c → Q (declares c) (own_fields c) (places_of c) → Q h own places
   lists_of Q {h = h} {own = own} e f g w = subst (Q h own) (sym g) (subst (λ z. Q h z (places_of c)) (sym f) (subst (λ z. Q z (own_fields c) (places_of c)) (sym e) w))
 

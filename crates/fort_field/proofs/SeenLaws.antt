@@ -5,15 +5,15 @@ use Rattle.std.proofs.lemmas.Bool.{eqb-true, eq-eqb}
 use Rattle.indexmap.specs.IndexSet.{contains, IndexSet}
 use Rattle.fort_base.specs.declared.ids.NameId.{NameId}
 use Rattle.fort_set.specs.declared.field.Field.{Field}
-use Rattle.fort_field.specs.Walks.{Names, HoldsNames}
+use Rattle.fort_field.specs.Walks.{HasFieldNamed, HoldsNames}
 use Rattle.fort_field.proofs.Items.{get_left, get_end, get_cases}
 
 twice_not : (b : Bool) → not (not b) ≡ b
 twice_not true = refl
 twice_not false = refl
 
-pub stood_told : {S : Type 0} (before : List Field) (seen : IndexSet ℕ S) (name : NameId) (r : Bool) → r ≡ not (contains nat_eq seen name.0) → HoldsNames before seen → IsTrue (not r) ↔ Names before name
-stood_told before seen name r e h = subst (λ z. IsTrue z ↔ Names before name) (sym (ap not e ∙ twice_not (contains nat_eq seen name.0))) (h.knows name)
+pub stood_told : {S : Type 0} (before : List Field) (seen : IndexSet ℕ S) (name : NameId) (r : Bool) → r ≡ not (contains nat_eq seen name.0) → HoldsNames before seen → IsTrue (not r) ↔ HasFieldNamed before name
+stood_told before seen name r e h = subst (λ z. IsTrue z ↔ HasFieldNamed before name) (sym (ap not e ∙ twice_not (contains nat_eq seen name.0))) (h.knows name)
 
 -- no name stood
 pub names_none : {S : Type 0} (seen : IndexSet ℕ S) → seen.keys ≡ [] → HoldsNames [] seen
@@ -33,7 +33,7 @@ pub names_more : {S : Type 0} (before : List Field) (x : Field) (name : NameId) 
     → ((q : ℕ) → contains nat_eq new q ≡ cond (nat_eq name.0 q) true (contains nat_eq old q)) → x.name ≡ name → HoldsNames before old → HoldsNames (before ++ x ∷ []) new
 names_more before x name old new u e h = record { knows = λ v. at v (nat_eq name.0 v.0) refl }
   where
-    at : (v : NameId) (b : Bool) → nat_eq name.0 v.0 ≡ b → IsTrue (contains nat_eq new v.0) ↔ Names (before ++ x ∷ []) v
+    at : (v : NameId) (b : Bool) → nat_eq name.0 v.0 ≡ b → IsTrue (contains nat_eq new v.0) ↔ HasFieldNamed (before ++ x ∷ []) v
     at v true q = let s : contains nat_eq new v.0 ≡ true = u v.0 ∙ ap (λ z. cond z true (contains nat_eq old v.0)) q in
         (λ _. (length before, x, get_end before x, e ∙ same_name name v q), λ _. s)
     at v false q = let s : contains nat_eq new v.0 ≡ contains nat_eq old v.0 = u v.0 ∙ ap (λ z. cond z true (contains nat_eq old v.0)) q in (

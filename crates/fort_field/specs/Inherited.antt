@@ -1,7 +1,7 @@
 -- The chapter "Members", fields: which fields a type has, its own ones and inherited ones. The code asks the types from the top of the hierarchy down.
 use Rattle.std.specs.Prelude.{◌≡◌, ℕ, List, ◌++◌, length, slice_get, Some, Contains}
 use Rattle.fort_base.specs.declared.ids.NameId.{NameId}
-use Rattle.fort_types.specs.Hierarchy.{Hierarchy, Extends, Trait}
+use Rattle.fort_types.specs.Hierarchy.{DeclaredTypes, Extends, Trait}
 use Rattle.fort_set.specs.declared.field.Field.{Field}
 
 -- A type declares a field.
@@ -13,7 +13,7 @@ abbrev pub DeclaresNone : List (List Field) → ℕ → NameId → Type 0
 DeclaresNone own a name = (f : Field) → Declares own a f → f.name ≡ name → ⊥
 
 -- A type has the fields that it declares; a trait also has those of the types that it extends, where it doesn't declare one of the name.
-pub data Has (h : Hierarchy) (own : List (List Field)) : ℕ → Field → Type 0 where
+pub data Has (h : DeclaredTypes) (own : List (List Field)) : ℕ → Field → Type 0 where
   declared : {a : ℕ} {f : Field} → Declares own a f → Has h own a f
   inherited : {a b : ℕ} {f : Field} → Trait h a → DeclaresNone own a f.name → Extends h a b → Has h own b f → Has h own a f
 
@@ -23,13 +23,13 @@ EachOnce fs = (i j : ℕ) (f g : Field) → slice_get fs i ≡ Some f → slice_
 
 -- The fields of a type that declares these: they stand first in their order; behind them stand the inherited ones; each name that
 -- the type has a field of stands once.
-pub record AreFields (h : Hierarchy) (own : List (List Field)) (a : ℕ) (fs : List Field) : Type 0 where
+pub record AreFields (h : DeclaredTypes) (own : List (List Field)) (a : ℕ) (fs : List Field) : Type 0 where
   pub first : (ds : List Field) → slice_get own a ≡ Some ds → (rest : List Field) × (fs ≡ ds ++ rest)
   pub has : (f : Field) → Contains fs f → Has h own a f
   pub all : (f : Field) → Has h own a f → (g : Field) × Contains fs g × (g.name ≡ f.name) × (g.ty ≡ f.ty)
   pub once : EachOnce fs
 
 -- The fields of each type, by the types' numbers.
-pub record AreAllFields (h : Hierarchy) (own all : List (List Field)) : Type 0 where
+pub record AreAllFields (h : DeclaredTypes) (own all : List (List Field)) : Type 0 where
   pub number : length all ≡ length h
   pub each : (a : ℕ) (fs : List Field) → slice_get all a ≡ Some fs → AreFields h own a fs

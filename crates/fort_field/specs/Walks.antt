@@ -5,9 +5,9 @@ use Rattle.indexmap.specs.IndexSet.{contains, IndexSet}
 use Rattle.fort_base.specs.declared.ids.NameId.{NameId}
 use Rattle.fort_base.specs.declared.refusal.Place.{Place}
 use Rattle.fort_hier.specs.Earliest.{Keeps}
-use Rattle.fort_types.specs.declared.hierarchy.Declared.{Declared}
-use Rattle.fort_types.specs.declared.hierarchy.Kind.TheVariants as a_kind
-use Rattle.fort_types.specs.Hierarchy.{Hierarchy, Extends}
+use Rattle.fort_types.specs.declared.hierarchy.DeclaredType.{DeclaredType}
+use Rattle.fort_types.specs.declared.hierarchy.TypeKind.TheVariants as a_kind
+use Rattle.fort_types.specs.Hierarchy.{DeclaredTypes, Extends}
 use Rattle.fort_types.specs.Table.{is_set}
 use Rattle.fort_types.specs.Types.{Below}
 use Rattle.fort_set.specs.declared.field.Field.{Field}
@@ -22,8 +22,8 @@ abbrev pub fields_of : List (List Field) → ℕ → List Field
 fields_of all a = get_or all a []
 
 -- Some field of a list has a name.
-abbrev pub Names : List Field → NameId → Type 0
-Names fs name = SomeIn (λ f. f.name ≡ name) fs
+abbrev pub HasFieldNamed : List Field → NameId → Type 0
+HasFieldNamed fs name = SomeIn (λ f. f.name ≡ name) fs
 
 -- Two fields have one name and one type.
 abbrev pub IsLike : Field → Field → Type 0
@@ -46,7 +46,7 @@ KeepsAny best (Some place) kept = Keeps best place kept
 
 -- A field's name isn't declared, and a field of a list has that name and a different type.
 abbrev pub HasOther : List Field → List Field → Field → Type 0
-HasOther own gs f = (Names own f.name → ⊥) × SomeIn (IsUnlike f) gs
+HasOther own gs f = (HasFieldNamed own f.name → ⊥) × SomeIn (IsUnlike f) gs
 
 -- Two lists have fields of one name and different types, of a name that isn't declared.
 abbrev pub Differ : List Field → List Field → List Field → Type 0
@@ -67,22 +67,22 @@ SomeDiffer own all extends = SomeIn (DiffersFrom own all extends) extends
 -- ---- 452
 
 -- The second is declared again, with a type that isn't below.
-abbrev pub IsWiderThan : Hierarchy → Field → Field → Type 0
+abbrev pub IsWiderThan : DeclaredTypes → Field → Field → Type 0
 IsWiderThan h f g = (g.name ≡ f.name) × (Below h g.ty f.ty → ⊥)
 
 -- A field is missing, where it must be there, or declared again with a type that isn't below.
-abbrev pub Lacks : Hierarchy → Bool → List Field → Field → Type 0
-Lacks h must own f = (IsTrue must × (Names own f.name → ⊥)) ⊎ SomeIn (IsWiderThan h f) own
+abbrev pub Lacks : DeclaredTypes → Bool → List Field → Field → Type 0
+Lacks h must own f = (IsTrue must × (HasFieldNamed own f.name → ⊥)) ⊎ SomeIn (IsWiderThan h f) own
 
 -- A field of one type, which is a trait above, is lacking.
-abbrev pub LacksOf : Hierarchy → List (List Bool) → Bool → List (List Field) → ℕ → Declared → ℕ → Type 0
+abbrev pub LacksOf : DeclaredTypes → List (List Bool) → Bool → List (List Field) → ℕ → DeclaredType → ℕ → Type 0
 LacksOf h rows must own a d t = (d.kind ≡ a_kind.Trait) × IsTrue (is_set rows a t) × SomeIn (Lacks h must (fields_of own a)) (fields_of own t)
 
 -- ---- names that stood so far
 
 -- The set has exactly the names of these fields.
 pub record HoldsNames {S : Type 0} (before : List Field) (seen : IndexSet ℕ S) : Type 0 where
-  pub knows : (name : NameId) → IsTrue (contains nat_eq seen name.0) ↔ Names before name
+  pub knows : (name : NameId) → IsTrue (contains nat_eq seen name.0) ↔ HasFieldNamed before name
 
 -- ---- heights
 
@@ -91,7 +91,7 @@ abbrev pub count_of : List Bool → ℕ
 count_of row = length (filter (λ b. b) row)
 
 -- A number for each type, at most the number of types, that falls along each `extends`.
-pub record AreHeights (h : Hierarchy) (heights : List ℕ) : Type 0 where
+pub record AreHeights (h : DeclaredTypes) (heights : List ℕ) : Type 0 where
   pub number : length heights ≡ length h
   pub bounded : (a n : ℕ) → slice_get heights a ≡ Some n → n ≤ length h
   pub falls : (a b m n : ℕ) → Extends h a b → slice_get heights a ≡ Some m → slice_get heights b ≡ Some n → n < m
@@ -106,7 +106,7 @@ pub record KnowsNames (g : Gathering) : Type 0 where
 -- names that aren't declared; each of these is a further one; each further one of such a name is there by name and type; and of one such
 -- name and type there is one.
 pub record Gathers (own further fs : List Field) : Type 0 where
-  pub first : (rest : List Field) × (fs ≡ own ++ rest) × ((f : Field) → Contains rest f → Names own f.name → ⊥)
-  pub from : (f : Field) → Contains fs f → Contains own f ⊎ (Contains further f × (Names own f.name → ⊥))
-  pub all : (f : Field) → Contains further f → (Names own f.name → ⊥) → SomeIn (IsLike f) fs
-  pub differ : (i j : ℕ) (f g : Field) → slice_get fs i ≡ Some f → slice_get fs j ≡ Some g → IsLike f g → (Names own f.name → ⊥) → i ≡ j
+  pub first : (rest : List Field) × (fs ≡ own ++ rest) × ((f : Field) → Contains rest f → HasFieldNamed own f.name → ⊥)
+  pub from : (f : Field) → Contains fs f → Contains own f ⊎ (Contains further f × (HasFieldNamed own f.name → ⊥))
+  pub all : (f : Field) → Contains further f → (HasFieldNamed own f.name → ⊥) → SomeIn (IsLike f) fs
+  pub differ : (i j : ℕ) (f g : Field) → slice_get fs i ≡ Some f → slice_get fs j ≡ Some g → IsLike f g → (HasFieldNamed own f.name → ⊥) → i ≡ j

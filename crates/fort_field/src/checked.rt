@@ -2,7 +2,7 @@
 ghost use Rattle.std.specs.Prelude.{◌≡◌, ◌<◌, ◌≤◌, ◌^◌, length, None, IfOk, IfErr, OnOk};
 ghost use Rattle.fort_types.specs.Hierarchy.{Sound};
 ghost use Rattle.fort_types.specs.Table.{HasRows};
-ghost use Rattle.fort_mention.specs.TypeNames.{type_names};
+ghost use Rattle.fort_type_names.specs.TypeNames.{type_names};
 ghost use Rattle.fort_hier.specs.Earliest.{IsFirst};
 ghost use Rattle.fort_hier.specs.Heads.{heads_of};
 ghost use Rattle.fort_hier.specs.Hierarchies.{IsHierarchy};
@@ -16,10 +16,10 @@ use crate::inherited::all_fields;
 use crate::lacking::first_lacking;
 use crate::own::own_in;
 use fort_base::{CheckFault, List, Place, Rule, TypeTable};
-use fort_hier::{Head, Hierarchy, Numbers, heads_in, numbers_in, places_in, types_in};
+use fort_hier::{Hierarchy, Numbers, TypeHead, heads_in, numbers_in, places_in, types_in};
 use fort_set::Field;
 use fort_tree::Component;
-use fort_types::Declared;
+use fort_types::DeclaredType;
 use std::alloc::Global;
 
 /// 451 DuplicateMember
@@ -58,7 +58,7 @@ fn checked_fields(
     alloc: Global,
     component: &Component,
     hierarchy: &Hierarchy,
-    heads: &[Head],
+    heads: &[TypeHead],
     numbers: &Numbers,
 ) -> Result<List<List<Field>>, CheckFault>
     requires types { IsHierarchy component.now (type_names component.now) hierarchy.now }
@@ -91,7 +91,7 @@ fn checked_fields(
 /// The fields of types that declare these, or a refusal.
 fn kept_fields(
     alloc: Global,
-    types: &[Declared],
+    types: &[DeclaredType],
     table: &TypeTable,
     places: &[Place],
     own: &[List<Field>],

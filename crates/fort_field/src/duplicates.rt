@@ -11,7 +11,7 @@ use crate::repeats::first_repeated;
 use fort_base::{List, Memory, Place};
 use fort_hier::earlier;
 use fort_set::Field;
-use fort_types::Declared;
+use fort_types::DeclaredType;
 use std::alloc::Global;
 
 /// The earliest place where a type has two fields of one name, or `None` where none has: one that declares two, or a trait that gets
@@ -20,7 +20,7 @@ use std::alloc::Global;
 /// `all` are the fields that each type has, and the places those of the last types' names.
 pub fn first_duplicate(
     alloc: Global,
-    types: &[Declared],
+    types: &[DeclaredType],
     places: &[Place],
     own: &[List<Field>],
     all: &[List<Field>],
@@ -64,7 +64,7 @@ fn earlier_of(best: Option<Place>, further: Option<Place>) -> Option<Place>
 /// Whether a type is a trait that gets a field which it doesn't declare from two types, with different types.
 fn gets_two(
     alloc: Global,
-    types: &[Declared],
+    types: &[DeclaredType],
     own: &[List<Field>],
     all: &[List<Field>],
     a: usize,

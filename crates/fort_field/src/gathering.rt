@@ -1,7 +1,7 @@
 //! The fields that a trait is known to have so far.
 ghost use Rattle.std.specs.Prelude.{◌≡◌, ◌++◌, ◌⊎◌, ◌∷◌, [], ◌↔◌, IsTrue, IfOk, OnOk, List as Seq};
 ghost use Rattle.fort_set.specs.declared.field.Field.{Field as AField};
-ghost use Rattle.fort_field.specs.Walks.{SomeIn, Names, IsLike, LikeAt, KnowsNames, Gathers};
+ghost use Rattle.fort_field.specs.Walks.{SomeIn, HasFieldNamed, IsLike, LikeAt, KnowsNames, Gathers};
 
 use fort_base::{List, Memory, NameId};
 use fort_set::Field;
@@ -67,7 +67,7 @@ impl Gathering {
     /// Whether the trait declares a field of that name, or there is one of that name and type.
     fn is_held(&self, own: &[Field], field: &Field) -> bool
         requires { KnowsNames self.now }
-        ensures { IsTrue result ↔ (Names own.now field.now.name ⊎ SomeIn (IsLike field.now) self.now.fields) }
+        ensures { IsTrue result ↔ (HasFieldNamed own.now field.now.name ⊎ SomeIn (IsLike field.now) self.now.fields) }
     {
         declares(own, field.name) || self.has(field)
     }
@@ -118,7 +118,7 @@ fn same_field(other: &Field, field: &Field) -> bool
 
 /// Whether some field of a list has that name.
 pub fn declares(own: &[Field], name: NameId) -> bool
-    ensures { IsTrue result ↔ Names own.now name }
+    ensures { IsTrue result ↔ HasFieldNamed own.now name }
 {
     for field in own {
         if field.name == name {

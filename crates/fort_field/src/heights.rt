@@ -5,13 +5,13 @@ ghost use Rattle.fort_types.specs.Table.{HasRows};
 ghost use Rattle.fort_field.specs.Walks.{AreHeights, count_of};
 
 use fort_base::{List, Memory, TypeTable};
-use fort_types::Declared;
+use fort_types::DeclaredType;
 use std::alloc::Global;
 
 /// How many types each type is below, itself too: fewer for each type that it extends.
 pub fn heights_in(
     alloc: Global,
-    types: &[Declared],
+    types: &[DeclaredType],
     table: &TypeTable,
 ) -> Result<List<usize>, Memory>
     requires rows { HasRows types.now table.now }

@@ -1,7 +1,7 @@
 //! The fields that each type has, inherited ones too.
 ghost use Rattle.std.specs.Prelude.{◌≡◌, ◌+◌, ◌↔◌, IsTrue, IfOk, OnOk, length, slice_get, Some};
 ghost use Rattle.std.specs.List.{flat_map};
-ghost use Rattle.fort_types.specs.declared.hierarchy.Kind.TheVariants as a_kind;
+ghost use Rattle.fort_types.specs.declared.hierarchy.TypeKind.TheVariants as a_kind;
 ghost use Rattle.fort_types.specs.Hierarchy.{Sound};
 ghost use Rattle.fort_types.specs.Table.{HasRows};
 ghost use Rattle.fort_field.specs.Gathering.{HasAll, HasTo};
@@ -11,7 +11,7 @@ use crate::gathering::Gathering;
 use crate::heights::heights_in;
 use fort_base::{List, Memory, TypeTable};
 use fort_set::Field;
-use fort_types::Declared;
+use fort_types::DeclaredType;
 use std::alloc::Global;
 
 /// The fields that each type has, by the types' numbers: first those that it declares, in their order; of inherited ones of one name
@@ -20,7 +20,7 @@ use std::alloc::Global;
 /// The types are asked from the top of the hierarchy down: one with fewer supertypes before one with more.
 pub fn all_fields(
     alloc: Global,
-    types: &[Declared],
+    types: &[DeclaredType],
     table: &TypeTable,
     own: &[List<Field>],
 ) -> Result<List<List<Field>>, Memory>
@@ -38,7 +38,7 @@ pub fn all_fields(
 /// Puts together the fields of all traits, those with the fewest supertypes first; before that each type has what it declares.
 fn gather_all(
     alloc: Global,
-    types: &[Declared],
+    types: &[DeclaredType],
     own: &[List<Field>],
     heights: &[usize],
     all: &mut List<List<Field>>,
@@ -79,7 +79,7 @@ fn copy_of(alloc: Global, fields: &[Field]) -> Result<List<Field>, Memory>
 /// Puts together the fields of the traits of one height, where those of all lower ones are known.
 fn gather_at(
     alloc: Global,
-    types: &[Declared],
+    types: &[DeclaredType],
     own: &[List<Field>],
     heights: &[usize],
     height: usize,
@@ -101,7 +101,7 @@ fn gather_at(
 }
 
 /// Whether a type is a trait of that height.
-fn is_asked(declared: &Declared, heights: &[usize], a: usize, height: usize) -> bool
+fn is_asked(declared: &DeclaredType, heights: &[usize], a: usize, height: usize) -> bool
     ensures { IsTrue result ↔ (declared.now.kind ≡ a_kind.Trait) × (slice_get heights.now a ≡ Some height) }
 {
     declared.kind.is_trait() && is_at(heights, a, height)
@@ -120,7 +120,7 @@ fn is_at(heights: &[usize], a: usize, height: usize) -> bool
 /// The fields of a trait, of those that it declares and of those that the types which it extends have.
 fn gathered(
     alloc: Global,
-    declared: &Declared,
+    declared: &DeclaredType,
     own: &[Field],
     all: &[List<Field>],
 ) -> Result<List<Field>, Memory>

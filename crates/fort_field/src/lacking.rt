@@ -1,6 +1,6 @@
 //! 452: a field of a trait that is missing below it, or declared again with a type that isn't below.
 ghost use Rattle.std.specs.Prelude.{◌≡◌, ◌≤◌, ◌<◌, ◌↔◌, IsTrue, length, List as Seq};
-ghost use Rattle.fort_types.specs.declared.hierarchy.Declared.{Declared as ADeclared};
+ghost use Rattle.fort_types.specs.declared.hierarchy.DeclaredType.{DeclaredType as ADeclared};
 ghost use Rattle.fort_types.specs.Table.{HasRows};
 ghost use Rattle.fort_hier.specs.Earliest.{IsFirst};
 ghost use Rattle.fort_field.specs.Rules.{LacksField, IsNotBelow};
@@ -11,13 +11,13 @@ use crate::inherited::fields_at;
 use fort_base::{List, Place, TypeTable};
 use fort_hier::earlier;
 use fort_set::Field;
-use fort_types::{Declared, below, set_at};
+use fort_types::{DeclaredType, below, set_at};
 
 /// The earliest place of the name of a type that lacks a field of a trait above it, or `None` where none does.
 ///
 /// The places are those of the last types' names.
 pub fn first_lacking(
-    types: &[Declared],
+    types: &[DeclaredType],
     table: &TypeTable,
     places: &[Place],
     own: &[List<Field>],
@@ -38,7 +38,7 @@ pub fn first_lacking(
 }
 
 /// Whether a type lacks a field of some trait above it.
-fn lacks_field(types: &[Declared], table: &TypeTable, own: &[List<Field>], a: usize) -> bool
+fn lacks_field(types: &[DeclaredType], table: &TypeTable, own: &[List<Field>], a: usize) -> bool
     requires rows { HasRows types.now table.now }
     requires inside { a < length types.now }
     ensures { IsTrue result ↔ LacksField types.now own.now a }
@@ -58,7 +58,7 @@ fn lacks_of(
     must: bool,
     own: &[List<Field>],
     a: usize,
-    declared: &Declared,
+    declared: &DeclaredType,
     t: usize,
 ) -> bool
     ensures { (h : Seq ADeclared) → HasRows h table.now → IsTrue result ↔ LacksOf h table.now.below must own.now a declared.now t }

@@ -3,7 +3,7 @@ ghost use Rattle.std.specs.Prelude.{◌≡◌, ◌++◌, ◌∷◌, [], ◌↔�
 ghost use Rattle.fort_hier.specs.Earliest.{IsFirst};
 ghost use Rattle.fort_set.specs.declared.field.Field.{Field as AField};
 ghost use Rattle.fort_field.specs.Rules.{IsRepeated};
-ghost use Rattle.fort_field.specs.Walks.{Names, HoldsNames};
+ghost use Rattle.fort_field.specs.Walks.{HasFieldNamed, HoldsNames};
 
 use fort_base::{Memory, NameId, Place};
 use fort_hier::earlier;
@@ -29,7 +29,7 @@ pub fn first_repeated(alloc: Global, fields: &[Field]) -> Result<Option<Place>, 
 /// Adds a name to those that stood so far, and says whether it was one of them.
 fn add_name(seen: &mut IndexSet<u32>, name: NameId) -> Result<bool, Memory>
     ensures stood { IfOk result (λ stood. (before : Seq AField) → HoldsNames before seen.old
-        → IsTrue stood ↔ Names before name) }
+        → IsTrue stood ↔ HasFieldNamed before name) }
     ensures held { OnOk result ((before : Seq AField) (f : AField) → HoldsNames before seen.old
         → f.name ≡ name → HoldsNames (before ++ f ∷ []) seen.new) }
 {

@@ -15,7 +15,7 @@ use Rattle.fort_group.specs.Components.{HasGroups, IsFirstBreak}
 use Rattle.fort_group.proofs.Rules.{breaks_none}
 use Rattle.fort_syntax.specs.Answer as grammar
 use Rattle.fort_syntax.specs.Answer.{TooDeep, Syntax, TooMany}
-use Rattle.fort_mention.specs.TypeNames.{type_names}
+use Rattle.fort_type_names.specs.TypeNames.{type_names}
 use Rattle.fort_hier.specs.Hierarchies.{Broken, IsHierarchy, IsReported, declares}
 use Rattle.fort_hier.proofs.AcceptedLaws.{accepted_sound}
 use Rattle.fort_set.specs.declared.member.Members.{Members}

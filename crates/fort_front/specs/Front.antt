@@ -10,7 +10,7 @@ use Rattle.fort_tree.specs.declared.declarations.Component.{Component}
 use Rattle.fort_tree.specs.declared.grouped.FlatGrouping.{FlatGrouping}
 use Rattle.fort_tree.specs.Limits.{flats}
 use Rattle.fort_group.specs.Components.{HasGroups, IsFirstBreak}
-use Rattle.fort_mention.specs.TypeNames.{type_names}
+use Rattle.fort_type_names.specs.TypeNames.{type_names}
 use Rattle.fort_hier.specs.declared.accepted.Hierarchy.{Hierarchy}
 use Rattle.fort_hier.specs.Hierarchies.{IsHierarchy, IsReported, declares}
 use Rattle.fort_set.specs.declared.member.Members.{Members}

@@ -7,7 +7,7 @@ use Rattle.fort_core.specs.declared.program.Program.{Program}
 use Rattle.fort_core.specs.declared.term.Term.{Term}
 use Rattle.fort_core.specs.declared.term.Term as term
 use Rattle.fort_core.specs.declared.value.Value.{Text}
-use Rattle.fort_machine.specs.Deeds.{Store, Deed, idle, paid, printed, both, afterwards}
+use Rattle.fort_machine.specs.Effects.{Store, Effect, idle, paid, printed, both, afterwards}
 use Rattle.fort_machine.specs.Acts.{unit, enters, turns}
 use Rattle.fort_machine.specs.Attempts.{goes}
 use Rattle.fort_machine.specs.Runs.{Runs, none, step, path_to, location}
@@ -22,11 +22,11 @@ use Rattle.fort_greet.proofs.Steps.{line_of, line_cost, starting, calls_run, run
 use Rattle.fort_greet.proofs.OneWay.{OneWay, call_alone, no_open_part, value_not_open, call_plain, call_does, call_not_value, call_not_throw, ended, goes_on, next_is, value_ends, value_has_no_next}
 
 -- what both steps do
-abbrev pub all_done : List ℕ → Deed
+abbrev pub all_done : List ℕ → Effect
 all_done said = both (paid 1) (both (printed (line_of said) (line_cost said)) idle)
 
 -- A run of a greeting has come to its first term, to the call of `println`, or to `()`.
-pub data Came (said : List ℕ) (t : Term) (d : Deed) : Type 0 where
+pub data Came (said : List ℕ) (t : Term) (d : Effect) : Type 0 where
   at_first : t ≡ starting → d ≡ idle → Came said t d
   at_printing : t ≡ printing said → d ≡ both (paid 1) idle → Came said t d
   at_end : t ≡ term.Value unit → d ≡ all_done said → Came said t d
@@ -55,7 +55,7 @@ module _ (said : List ℕ) (p : Program) (h : IsProgram said p) where
         (println_turns said p h) loc c e l in (k.1, k.2);
   }
 
-  pub came : (s : Store) (picks : List Pick) (t : Term) (d : Deed) → Runs p false true s picks starting (goes t) d → Came said t d
+  pub came : (s : Store) (picks : List Pick) (t : Term) (d : Effect) → Runs p false true s picks starting (goes t) d → Came said t d
   came s [] t d r = let z = ended p s starting (goes t) d r in at_first (same_term t starting z.0) z.1
   came s (x ∷ []) t d r =
       let a = goes_on p s starting (printing said) (paid 1) starts x [] (goes t) d r in
@@ -75,33 +75,33 @@ module _ (said : List ℕ) (p : Program) (h : IsProgram said p) where
       absurd (value_ends p (afterwards (printed (line_of said) (line_cost said)) one) unit z more (goes t) b.0 b.1.0)
 
   -- the fuel is out
-  out_first : (fuel : ℕ) (t : Term) (d : Deed) (pick : Pick) → t ≡ starting → d ≡ idle → PassesFuel p fuel t d pick → fuel < cost said
+  out_first : (fuel : ℕ) (t : Term) (d : Effect) (pick : Pick) → t ≡ starting → d ≡ idle → PassesFuel p fuel t d pick → fuel < cost said
   out_first fuel t d pick e q f =
       let w = subst (λ x. OneWay p x (printing said) (paid 1)) (sym e) starts in
-      let z : f.deed ≡ both (paid 1) idle = next_is p (afterwards d (opening_store p)) t (printing said) (paid 1) w pick f.deed f.is_next in
-      let one : f.deed.cost ≡ 1 = ap (λ (x : Deed). x.cost) z in
-      let spent : d.cost ≡ 0 = ap (λ (x : Deed). x.cost) q in
+      let z : f.effect ≡ both (paid 1) idle = next_is p (afterwards d (opening_store p)) t (printing said) (paid 1) w pick f.effect f.is_next in
+      let one : f.effect.cost ≡ 1 = ap (λ (x : Effect). x.cost) z in
+      let spent : d.cost ≡ 0 = ap (λ (x : Effect). x.cost) q in
       omega (arith, f.passes, one, spent)
 
-  out_printing : (fuel : ℕ) (t : Term) (d : Deed) (pick : Pick) → t ≡ printing said → d ≡ both (paid 1) idle → PassesFuel p fuel t d pick → fuel < cost said
+  out_printing : (fuel : ℕ) (t : Term) (d : Effect) (pick : Pick) → t ≡ printing said → d ≡ both (paid 1) idle → PassesFuel p fuel t d pick → fuel < cost said
   out_printing fuel t d pick e q f =
       let line = printed (line_of said) (line_cost said) in
       let w = subst (λ x. OneWay p x (term.Value unit) line) (sym e) prints_it in
-      let z : f.deed ≡ both line idle = next_is p (afterwards d (opening_store p)) t (term.Value unit) line w pick f.deed f.is_next in
-      let one : f.deed.cost ≡ 1 + length (line_of said) + 0 = ap (λ (x : Deed). x.cost) z in
-      let spent : d.cost ≡ 1 = ap (λ (x : Deed). x.cost) q in
+      let z : f.effect ≡ both line idle = next_is p (afterwards d (opening_store p)) t (term.Value unit) line w pick f.effect f.is_next in
+      let one : f.effect.cost ≡ 1 + length (line_of said) + 0 = ap (λ (x : Effect). x.cost) z in
+      let spent : d.cost ≡ 1 = ap (λ (x : Effect). x.cost) q in
       let long = length_line said in
       omega (arith, f.passes, one, spent, long)
 
   -- the end of a run
-  pub ends_so : (fuel : ℕ) (t : Term) (d : Deed) (ending : Ending) → Came said t d → d.cost ≤ fuel → Ends p fuel t d ending → EndsSo said fuel d.output ending
+  pub ends_so : (fuel : ℕ) (t : Term) (d : Effect) (ending : Ending) → Came said t d → d.cost ≤ fuel → Ends p fuel t d ending → EndsSo said fuel d.output ending
   ends_so fuel t d NotRun c within e = absurd e
   ends_so fuel t d Completed (at_first q x) within e = absurd (call_not_value (set 1) [] unit (sym q ∙ e))
   ends_so fuel t d Completed (at_printing q x) within e = absurd (call_not_value (set 0) (term.Value (Text said) ∷ []) unit (sym q ∙ e))
   ends_so fuel t d Completed (at_end q x) within e =
-      let spent : d.cost ≡ 1 + (1 + length (line_of said) + 0) = ap (λ (y : Deed). y.cost) x in
+      let spent : d.cost ≡ 1 + (1 + length (line_of said) + 0) = ap (λ (y : Effect). y.cost) x in
       let long = length_line said in
-      completes (omega (arith, within, spent, long)) (ap (λ (y : Deed). y.output) x ∙ nothing_behind (line_of said)) refl
+      completes (omega (arith, within, spent, long)) (ap (λ (y : Effect). y.output) x ∙ nothing_behind (line_of said)) refl
     where
       nothing_behind : (xs : List ℕ) → xs ++ [] ≡ xs
       nothing_behind [] = refl
@@ -109,13 +109,13 @@ module _ (said : List ℕ) (p : Program) (h : IsProgram said p) where
   ends_so fuel t d (Uncaught v) (at_first q x) within e = absurd (call_not_throw (set 1) [] v (sym q ∙ e))
   ends_so fuel t d (Uncaught v) (at_printing q x) within e = absurd (call_not_throw (set 0) (term.Value (Text said) ∷ []) v (sym q ∙ e))
   ends_so fuel t d (Uncaught v) (at_end q x) within e = absurd (value_not_throw unit v (sym q ∙ e))
-  ends_so fuel t d (OutOfFuel pick) (at_first q x) within e = runs_out pick (out_first fuel t d pick q x e) (ap (λ (y : Deed). y.output) x) refl
-  ends_so fuel t d (OutOfFuel pick) (at_printing q x) within e = runs_out pick (out_printing fuel t d pick q x e) (ap (λ (y : Deed). y.output) x) refl
+  ends_so fuel t d (OutOfFuel pick) (at_first q x) within e = runs_out pick (out_first fuel t d pick q x e) (ap (λ (y : Effect). y.output) x) refl
+  ends_so fuel t d (OutOfFuel pick) (at_printing q x) within e = runs_out pick (out_printing fuel t d pick q x e) (ap (λ (y : Effect). y.output) x) refl
   ends_so fuel t d (OutOfFuel pick) (at_end q x) within e =
-      absurd (value_has_no_next p (afterwards d (opening_store p)) unit pick e.deed (subst (λ y. IsNext p (afterwards d (opening_store p)) y pick e.deed) q e.is_next))
+      absurd (value_has_no_next p (afterwards d (opening_store p)) unit pick e.effect (subst (λ y. IsNext p (afterwards d (opening_store p)) y pick e.effect) q e.is_next))
 
   -- nowhere does it stick
-  never_stuck : (s : Store) (t : Term) (d : Deed) → Came said t d → IsStuck p s t → ⊥
+  never_stuck : (s : Store) (t : Term) (d : Effect) → Came said t d → IsStuck p s t → ⊥
   never_stuck s t d (at_first q x) k =
       k.no_pick (Step (path_to []) (location 0)) (goes (printing said)) (both (paid 1) idle)
       (subst (λ y. Runs p false true s (Step (path_to []) (location 0) ∷ []) y (goes (printing said)) (both (paid 1) idle)) (sym q)
@@ -127,30 +127,30 @@ module _ (said : List ℕ) (p : Program) (h : IsProgram said p) where
   never_stuck s t d (at_end q x) k = k.not_completed q
 
   -- where a run of the program has come
-  came_from_first : (picks : List Pick) (t : Term) (d : Deed) → Runs p false true (opening_store p) picks p.first (goes t) d → Came said t d
+  came_from_first : (picks : List Pick) (t : Term) (d : Effect) → Runs p false true (opening_store p) picks p.first (goes t) d → Came said t d
   came_from_first picks t d r = came (opening_store p) picks t d (subst (λ x. Runs p false true (opening_store p) picks x (goes t) d) h.first r)
 
-  not_stuck : (fuel : ℕ) (t : Term) (d : Deed) (ending : Ending) (o : Option Term) → Came said t d → EndsWalk p fuel t d ending o → Ends p fuel t d ending
+  not_stuck : (fuel : ℕ) (t : Term) (d : Effect) (ending : Ending) (o : Option Term) → Came said t d → EndsWalk p fuel t d ending o → Ends p fuel t d ending
   not_stuck fuel t d ending None c e = e
   not_stuck fuel t d ending (Some u) c e = absurd (never_stuck (afterwards d (opening_store p)) t d c e.2)
 
   -- what the walk answers
   pub walk_greets : (fuel : ℕ) (w : Walked) → Walks p fuel w → Greets said fuel (record { journal = w.journal; output = w.output })
   walk_greets fuel w k =
-      let c = came_from_first w.journal.picks k.term k.deed k.is_run.runs in
-      let e = not_stuck fuel k.term k.deed w.journal.ending w.stuck c k.ends in record {
+      let c = came_from_first w.journal.picks k.term k.effect k.is_run.runs in
+      let e = not_stuck fuel k.term k.effect w.journal.ending w.stuck c k.ends in record {
         program = p;
         is_program = h;
         term = k.term;
-        deed = k.deed;
+        effect = k.effect;
         records = record {
           is_run = k.is_run;
-          within_fuel = subst (λ n. k.deed.cost ≤ n) (sym k.is_fuel) k.within_fuel;
-          ends = subst (λ n. Ends p n k.term k.deed w.journal.ending) (sym k.is_fuel) e;
+          within_fuel = subst (λ n. k.effect.cost ≤ n) (sym k.is_fuel) k.within_fuel;
+          ends = subst (λ n. Ends p n k.term k.effect w.journal.ending) (sym k.is_fuel) e;
         };
         is_fuel = k.is_fuel;
         is_output = k.is_output;
-        ends = subst (λ o. EndsSo said fuel o w.journal.ending) (sym k.is_output) (ends_so fuel k.term k.deed w.journal.ending c k.within_fuel e);
+        ends = subst (λ o. EndsSo said fuel o w.journal.ending) (sym k.is_output) (ends_so fuel k.term k.effect w.journal.ending c k.within_fuel e);
       }
 
 pub greetings_end_so : GreetingsEndSo

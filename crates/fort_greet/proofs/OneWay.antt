@@ -12,7 +12,7 @@ use Rattle.fort_core.specs.declared.term.Term as term
 use Rattle.fort_core.specs.declared.term.Term.TheVariants.{outs-Call, outs-Value, outs-Throw, outs-Atomic, outs-Asleep}
 use Rattle.fort_core.specs.declared.term.Term.TheOpen.{Term-F}
 use Rattle.fort_core.specs.declared.value.Value.{Value}
-use Rattle.fort_machine.specs.Deeds.{Store, Deed, idle, both, afterwards}
+use Rattle.fort_machine.specs.Effects.{Store, Effect, idle, both, afterwards}
 use Rattle.fort_machine.specs.Ends.{at_value, open_yet, standing, throw_of}
 use Rattle.fort_machine.specs.Frames.{Frame, in_call, in_throw, plug}
 use Rattle.fort_machine.specs.Acts.{Act, calls}
@@ -28,10 +28,10 @@ use Rattle.fort_machine.proofs.Ready.{local_ready, form_ready}
 use Rattle.fort_task.proofs.Still.{value_still}
 
 -- A term has no thread but itself, is no atomic form, and steps to this term alone, doing this.
-pub record OneWay (p : Program) (t b : Term) (d : Deed) : Type 0 where
+pub record OneWay (p : Program) (t b : Term) (d : Effect) : Type 0 where
   pub alone : (fs : List Frame) (a : Term) → t ≡ plug fs a → Ready a → fs ≡ []
   pub plain : (m : Mode) (body : Term) → Form t m body → ⊥
-  pub way : (loc : ℕ) (c : Term) (e : Deed) → Local p false loc t c e → (c ≡ b) × (e ≡ d)
+  pub way : (loc : ℕ) (c : Term) (e : Effect) → Local p false loc t c e → (c ≡ b) × (e ≡ d)
 
 -- ---- calls of values
 
@@ -70,7 +70,7 @@ one_decl p set vs n k a b h g =
 
 -- A call of values does what the declaration does that it runs.
 pub call_does : (p : Program) (t : Term) (set : SetId) (vs : List Value) (n : DeclId) (decl : CoreDecl) (x : Act) → act p t ≡ calls set vs → Dispatches p set vs n decl → by_body p decl.body vs ≡ x
-    → (loc : ℕ) (b : Term) (d : Deed) → Local p false loc t b d → Does p false loc x b d
+    → (loc : ℕ) (b : Term) (d : Effect) → Local p false loc t b d → Does p false loc x b d
 call_does p t set vs n decl x e h i loc b d (steps y (by_itself q) k) = absurd (subst (λ z. Does p false loc z b d) (sym q ∙ e) k)
 call_does p t set vs n decl x e h i loc b d (steps y (by_call {set = set'} {values = vs'} {d = n'} {decl = decl'} q h' i') k) =
     let z : calls set vs ≡ calls set' vs' = sym e ∙ q in
@@ -92,15 +92,15 @@ call_not_throw set ts v e = let z = sym (outs-Call set ts) ∙ ap out-Term e ∙
 
 module _ (p : Program) (s : Store) where
   -- a run of no picks
-  pub ended : (t : Term) (r : Ended) (d : Deed) → Runs p false true s [] t r d → (r ≡ goes t) × (d ≡ idle)
+  pub ended : (t : Term) (r : Ended) (d : Effect) → Runs p false true s [] t r d → (r ≡ goes t) × (d ≡ idle)
   ended t r d (none q x y) = (x, y)
   ended t r d (step fs q te l fit more de) = absurd cc
   ended t r d (stop fs i q te h re de) = absurd cc
   ended t r d (attempt fs q te f bare may run closes more de) = absurd cc
 
   -- a run from a term that steps in one way
-  pub goes_on : (t b : Term) (e : Deed) → OneWay p t b e → (pick : Pick) (rest : List Pick) (r : Ended) (d : Deed) → Runs p false true s (pick ∷ rest) t r d
-      → (d2 : Deed) × (Runs p false true (afterwards e s) rest b r d2 × (d ≡ both e d2))
+  pub goes_on : (t b : Term) (e : Effect) → OneWay p t b e → (pick : Pick) (rest : List Pick) (r : Ended) (d : Effect) → Runs p false true s (pick ∷ rest) t r d
+      → (d2 : Effect) × (Runs p false true (afterwards e s) rest b r d2 × (d ≡ both e d2))
   goes_on t b e w pick rest r d (none q x y) = absurd cc
   goes_on t b e w pick rest r d (step {rest = left} {a = a} {b = c} {d1 = d1} {d2 = d2} {loc = loc} fs q te l fit more de) =
       let o = w.alone fs a te (local_ready p false loc a c d1 l) in
@@ -121,7 +121,7 @@ module _ (p : Program) (s : Store) where
       let here : t ≡ a = te ∙ ap (λ x. plug x a) o in
       absurd (w.plain m body (subst (λ x. Form x m body) (sym here) f))
 
-  not_begun : (t b : Term) (e : Deed) → OneWay p t b e → (pick : Pick) (d : Deed) → Begun p true s pick t d → ⊥
+  not_begun : (t b : Term) (e : Effect) → OneWay p t b e → (pick : Pick) (d : Effect) → Begun p true s pick t d → ⊥
   not_begun t b e w pick d (so_far {m = m} {a = a} {body = body} fs q te f bare may run de) =
       let o = w.alone fs a te (form_ready a m body f) in
       let here : t ≡ a = te ∙ ap (λ x. plug x a) o in
@@ -132,11 +132,11 @@ module _ (p : Program) (s : Store) where
       w.plain m body (subst (λ x. Form x m body) (sym here) f)
 
   -- what may come next
-  pub next_is : (t b : Term) (e : Deed) → OneWay p t b e → (pick : Pick) (d : Deed) → IsNext p s t pick d → d ≡ both e idle
+  pub next_is : (t b : Term) (e : Effect) → OneWay p t b e → (pick : Pick) (d : Effect) → IsNext p s t pick d → d ≡ both e idle
   next_is t b e w pick d (inl (r, run)) =
       let z = goes_on t b e w pick [] r d run in z.1.1 ∙ ap (both e) (ended_after b r z.0 z.1.0)
     where
-      ended_after : (u : Term) (o : Ended) (d2 : Deed) → Runs p false true (afterwards e s) [] u o d2 → d2 ≡ idle
+      ended_after : (u : Term) (o : Ended) (d2 : Effect) → Runs p false true (afterwards e s) [] u o d2 → d2 ≡ idle
       ended_after u o d2 (none q x y) = y
       ended_after u o d2 (step fs q te l fit more de) = absurd cc
       ended_after u o d2 (stop fs i q te h re de) = absurd cc
@@ -147,13 +147,13 @@ module _ (p : Program) (s : Store) where
   open_value : (v : Value) (fs : List Frame) (a : Term) (m : Mode) (body : Term) → term.Value v ≡ plug fs a → Form a m body → ⊥
   open_value v fs a m body te f = let z : at_value v ≡ open_yet = sym (standing-Value v) ∙ ap standing te ∙ plug_open fs a (ready_open a (form_ready a m body f)) in cc
 
-  pub value_ends : (v : Value) (pick : Pick) (rest : List Pick) (r : Ended) (d : Deed) → Runs p false true s (pick ∷ rest) (term.Value v) r d → ⊥
+  pub value_ends : (v : Value) (pick : Pick) (rest : List Pick) (r : Ended) (d : Effect) → Runs p false true s (pick ∷ rest) (term.Value v) r d → ⊥
   value_ends v pick rest r d (none q x y) = cc
   value_ends v pick rest r d (step {a = a} {b = b} {d1 = d1} {loc = loc} fs q te l fit more de) = value_still p v fs a b loc d1 te l
   value_ends v pick rest r d (stop fs i q te h re de) = cc
   value_ends v pick rest r d (attempt {m = m} {a = a} {body = body} fs q te f bare may run closes more de) = open_value v fs a m body te f
 
-  pub value_has_no_next : (v : Value) (pick : Pick) (d : Deed) → IsNext p s (term.Value v) pick d → ⊥
+  pub value_has_no_next : (v : Value) (pick : Pick) (d : Effect) → IsNext p s (term.Value v) pick d → ⊥
   value_has_no_next v pick d (inl (r, run)) = value_ends v pick [] r d run
   value_has_no_next v pick d (inr (so_far {m = m} {a = a} {body = body} fs q te f bare may run de)) = open_value v fs a m body te f
   value_has_no_next v pick d (inr (inside {m = m} {a = a} {body = body} fs q te f bare may run more de)) = open_value v fs a m body te f

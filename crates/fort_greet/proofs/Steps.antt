@@ -19,7 +19,7 @@ use Rattle.fort_types.specs.Relation.{Relation, below_at, relation}
 use Rattle.fort_machine.specs.Types.{all_below, type_at, type_of, domain_of}
 use Rattle.fort_machine.specs.Texts.{text_at, text}
 use Rattle.fort_machine.specs.Primitives.{prints}
-use Rattle.fort_machine.specs.Deeds.{paid, printed}
+use Rattle.fort_machine.specs.Effects.{paid, printed}
 use Rattle.fort_machine.specs.Acts.{turns, enters, calls, unit, with_first, at_values, by_together}
 use Rattle.fort_machine.specs.Forms.{act_at, act}
 use Rattle.fort_machine.specs.Calls.{IsApplicable, Dispatches, by_answer, by_body}

@@ -6,7 +6,7 @@ use Rattle.fort_core.specs.declared.journal.Journal.{Journal}
 use Rattle.fort_core.specs.declared.pick.Pick.{Pick}
 use Rattle.fort_core.specs.declared.program.Program.{Program}
 use Rattle.fort_core.specs.declared.term.Term.{Term}
-use Rattle.fort_machine.specs.Deeds.{Deed}
+use Rattle.fort_machine.specs.Effects.{Effect}
 use Rattle.fort_machine.specs.Journals.{Records}
 use Rattle.fort_greet.specs.Program.{IsProgram}
 use Rattle.fort_greet.specs.declared.greeted.Greeted.{Greeted}
@@ -22,15 +22,15 @@ pub data EndsSo (text : List ℕ) (fuel : ℕ) (output : List ℕ) (ending : End
 
 -- Every run of a greeting, with whatever fuel, ends so.
 abbrev pub GreetingsEndSo : Type 0
-GreetingsEndSo = (text : List ℕ) (p : Program) (j : Journal) (t : Term) (d : Deed) → IsProgram text p → Records p j t d → EndsSo text j.fuel d.output j.ending
+GreetingsEndSo = (text : List ℕ) (p : Program) (j : Journal) (t : Term) (d : Effect) → IsProgram text p → Records p j t d → EndsSo text j.fuel d.output j.ending
 
 -- What is answered of a greeting and a fuel: the journal of a run of its program with that fuel, what the run prints, and how it ends.
 pub record Greets (text : List ℕ) (fuel : ℕ) (g : Greeted) : Type 0 where
   pub program : Program
   pub is_program : IsProgram text program
   pub term : Term
-  pub deed : Deed
-  pub records : Records program g.journal term deed
+  pub effect : Effect
+  pub records : Records program g.journal term effect
   pub is_fuel : g.journal.fuel ≡ fuel
-  pub is_output : g.output ≡ deed.output
+  pub is_output : g.output ≡ effect.output
   pub ends : EndsSo text fuel g.output g.journal.ending

@@ -8,7 +8,7 @@ ghost use Rattle.fort_machine.specs.Worked.{numbered};
 
 use fort_base::{Bytes, List, Loc, Memory, Ty, TypeId, TypeTable};
 use fort_core::{BuiltIn, CoreKind, CoreShape, Value};
-use fort_types::{Declared, Kind, rows};
+use fort_types::{DeclaredType, TypeKind, rows};
 use std::alloc::Global;
 
 /// How many exceptions are built in; their locations are the numbers below this, in the order of their types.
@@ -40,20 +40,20 @@ pub(crate) fn table(alloc: Global) -> Result<TypeTable, Memory>
     ensures { IfOk result (HasRows built_in_declared) }
 {
     let mut types = List::new(alloc);
-    types.push(simple(alloc, Kind::Trait, &[])?)?;
-    types.push(simple(alloc, Kind::Trait, &[0])?)?;
-    add_simple(alloc, Kind::Leaf, 0, 5, &mut types)?;
-    add_simple(alloc, Kind::Object, 1, 10, &mut types)?;
+    types.push(simple(alloc, TypeKind::Trait, &[])?)?;
+    types.push(simple(alloc, TypeKind::Trait, &[0])?)?;
+    add_simple(alloc, TypeKind::Leaf, 0, 5, &mut types)?;
+    add_simple(alloc, TypeKind::Object, 1, 10, &mut types)?;
     rows(alloc, types.as_slice())
 }
 
 /// Adds so many types of a kind that extend one type.
 fn add_simple(
     alloc: Global,
-    kind: Kind,
+    kind: TypeKind,
     above: usize,
     count: usize,
-    types: &mut List<Declared>,
+    types: &mut List<DeclaredType>,
 ) -> Result<(), Memory>
     ensures { OnOk result (types.new ≡ types.old ++ replicate count (plain kind (above ∷ []))) }
 {
@@ -64,10 +64,10 @@ fn add_simple(
 }
 
 /// A type that excludes nothing and has no list.
-fn simple(alloc: Global, kind: Kind, extends: &[usize]) -> Result<Declared, Memory>
+fn simple(alloc: Global, kind: TypeKind, extends: &[usize]) -> Result<DeclaredType, Memory>
     ensures { IfOk result (λ declared. declared ≡ plain kind extends.now) }
 {
-    Ok(Declared {
+    Ok(DeclaredType {
         kind,
         extends: List::from_slice(alloc, extends)?,
         excludes: List::new(alloc),

@@ -6,7 +6,7 @@ use Rattle.fort_tree.specs.declared.declarations.Component.{Component}
 use Rattle.fort_tree.specs.declared.spot.Name.{Name}
 use Rattle.fort_types.specs.Hierarchy as declarations
 use Rattle.fort_hier.specs.declared.accepted.Hierarchy.{Hierarchy}
-use Rattle.fort_hier.specs.declared.heads.Head.{Head}
+use Rattle.fort_hier.specs.declared.heads.TypeHead.{TypeHead}
 use Rattle.fort_hier.specs.Heads.{heads_of, head_place}
 use Rattle.fort_hier.specs.Names.{Spelling}
 use Rattle.fort_hier.specs.Numbers.{all_types, built_in_declared, declared_by, declared_types, hierarchy_of, IsUnknown}
@@ -16,18 +16,18 @@ use Rattle.fort_hier.proofs.NamesWalk.{as_long}
 use Rattle.fort_hier.proofs.Soundness.{sound, built_in_count}
 
 module _ (c : Component) where
-  pub types_by : {types : declarations.Hierarchy} {names : List Spelling} {heads : List Head} → types ≡ hierarchy_of names heads → names ≡ c.names → heads ≡ heads_of c → types ≡ declares c
+  pub types_by : {types : declarations.Hierarchy} {names : List Spelling} {heads : List TypeHead} → types ≡ hierarchy_of names heads → names ≡ c.names → heads ≡ heads_of c → types ≡ declares c
   types_by {heads = heads} t e f = t ∙ ap (λ z. hierarchy_of z heads) e ∙ ap (hierarchy_of c.names) f
 
-  pub names_by : {names : List Spelling} {heads : List Head} → names ≡ c.names → heads ≡ heads_of c → declared_types names heads ≡ declared_types c.names (heads_of c)
+  pub names_by : {names : List Spelling} {heads : List TypeHead} → names ≡ c.names → heads ≡ heads_of c → declared_types names heads ≡ declared_types c.names (heads_of c)
   names_by {heads = heads} e f = ap (λ z. declared_types z heads) e ∙ ap (declared_types c.names) f
 
   -- what is said of unknown names, and of the types' sentences
-  pub unknown_by : (mentioned : List Name) (Q : (Place → Type 0) → Type 0) {names : List Spelling} {heads : List Head} → names ≡ c.names → heads ≡ heads_of c
+  pub unknown_by : (mentioned : List Name) (Q : (Place → Type 0) → Type 0) {names : List Spelling} {heads : List TypeHead} → names ≡ c.names → heads ≡ heads_of c
       → Q (IsUnknown (all_types names heads) names mentioned) → Q (IsUnknown (all_types c.names (heads_of c)) c.names mentioned)
   unknown_by mentioned Q {heads = heads} e f w = subst (λ z. Q (IsUnknown (all_types c.names z) c.names mentioned)) f (subst (λ z. Q (IsUnknown (all_types z heads) z mentioned)) e w)
 
-  pub sentences_by : (Q : declarations.Hierarchy → List Place → Type 0) {types : declarations.Hierarchy} {heads : List Head} → types ≡ declares c → heads ≡ heads_of c
+  pub sentences_by : (Q : declarations.Hierarchy → List Place → Type 0) {types : declarations.Hierarchy} {heads : List TypeHead} → types ≡ declares c → heads ≡ heads_of c
       → Q types (map head_place heads) → Q (declares c) (places_of c)
   sentences_by Q {heads = heads} t f w = subst (λ z. Q (declares c) (map head_place z)) f (subst (λ z. Q z (map head_place heads)) t w)
 

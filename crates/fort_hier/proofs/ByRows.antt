@@ -3,21 +3,21 @@ use Rattle.std.proofs.Common.{◌≡◌, ◌≢◌, ◌<◌, ◌⊎◌, inl, inr
 use Rattle.std.specs.List.{slice_get, Contains}
 use Rattle.std.proofs.lemmas.Option.{slice_get_within, slice_get-get_or, get_or_from_slice_get}
 use Rattle.fort_base.specs.declared.table.TypeTable.{TypeTable}
-use Rattle.fort_types.specs.declared.hierarchy.Declared.{Declared}
-use Rattle.fort_types.specs.Hierarchy.{Hierarchy, Path, Leaf}
+use Rattle.fort_types.specs.declared.hierarchy.DeclaredType.{DeclaredType}
+use Rattle.fort_types.specs.Hierarchy.{DeclaredTypes, Path, Leaf}
 use Rattle.fort_types.specs.Table.{is_set, IsExact, HasRows}
 use Rattle.fort_types.proofs.Bits.{set_inside}
 use Rattle.fort_types.proofs.Paths.{end_inside, start_inside}
 use Rattle.fort_hier.specs.Sentences.{IsOnCycle, ExtendsLeaf, IsBelowBoth, IsNotListed, ListsOther}
 use Rattle.fort_hier.specs.Walks.{SomeOf, SomeSet, SomeUnset, SomeLeaf, SomeUnlisted, SomeExcluding}
 
-pub path_of : (h : Hierarchy) (rows : List (List Bool)) (i j : ℕ) → IsExact (Path h) (length h) rows → IsTrue (is_set rows i j) → Path h i j
+pub path_of : (h : DeclaredTypes) (rows : List (List Bool)) (i j : ℕ) → IsExact (Path h) (length h) rows → IsTrue (is_set rows i j) → Path h i j
 path_of h rows i j e t = let k = set_inside rows i j (length h) e.wide t in let m = e.high in (e.sets i j (let l = k.0 in omega arith) k.1).0 t
 
-pub set_of : (h : Hierarchy) (rows : List (List Bool)) (i j : ℕ) → IsExact (Path h) (length h) rows → i < length h → Path h i j → IsTrue (is_set rows i j)
+pub set_of : (h : DeclaredTypes) (rows : List (List Bool)) (i j : ℕ) → IsExact (Path h) (length h) rows → i < length h → Path h i j → IsTrue (is_set rows i j)
 set_of h rows i j e l p = (e.sets i j l (end_inside h i j p l)).1 p
 
-pub set_to : (h : Hierarchy) (rows : List (List Bool)) (i j : ℕ) → IsExact (Path h) (length h) rows → j < length h → Path h i j → IsTrue (is_set rows i j)
+pub set_to : (h : DeclaredTypes) (rows : List (List Bool)) (i j : ℕ) → IsExact (Path h) (length h) rows → j < length h → Path h i j → IsTrue (is_set rows i j)
 set_to h rows i j e l p = (e.sets i j (start_inside h i j p l) l).1 p
 
 -- the number at a place of a list stands in the list, and the other way round
@@ -35,24 +35,24 @@ some_of P list x w p = (w.0, w.1, subst P (sym (get_or_from_slice_get list w.0 x
 pub of_some : (P : ℕ → Type 0) (list : List ℕ) → SomeOf P list → (x : ℕ) × Contains list x × P x
 of_some P list w = (get_or list w.0 0, stands list w.0 w.1, w.2)
 
-one : (h : Hierarchy) (a : ℕ) (d e : Declared) → slice_get h a ≡ Some d → slice_get h a ≡ Some e → d ≡ e
+one : (h : DeclaredTypes) (a : ℕ) (d e : DeclaredType) → slice_get h a ≡ Some d → slice_get h a ≡ Some e → d ≡ e
 one h a d e p q = cc
 
-pub cycle_told : (h : Hierarchy) (table : TypeTable) (a : ℕ) (d : Declared) (r : Bool) → HasRows h table → a < length h → slice_get h a ≡ Some d → IsTrue r ↔ SomeSet table.below d.extends a → IsTrue r ↔ IsOnCycle h a
+pub cycle_told : (h : DeclaredTypes) (table : TypeTable) (a : ℕ) (d : DeclaredType) (r : Bool) → HasRows h table → a < length h → slice_get h a ≡ Some d → IsTrue r ↔ SomeSet table.below d.extends a → IsTrue r ↔ IsOnCycle h a
 cycle_told h table a d r t l e w = (
   λ v. let s = of_some (λ b. IsTrue (is_set table.below b a)) d.extends (w.0 v) in
       let k = set_inside table.below s.0 a (length h) t.below.wide s.2 in let m = t.below.high in
       (s.0, (d, e, s.1, let n = k.0 in omega arith), path_of h table.below s.0 a t.below s.2),
-  λ v. w.1 (some_of (λ b. IsTrue (is_set table.below b a)) d.extends v.0 (subst (λ (z : Declared). Contains z.extends v.0) (one h a v.1.0 d v.1.1 e) v.1.2) (set_of h table.below v.0 a t.below v.1.3 v.2)),
+  λ v. w.1 (some_of (λ b. IsTrue (is_set table.below b a)) d.extends v.0 (subst (λ (z : DeclaredType). Contains z.extends v.0) (one h a v.1.0 d v.1.1 e) v.1.2) (set_of h table.below v.0 a t.below v.1.3 v.2)),
 )
 
-pub leaf_told : (h : Hierarchy) (a : ℕ) (d : Declared) (r : Bool) → slice_get h a ≡ Some d → IsTrue r ↔ SomeLeaf h d.extends → IsTrue r ↔ ExtendsLeaf h a
+pub leaf_told : (h : DeclaredTypes) (a : ℕ) (d : DeclaredType) (r : Bool) → slice_get h a ≡ Some d → IsTrue r ↔ SomeLeaf h d.extends → IsTrue r ↔ ExtendsLeaf h a
 leaf_told h a d r e w = (
   λ v. let s = of_some (Leaf h) d.extends (w.0 v) in (s.0, (d, e, s.1, slice_get_within h s.0 s.2.0 s.2.1), s.2),
-  λ v. w.1 (some_of (Leaf h) d.extends v.0 (subst (λ (z : Declared). Contains z.extends v.0) (one h a v.1.0 d v.1.1 e) v.1.2) v.2),
+  λ v. w.1 (some_of (Leaf h) d.extends v.0 (subst (λ (z : DeclaredType). Contains z.extends v.0) (one h a v.1.0 d v.1.1 e) v.1.2) v.2),
 )
 
-pub both_told : (h : Hierarchy) (table : TypeTable) (a : ℕ) (r : Bool) → HasRows h table → a < length h → IsTrue r ↔ SomeExcluding h table.below a → IsTrue r ↔ IsBelowBoth h a
+pub both_told : (h : DeclaredTypes) (table : TypeTable) (a : ℕ) (r : Bool) → HasRows h table → a < length h → IsTrue r ↔ SomeExcluding h table.below a → IsTrue r ↔ IsBelowBoth h a
 both_told h table a r t l w = (there, back)
   where
     P : ℕ → Type 0
@@ -72,7 +72,7 @@ both_told h table a r t l w = (there, back)
           (elim v.4 as (λ _. (v.1 ≡ length h) ⊎ IsTrue (is_set table.below a v.1)) [ inl e ↦ inl e | inr p ↦ inr (set_of h table.below a v.1 t.below l p) ]),
     )
 
-pub unlisted_told : (h : Hierarchy) (a : ℕ) (d : Declared) (r : Bool) → slice_get h a ≡ Some d → IsTrue r ↔ SomeUnlisted h d.extends a → IsTrue r ↔ IsNotListed h a
+pub unlisted_told : (h : DeclaredTypes) (a : ℕ) (d : DeclaredType) (r : Bool) → slice_get h a ≡ Some d → IsTrue r ↔ SomeUnlisted h d.extends a → IsTrue r ↔ IsNotListed h a
 unlisted_told h a d r e w = (there, back)
   where
     held : (list : List ℕ) → list ≢ [] → (u : ℕ) × Contains list u
@@ -83,20 +83,20 @@ unlisted_told h a d r e w = (there, back)
     empty list u v e = let l = v.1 in let m : length list ≡ 0 = ap length e in omega arith
 
     Un : ℕ → Type 0
-    Un b = (d : Declared) × (slice_get h b ≡ Some d) × (d.comprises ≢ []) × (Contains d.comprises a → ⊥)
+    Un b = (d : DeclaredType) × (slice_get h b ≡ Some d) × (d.comprises ≢ []) × (Contains d.comprises a → ⊥)
 
     there : IsTrue r → IsNotListed h a
-    there v = let s = of_some (λ b. (d : Declared) × (slice_get h b ≡ Some d) × (d.comprises ≢ []) × (Contains d.comprises a → ⊥)) d.extends (w.0 v) in
+    there v = let s = of_some (λ b. (d : DeclaredType) × (slice_get h b ≡ Some d) × (d.comprises ≢ []) × (Contains d.comprises a → ⊥)) d.extends (w.0 v) in
         let u = held s.2.0.comprises s.2.2 in
-        (s.0, u.0, (d, e, s.1, slice_get_within h s.0 s.2.0 s.2.1), (s.2.0, s.2.1, u.1), λ m. s.2.3 (subst (λ (z : Declared). Contains z.comprises a) (one h s.0 m.0 s.2.0 m.1 s.2.1) m.2))
+        (s.0, u.0, (d, e, s.1, slice_get_within h s.0 s.2.0 s.2.1), (s.2.0, s.2.1, u.1), λ m. s.2.3 (subst (λ (z : DeclaredType). Contains z.comprises a) (one h s.0 m.0 s.2.0 m.1 s.2.1) m.2))
 
     back : IsNotListed h a → IsTrue r
-    back v = w.1 (some_of (λ b. (d : Declared) × (slice_get h b ≡ Some d) × (d.comprises ≢ []) × (Contains d.comprises a → ⊥)) d.extends v.0
-        (subst (λ (z : Declared). Contains z.extends v.0) (one h a v.2.0 d v.2.1 e) v.2.2)
+    back v = w.1 (some_of (λ b. (d : DeclaredType) × (slice_get h b ≡ Some d) × (d.comprises ≢ []) × (Contains d.comprises a → ⊥)) d.extends v.0
+        (subst (λ (z : DeclaredType). Contains z.extends v.0) (one h a v.2.0 d v.2.1 e) v.2.2)
         (v.3.0, v.3.1, empty v.3.0.comprises v.1 v.3.2, λ m. v.4 (v.3.0, v.3.1, m)))
 
-pub other_told : (h : Hierarchy) (table : TypeTable) (a : ℕ) (d : Declared) (r : Bool) → HasRows h table → a < length h → slice_get h a ≡ Some d → IsTrue r ↔ SomeUnset table.below d.comprises a → IsTrue r ↔ ListsOther h a
+pub other_told : (h : DeclaredTypes) (table : TypeTable) (a : ℕ) (d : DeclaredType) (r : Bool) → HasRows h table → a < length h → slice_get h a ≡ Some d → IsTrue r ↔ SomeUnset table.below d.comprises a → IsTrue r ↔ ListsOther h a
 other_told h table a d r t l e w = (
   λ v. let s = of_some (λ b. IsTrue (is_set table.below b a) → ⊥) d.comprises (w.0 v) in (s.0, (d, e, s.1), λ p. s.2 (set_to h table.below s.0 a t.below l p)),
-  λ v. w.1 (some_of (λ b. IsTrue (is_set table.below b a) → ⊥) d.comprises v.0 (subst (λ (z : Declared). Contains z.comprises v.0) (one h a v.1.0 d v.1.1 e) v.1.2) (λ q. v.2 (path_of h table.below v.0 a t.below q))),
+  λ v. w.1 (some_of (λ b. IsTrue (is_set table.below b a) → ⊥) d.comprises v.0 (subst (λ (z : DeclaredType). Contains z.comprises v.0) (one h a v.1.0 d v.1.1 e) v.1.2) (λ q. v.2 (path_of h table.below v.0 a t.below q))),
 )

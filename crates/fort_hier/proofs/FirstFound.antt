@@ -1,7 +1,7 @@
 -- What is found first, by other names of the lists that were asked.
 use Rattle.std.proofs.Common.{◌≡◌, List, Option, subst}
 use Rattle.fort_base.specs.declared.refusal.Place.{Place}
-use Rattle.fort_types.specs.Hierarchy.{Hierarchy}
+use Rattle.fort_types.specs.Hierarchy.{DeclaredTypes}
 use Rattle.fort_hier.specs.declared.lowest.BrokenSentence.{BrokenSentence}
 use Rattle.fort_hier.specs.declared.tops.Top.{Top}
 use Rattle.fort_hier.specs.Earliest.{IsFirst}
@@ -16,5 +16,5 @@ duplicate_by {names = names} {names' = names'} {tops = tops} {tops' = tops'} {r 
 pub first_by : (P : Place → Type 0) {r r' : Option Place} → r ≡ r' → IsFirst P r → IsFirst P r'
 first_by P e w = subst (IsFirst P) e w
 
-pub lowest_by : (h : Hierarchy) {places places' : List Place} {r r' : Option BrokenSentence} → places ≡ places' → r ≡ r' → IsLowestFrom h places 403 r → IsLowestFrom h places' 403 r'
+pub lowest_by : (h : DeclaredTypes) {places places' : List Place} {r r' : Option BrokenSentence} → places ≡ places' → r ≡ r' → IsLowestFrom h places 403 r → IsLowestFrom h places' 403 r'
 lowest_by h {places' = places'} {r = r} e f w = subst (IsLowestFrom h places' 403) f (subst (λ z. IsLowestFrom h z 403 r) e w)

@@ -3,7 +3,7 @@ use Rattle.std.proofs.Common.{◌≡◌, ◌≤◌, ◌+◌, ℕ, zero, suc, Lis
 use Rattle.std.specs.List.{slice_get, flat_map}
 use Rattle.std.proofs.lemmas.List.{append-nil}
 use Rattle.fort_tree.specs.declared.declarations.Declared.{Declared}
-use Rattle.fort_hier.specs.declared.heads.Head.{Head}
+use Rattle.fort_hier.specs.declared.heads.TypeHead.{TypeHead}
 use Rattle.fort_hier.specs.Heads.{head_of, heads_from}
 use Rattle.fort_hier.specs.Tops.{is_self, has_self}
 use Rattle.fort_tree.specs.declared.declarations.NextMethodParameter.{NextMethodParameter}
@@ -33,12 +33,12 @@ pub map_all : {X Y : Type 0} (f : X → Y) (base done : List Y) (xs : List X) (i
 map_all f base done xs i l h = sym (append-nil done) ∙ ap (λ z. done ++ map f z) (sym (rest_none xs i l)) ∙ h
 
 -- heads
-pub heads_step : (ds : List Declared) (done new : List Head) (i : ℕ) (d : Declared) → slice_get ds i ≡ Some d → done ++ heads_from i (drop i ds) ≡ heads_from 0 ds → new ≡ done ++ head_of i d.declaration
+pub heads_step : (ds : List Declared) (done new : List TypeHead) (i : ℕ) (d : Declared) → slice_get ds i ≡ Some d → done ++ heads_from i (drop i ds) ≡ heads_from 0 ds → new ≡ done ++ head_of i d.declaration
     → new ++ heads_from (i + 1) (drop (i + 1) ds) ≡ heads_from 0 ds
 heads_step ds done new i d e h n = ap (λ l. l ++ heads_from (i + 1) (drop (i + 1) ds)) n ∙ append_assoc done (head_of i d.declaration) (heads_from (i + 1) (drop (i + 1) ds))
     ∙ ap (λ l. done ++ heads_from i l) (sym (rest_of ds i d e)) ∙ h
 
-pub heads_all : (ds : List Declared) (done : List Head) (i : ℕ) → length ds ≤ i → done ++ heads_from i (drop i ds) ≡ heads_from 0 ds → done ≡ heads_from 0 ds
+pub heads_all : (ds : List Declared) (done : List TypeHead) (i : ℕ) → length ds ≤ i → done ++ heads_from i (drop i ds) ≡ heads_from 0 ds → done ≡ heads_from 0 ds
 heads_all ds done i l h = sym (append-nil done) ∙ ap (λ z. done ++ heads_from i z) (sym (rest_none ds i l)) ∙ h
 
 -- a list of lists, joined, that is built at its end

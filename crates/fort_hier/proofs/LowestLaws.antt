@@ -1,7 +1,7 @@
 -- From one sentence on to the next.
 use Rattle.std.proofs.Common.{◌≡◌, ◌≤◌, ◌+◌, ◌⊎◌, inl, inr, ℕ, List, Option, Some, None, refl, sym, ◌∙◌, subst, arith}
 use Rattle.fort_base.specs.declared.refusal.Place.{Place}
-use Rattle.fort_types.specs.Hierarchy.{Hierarchy}
+use Rattle.fort_types.specs.Hierarchy.{DeclaredTypes}
 use Rattle.fort_hier.specs.declared.lowest.BrokenSentence.{BrokenSentence}
 use Rattle.fort_hier.specs.declared.sentences.Sentence.{Sentence}
 use Rattle.fort_hier.specs.declared.sentences.Sentence.TheVariants as sentence
@@ -48,12 +48,12 @@ cases : (a b : ℕ) → a ≤ b → (a ≡ b) ⊎ (a + 1 ≤ b)
 cases a b l = grind arith
 
 -- the sentence of the bound is broken
-pub found : (h : Hierarchy) (places : List Place) (bound : ℕ) (s : Sentence) (place : Place) → rule_number s ≡ bound → IsEarliest (BreaksAt s h places) place
+pub found : (h : DeclaredTypes) (places : List Place) (bound : ℕ) (s : Sentence) (place : Place) → rule_number s ≡ bound → IsEarliest (BreaksAt s h places) place
     → IsLowest h places bound (record { sentence = s; place = place })
 found h places bound s place e f = record { earliest = f; above = omega arith; lowest = λ t at l w. omega arith }
 
 -- it isn't, so that what holds from the next on holds from it on
-pub passed : (h : Hierarchy) (places : List Place) (bound : ℕ) (s : Sentence) (r : Option BrokenSentence) → rule_number s ≡ bound → ((place : Place) → BreaksAt s h places place → ⊥)
+pub passed : (h : DeclaredTypes) (places : List Place) (bound : ℕ) (s : Sentence) (r : Option BrokenSentence) → rule_number s ≡ bound → ((place : Place) → BreaksAt s h places place → ⊥)
     → IsLowestFrom h places (bound + 1) r → IsLowestFrom h places bound r
 passed h places bound s None e n f = λ t place l w. elim (cases bound (rule_number t) l) as (λ _. ⊥) [
   | inl q ↦ n place (let o : t ≡ s = only t s (sym q ∙ sym e) in subst (λ z. BreaksAt z h places place) o w)
@@ -69,5 +69,5 @@ passed h places bound s (Some b) e n f = record {
 }
 
 -- behind the last sentence there is none
-pub none_left : (h : Hierarchy) (places : List Place) → IsLowestFrom h places 408 None
+pub none_left : (h : DeclaredTypes) (places : List Place) → IsLowestFrom h places 408 None
 none_left h places t place l w = let m = last t in omega arith

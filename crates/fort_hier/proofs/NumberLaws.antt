@@ -9,7 +9,7 @@ use Rattle.std.proofs.lemmas.List.{append-nil, take_more, map-append}
 use Rattle.std.proofs.Math.ListN.{length-append}
 use Rattle.fort_base.specs.declared.refusal.Place.{Place}
 use Rattle.fort_tree.specs.declared.spot.Name.{Name}
-use Rattle.fort_hier.specs.declared.heads.Head.{Head}
+use Rattle.fort_hier.specs.declared.heads.TypeHead.{TypeHead}
 use Rattle.fort_hier.specs.declared.numbers.Numbers.{Numbers}
 use Rattle.fort_hier.specs.Earliest.{IsFirst, Keeps}
 use Rattle.fort_hier.specs.Names.{Spelling, spelling, declared_spellings, any_spelling, type_spellings}
@@ -145,15 +145,15 @@ as_long : {X Y : Type 0} (f : X → Y) (xs : List X) → length (map f xs) ≡ l
 as_long f [] = refl
 as_long f (x ∷ xs) = let e = as_long f xs in omega arith
 
-heads_long : (heads : List Head) (n : ℕ) → n ≤ length heads → length (take n heads) ≡ n
+heads_long : (heads : List TypeHead) (n : ℕ) → n ≤ length heads → length (take n heads) ≡ n
 heads_long heads zero l = refl
 heads_long [] (suc n) l = absurd (omega arith)
 heads_long (x ∷ heads) (suc n) l = let e = heads_long heads n (omega arith) in omega arith
 
-pub heads_start : (names : List Spelling) (heads : List Head) (numbers : Numbers) → HoldsNumbers declared_spellings numbers → HoldsNumbers (declared_spellings ++ map (head_spelling names) (take 0 heads)) numbers
+pub heads_start : (names : List Spelling) (heads : List TypeHead) (numbers : Numbers) → HoldsNumbers declared_spellings numbers → HoldsNumbers (declared_spellings ++ map (head_spelling names) (take 0 heads)) numbers
 heads_start names heads numbers s = subst (λ z. HoldsNumbers z numbers) (sym (append-nil declared_spellings)) s
 
-pub heads_next : (names : List Spelling) (heads : List Head) (old new : Numbers) (i : ℕ) (head : Head) (word : Spelling) → slice_get heads i ≡ Some head → word ≡ spelling names head.name
+pub heads_next : (names : List Spelling) (heads : List TypeHead) (old new : Numbers) (i : ℕ) (head : TypeHead) (word : Spelling) → slice_get heads i ≡ Some head → word ≡ spelling names head.name
     → ((list : List Spelling) → HoldsNumbers list old → length list ≡ 17 + i → HoldsNumbers (list ++ word ∷ []) new)
     → HoldsNumbers (declared_spellings ++ map (head_spelling names) (take i heads)) old → HoldsNumbers (declared_spellings ++ map (head_spelling names) (take (i + 1) heads)) new
 heads_next names heads old new i head word e w h s = let c = declared_count in let l = slice_get_within heads i head e in
@@ -163,14 +163,14 @@ heads_next names heads old new i head word e w h s = let c = declared_count in l
     (ap (λ z. map (head_spelling names) (take i heads) ++ z ∷ []) w ∙ sym (ap (map (head_spelling names)) (more_of heads i head e) ∙ map-append (head_spelling names) (take i heads) (head ∷ []))))
     (h (declared_spellings ++ map (head_spelling names) (take i heads)) s (omega arith))
 
-heads_whole : (heads : List Head) (n : ℕ) → length heads ≤ n → take n heads ≡ heads
+heads_whole : (heads : List TypeHead) (n : ℕ) → length heads ≤ n → take n heads ≡ heads
 heads_whole heads n l = take_all heads n l
 
-pub heads_done : (names : List Spelling) (heads : List Head) (numbers : Numbers) (i : ℕ) → length heads ≤ i → HoldsNumbers (declared_spellings ++ map (head_spelling names) (take i heads)) numbers
+pub heads_done : (names : List Spelling) (heads : List TypeHead) (numbers : Numbers) (i : ℕ) → length heads ≤ i → HoldsNumbers (declared_spellings ++ map (head_spelling names) (take i heads)) numbers
     → HoldsNumbers (declared_spellings ++ map (head_spelling names) heads) numbers
 heads_done names heads numbers i l s = subst (λ z. HoldsNumbers (declared_spellings ++ map (head_spelling names) z) numbers) (heads_whole heads i l) s
 
-pub any_last : (names : List Spelling) (heads : List Head) (old new : Numbers) (word : Spelling) → word ≡ get_or type_spellings 17 []
+pub any_last : (names : List Spelling) (heads : List TypeHead) (old new : Numbers) (word : Spelling) → word ≡ get_or type_spellings 17 []
     → ((list : List Spelling) → HoldsNumbers list old → length list ≡ 17 + length heads → HoldsNumbers (list ++ word ∷ []) new)
     → HoldsNumbers (declared_spellings ++ map (head_spelling names) heads) old → HoldsNumbers (all_types names heads) new
 any_last names heads old new word e h s = let c = declared_count in let a = length-append declared_spellings (map (head_spelling names) heads) in let m = as_long (head_spelling names) heads in
@@ -232,6 +232,6 @@ pub declared_all : (done : List Spelling) (n : ℕ) → 17 ≤ n → done ≡ ta
 declared_all done n l d = let c = declared_count in d ∙ take_all declared_spellings n (omega arith)
 
 -- how many names of types there are
-pub all_long : (names : List Spelling) (heads : List Head) → length (all_types names heads) ≡ 18 + length heads
+pub all_long : (names : List Spelling) (heads : List TypeHead) → length (all_types names heads) ≡ 18 + length heads
 all_long names heads = let c = declared_count in let a = length-append (declared_spellings ++ map (head_spelling names) heads) (any_spelling ∷ []) in
     let b = length-append declared_spellings (map (head_spelling names) heads) in let m = as_long (head_spelling names) heads in omega arith

@@ -7,9 +7,9 @@ use Rattle.std.proofs.lemmas.List.{length-replicate}
 use Rattle.std.proofs.Math.ListN.{length-append}
 use Rattle.fort_base.specs.declared.refusal.Place.{Place}
 use Rattle.fort_base.specs.declared.table.TypeTable.{TypeTable}
-use Rattle.fort_types.specs.declared.hierarchy.Declared.{Declared}
-use Rattle.fort_types.specs.declared.hierarchy.Kind.TheVariants as a_kind
-use Rattle.fort_types.specs.Hierarchy.{Hierarchy, Path, stop, along, Extends, Leaf, Excludes, Lists, Sound}
+use Rattle.fort_types.specs.declared.hierarchy.DeclaredType.{DeclaredType}
+use Rattle.fort_types.specs.declared.hierarchy.TypeKind.TheVariants as a_kind
+use Rattle.fort_types.specs.Hierarchy.{DeclaredTypes, Path, stop, along, Extends, Leaf, Excludes, Lists, Sound}
 use Rattle.fort_types.specs.Table.{is_set, HasRows}
 use Rattle.fort_types.proofs.Paths.{start_inside}
 use Rattle.fort_hier.specs.declared.sentences.Sentence.{Sentence}
@@ -21,7 +21,7 @@ use Rattle.fort_hier.proofs.ByRows.{path_of, set_to}
 -- ---- built-in types
 
 -- what a built-in type of that number is like
-record IsPlain (a : ℕ) (d : Declared) : Type 0 where
+record IsPlain (a : ℕ) (d : DeclaredType) : Type 0 where
   upwards : (b : ℕ) → Contains d.extends b → (b < a) × (b < 2)
   nothing_excluded : (b : ℕ) → Contains d.excludes b → ⊥
   nothing_listed : (b : ℕ) → Contains d.comprises b → ⊥
@@ -51,7 +51,7 @@ object kind a x l m = record {
   nothing_listed = none;
 }
 
-plain_at : (a : ℕ) (d : Declared) → slice_get built_in_declared a ≡ Some d → IsPlain a d
+plain_at : (a : ℕ) (d : DeclaredType) → slice_get built_in_declared a ≡ Some d → IsPlain a d
 plain_at zero d e = subst (IsPlain 0) (let s : plain a_kind.Trait [] ≡ d = cc in s) (record { upwards = λ b w. absurd (none b w); nothing_excluded = none; nothing_listed = none })
 plain_at (suc zero) d e = subst (IsPlain 1) (let s : plain a_kind.Trait (0 ∷ []) ≡ d = cc in s) (object a_kind.Trait 1 0 (omega arith) (omega arith))
 plain_at (suc (suc k)) d e = elim (in_front 5 (plain a_kind.Leaf (0 ∷ [])) (replicate 10 (plain a_kind.Object (1 ∷ []))) k d e) as (λ _. IsPlain (suc (suc k)) d) [
@@ -63,7 +63,7 @@ pub built_in_count : length built_in_declared ≡ 17
 built_in_count = let a = length-append (replicate 5 (plain a_kind.Leaf (0 ∷ []))) (replicate 10 (plain a_kind.Object (1 ∷ []))) in
     let b = length-replicate 5 (plain a_kind.Leaf (0 ∷ [])) in let c = length-replicate 10 (plain a_kind.Object (1 ∷ [])) in omega arith
 
-from_front : (xs ys : Hierarchy) (k : ℕ) (d : Declared) → k < length xs → slice_get (xs ++ ys) k ≡ Some d → slice_get xs k ≡ Some d
+from_front : (xs ys : DeclaredTypes) (k : ℕ) (d : DeclaredType) → k < length xs → slice_get (xs ++ ys) k ≡ Some d → slice_get xs k ≡ Some d
 from_front [] ys k d l e = absurd (omega arith)
 from_front (x ∷ xs) ys zero d l e = e
 from_front (x ∷ xs) ys (suc k) d l e = from_front xs ys k d (omega arith) e
@@ -91,16 +91,16 @@ has_or (y ∷ list) x = elim (same_or y x) as (λ _. Contains (y ∷ list) x ⊎
 
 -- ---- a hierarchy of built-in types and others, none of which breaks a sentence
 
-module _ (rest : Hierarchy) (places : List Place) (table : TypeTable) (long : length places ≡ length rest)
+module _ (rest : DeclaredTypes) (places : List Place) (table : TypeTable) (long : length places ≡ length rest)
     (rows : HasRows (built_in_declared ++ rest) table)
     (kept : (s : Sentence) (place : Place) → BreaksAt s (built_in_declared ++ rest) places place → ⊥) where
-  abbrev h : Hierarchy
+  abbrev h : DeclaredTypes
   h = built_in_declared ++ rest
 
   count : length h ≡ 17 + length rest
   count = let a = length-append built_in_declared rest in let b = built_in_count in omega arith
 
-  built_in_at : (a : ℕ) (d : Declared) → a < 17 → slice_get h a ≡ Some d → IsPlain a d
+  built_in_at : (a : ℕ) (d : DeclaredType) → a < 17 → slice_get h a ≡ Some d → IsPlain a d
   built_in_at a d l e = let b = built_in_count in plain_at a d (from_front built_in_declared rest a d (omega arith) e)
 
   -- a path from a built-in type goes to none of a greater number
@@ -109,8 +109,8 @@ module _ (rest : Hierarchy) (places : List Place) (table : TypeTable) (long : le
   falls a b l (along {b = x} e p) = let u = (built_in_at a e.0 l e.1).upwards x e.2 in let m = falls x b (let v = u.0 in omega arith) p in let v = u.0 in omega arith
 
   no_leaf : (b : ℕ) → b < 2 → Leaf h b → ⊥
-  no_leaf zero l (d, e, n) = n (let s : plain a_kind.Trait [] ≡ d = cc in ap (λ (z : Declared). z.kind) (sym s))
-  no_leaf (suc zero) l (d, e, n) = n (let s : plain a_kind.Trait (0 ∷ []) ≡ d = cc in ap (λ (z : Declared). z.kind) (sym s))
+  no_leaf zero l (d, e, n) = n (let s : plain a_kind.Trait [] ≡ d = cc in ap (λ (z : DeclaredType). z.kind) (sym s))
+  no_leaf (suc zero) l (d, e, n) = n (let s : plain a_kind.Trait (0 ∷ []) ≡ d = cc in ap (λ (z : DeclaredType). z.kind) (sym s))
   no_leaf (suc (suc b)) l w = omega arith
 
   -- a type of the component breaks no sentence
@@ -148,11 +148,11 @@ module _ (rest : Hierarchy) (places : List Place) (table : TypeTable) (long : le
     | inl l ↦ (let v = (built_in_at x e.0 l e.1).upwards t e.2 in let m = v.1 in absurd ((built_in_at t k.0 (omega arith) k.1).nothing_listed u k.2))
     | inr l ↦ elim (has_or k.0.comprises x) as (λ _. Lists h t x) [
       | inl w ↦ (k.0, k.1, w)
-      | inr n ↦ absurd (none_breaks sentence.NotComprised x l (slice_get_within h x e.0 e.1) (t, u, e, k, λ m. n (subst (λ (z : Declared). Contains z.comprises x) (one t m.0 k.0 m.1 k.1) m.2)))
+      | inr n ↦ absurd (none_breaks sentence.NotComprised x l (slice_get_within h x e.0 e.1) (t, u, e, k, λ m. n (subst (λ (z : DeclaredType). Contains z.comprises x) (one t m.0 k.0 m.1 k.1) m.2)))
     ]
   ]
     where
-      one : (t : ℕ) (d f : Declared) → slice_get h t ≡ Some d → slice_get h t ≡ Some f → d ≡ f
+      one : (t : ℕ) (d f : DeclaredType) → slice_get h t ≡ Some d → slice_get h t ≡ Some f → d ≡ f
       one t d f p q = cc
 
   path_or : (u t : ℕ) → t < length h → Path h u t ⊎ (Path h u t → ⊥)

@@ -1,7 +1,7 @@
 -- The chapter "Types", names at the top: the heads of a component's types. The code walks the declarations once.
 use Rattle.std.specs.Prelude.{ℕ, ◌+◌, List, [], ◌∷◌, ◌++◌, Option, Some, None, map}
 use Rattle.fort_base.specs.declared.refusal.Place.{Place}
-use Rattle.fort_types.specs.declared.hierarchy.Kind.TheVariants as a_kind
+use Rattle.fort_types.specs.declared.hierarchy.TypeKind.TheVariants as a_kind
 use Rattle.fort_tree.specs.declared.declarations.Component.{Component}
 use Rattle.fort_tree.specs.declared.declarations.Comprises.{Comprises}
 use Rattle.fort_tree.specs.declared.declarations.Declaration.{Declaration}
@@ -15,7 +15,7 @@ use Rattle.fort_tree.specs.declared.declarations.Object.{Object}
 use Rattle.fort_tree.specs.declared.declarations.Trait.{Trait}
 use Rattle.fort_tree.specs.declared.spot.Name.{Name}
 use Rattle.fort_tree.specs.declared.spot.NextName.{NextName}
-use Rattle.fort_hier.specs.declared.heads.Head.{Head}
+use Rattle.fort_hier.specs.declared.heads.TypeHead.{TypeHead}
 
 -- the name behind a comma
 abbrev pub name_of : NextName → Name
@@ -42,33 +42,33 @@ comprises_of None = []
 comprises_of (Some part) = names_of part.names
 
 -- The head of a trait that is the declaration of that number.
-abbrev pub trait_head : ℕ → Trait → Head
+abbrev pub trait_head : ℕ → Trait → TypeHead
 trait_head body t = record { name = t.name; kind = a_kind.Trait; body = body; extends = extends_of t.extends; excludes = excludes_of t.excludes; comprises = comprises_of t.comprises }
 
 -- The head of an object that is the declaration of that number; it excludes nothing and has no list.
-abbrev pub object_head : ℕ → Object → Head
+abbrev pub object_head : ℕ → Object → TypeHead
 object_head body o = record { name = o.name; kind = a_kind.Object; body = body; extends = extends_of o.extends; excludes = []; comprises = [] }
 
 -- The head of a declaration, where it declares a type.
-abbrev pub head_of : ℕ → Declaration → List Head
+abbrev pub head_of : ℕ → Declaration → List TypeHead
 head_of body (declaration.Variable v) = []
 head_of body (declaration.Function f) = []
 head_of body (declaration.Trait t) = trait_head body t ∷ []
 head_of body (declaration.Object o) = object_head body o ∷ []
 
 -- The heads of declarations that are counted from a number.
-abbrev pub heads_from : ℕ → List Declared → List Head
+abbrev pub heads_from : ℕ → List Declared → List TypeHead
 heads_from body [] = []
 heads_from body (d ∷ ds) = head_of body d.declaration ++ heads_from (body + 1) ds
 
 -- The heads of a component's types, in source order.
-abbrev pub heads_of : Component → List Head
+abbrev pub heads_of : Component → List TypeHead
 heads_of c = heads_from 0 c.declarations
 
 -- the place of a type's name
-abbrev pub head_place : Head → Place
+abbrev pub head_place : TypeHead → Place
 head_place head = head.name.spot.place
 
 -- the number of a type's declaration
-abbrev pub head_body : Head → Option ℕ
+abbrev pub head_body : TypeHead → Option ℕ
 head_body head = Some head.body

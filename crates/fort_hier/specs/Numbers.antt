@@ -3,25 +3,25 @@ use Rattle.std.specs.Prelude.{◌≡◌, ◌<◌, ℕ, suc, List, [], ◌∷◌,
 use Rattle.std.specs.Str.{bytes_eq}
 use Rattle.indexmap.specs.IndexMap.{get_by}
 use Rattle.fort_base.specs.declared.refusal.Place.{Place}
-use Rattle.fort_types.specs.declared.hierarchy.Declared.{Declared}
-use Rattle.fort_types.specs.declared.hierarchy.Kind.{Kind}
-use Rattle.fort_types.specs.declared.hierarchy.Kind.TheVariants as a_kind
-use Rattle.fort_types.specs.Hierarchy.{Hierarchy}
+use Rattle.fort_types.specs.declared.hierarchy.DeclaredType.{DeclaredType}
+use Rattle.fort_types.specs.declared.hierarchy.TypeKind.{TypeKind}
+use Rattle.fort_types.specs.declared.hierarchy.TypeKind.TheVariants as a_kind
+use Rattle.fort_types.specs.Hierarchy.{DeclaredTypes}
 use Rattle.fort_tree.specs.declared.spot.Name.{Name}
-use Rattle.fort_hier.specs.declared.heads.Head.{Head}
+use Rattle.fort_hier.specs.declared.heads.TypeHead.{TypeHead}
 use Rattle.fort_hier.specs.declared.numbers.Numbers.{Numbers}
 use Rattle.fort_hier.specs.Names.{Spelling, spelling, declared_spellings, any_spelling}
 
 -- the spelling of a declared type
-abbrev pub head_spelling : List Spelling → Head → Spelling
+abbrev pub head_spelling : List Spelling → TypeHead → Spelling
 head_spelling names head = spelling names head.name
 
 -- The names of the declared types, in the order of their numbers: built-in ones, then the component's.
-abbrev pub declared_types : List Spelling → List Head → List Spelling
+abbrev pub declared_types : List Spelling → List TypeHead → List Spelling
 declared_types names heads = declared_spellings ++ map (head_spelling names) heads
 
 -- The names of all types: `Any` stands behind the declared ones.
-abbrev pub all_types : List Spelling → List Head → List Spelling
+abbrev pub all_types : List Spelling → List TypeHead → List Spelling
 all_types names heads = declared_types names heads ++ any_spelling ∷ []
 
 -- The number of a spelling in a list of names: the place of the first that is spelled so, or the place behind all.
@@ -39,7 +39,7 @@ extends_numbers list names None = 0 ∷ []
 extends_numbers list names (Some extends) = map (number list names) extends
 
 -- What a head declares, by numbers.
-abbrev pub declared_by : List Spelling → List Spelling → Head → Declared
+abbrev pub declared_by : List Spelling → List Spelling → TypeHead → DeclaredType
 declared_by list names head = record {
   kind = head.kind;
   extends = extends_numbers list names head.extends;
@@ -48,15 +48,15 @@ declared_by list names head = record {
 }
 
 -- a built-in type, which extends these, excludes nothing and has no list
-abbrev pub plain : Kind → List ℕ → Declared
+abbrev pub plain : TypeKind → List ℕ → DeclaredType
 plain kind extends = record { kind = kind; extends = extends; excludes = []; comprises = [] }
 
 -- The built-in declared types: `Object`; `Exception`, which extends it; five leaves below `Object`; ten objects that extend `Exception`.
-abbrev pub built_in_declared : List Declared
+abbrev pub built_in_declared : List DeclaredType
 built_in_declared = plain a_kind.Trait [] ∷ plain a_kind.Trait (0 ∷ []) ∷ (replicate 5 (plain a_kind.Leaf (0 ∷ [])) ++ replicate 10 (plain a_kind.Object (1 ∷ [])))
 
 -- The hierarchy that heads declare.
-abbrev pub hierarchy_of : List Spelling → List Head → Hierarchy
+abbrev pub hierarchy_of : List Spelling → List TypeHead → DeclaredTypes
 hierarchy_of names heads = built_in_declared ++ map (declared_by (all_types names heads) names) heads
 
 -- A name that stands as a type is neither `Any` nor that of a declared type, and this is its place.

@@ -1,7 +1,7 @@
 -- The chapter "Types", the rules of a hierarchy: what the code's walks over the lists of a head find.
 use Rattle.std.specs.Prelude.{◌≡◌, ◌≢◌, ◌⊎◌, ◌<◌, ℕ, Bool, IsTrue, List, [], length, slice_get, slice_index, Some, Contains}
-use Rattle.fort_types.specs.declared.hierarchy.Declared.{Declared}
-use Rattle.fort_types.specs.Hierarchy.{Hierarchy, Leaf}
+use Rattle.fort_types.specs.declared.hierarchy.DeclaredType.{DeclaredType}
+use Rattle.fort_types.specs.Hierarchy.{DeclaredTypes, Leaf}
 use Rattle.fort_types.specs.Table.{is_set}
 
 -- Some number of a list has a property.
@@ -15,17 +15,17 @@ abbrev pub SomeUnset : List (List Bool) → List ℕ → ℕ → Type 0
 SomeUnset rows list a = SomeOf (λ b. IsTrue (is_set rows b a) → ⊥) list
 
 -- The number is that of an object or of a leaf.
-abbrev pub LeafAt : Hierarchy → ℕ → Type 0
+abbrev pub LeafAt : DeclaredTypes → ℕ → Type 0
 LeafAt h b = Leaf h b
 
-abbrev pub SomeLeaf : Hierarchy → List ℕ → Type 0
+abbrev pub SomeLeaf : DeclaredTypes → List ℕ → Type 0
 SomeLeaf h list = SomeOf (LeafAt h) list
 
 -- The number is that of a type with a list that hasn't another number.
-abbrev pub UnlistedAt : Hierarchy → ℕ → ℕ → Type 0
-UnlistedAt h b a = (d : Declared) × (slice_get h b ≡ Some d) × (d.comprises ≢ []) × (Contains d.comprises a → ⊥)
+abbrev pub UnlistedAt : DeclaredTypes → ℕ → ℕ → Type 0
+UnlistedAt h b a = (d : DeclaredType) × (slice_get h b ≡ Some d) × (d.comprises ≢ []) × (Contains d.comprises a → ⊥)
 
-abbrev pub SomeUnlisted : Hierarchy → List ℕ → ℕ → Type 0
+abbrev pub SomeUnlisted : DeclaredTypes → List ℕ → ℕ → Type 0
 SomeUnlisted h list a = SomeOf (λ b. UnlistedAt h b a) list
 
 -- Some number of a list has its place set in a row, or is that of `Any`.
@@ -33,5 +33,5 @@ abbrev pub ExcludesAbove : List (List Bool) → List ℕ → ℕ → ℕ → Typ
 ExcludesAbove rows list a top = SomeOf (λ n. (n ≡ top) ⊎ IsTrue (is_set rows a n)) list
 
 -- A row has the place of a type set that excludes one of these.
-abbrev pub SomeExcluding : Hierarchy → List (List Bool) → ℕ → Type 0
-SomeExcluding h rows a = (t : ℕ) × (d : Declared) × (slice_get h t ≡ Some d) × IsTrue (is_set rows a t) × ExcludesAbove rows d.excludes a (length h)
+abbrev pub SomeExcluding : DeclaredTypes → List (List Bool) → ℕ → Type 0
+SomeExcluding h rows a = (t : ℕ) × (d : DeclaredType) × (slice_get h t ≡ Some d) × IsTrue (is_set rows a t) × ExcludesAbove rows d.excludes a (length h)

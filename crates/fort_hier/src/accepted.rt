@@ -4,7 +4,7 @@ ghost use Rattle.fort_hier.specs.Heads.{head_place, head_body};
 ghost use Rattle.fort_hier.specs.Names.{declared_spellings};
 ghost use Rattle.fort_hier.specs.Numbers.{declared_types};
 
-use crate::heads::Head;
+use crate::heads::TypeHead;
 use crate::spellings::{DECLARED_NAMES, spelled, type_name};
 use fort_base::{Bytes, List, Memory, Place, TypeTable};
 use std::alloc::Global;
@@ -22,7 +22,7 @@ pub struct Hierarchy {
 }
 
 /// The places of the names of types.
-pub fn places_in(alloc: Global, heads: &[Head]) -> Result<List<Place>, Memory>
+pub fn places_in(alloc: Global, heads: &[TypeHead]) -> Result<List<Place>, Memory>
     ensures { IfOk result (λ places. places ≡ map head_place heads.now) }
 {
     let mut places = List::new(alloc);
@@ -33,7 +33,7 @@ pub fn places_in(alloc: Global, heads: &[Head]) -> Result<List<Place>, Memory>
 }
 
 /// The names of the declared types, by their numbers.
-pub fn names_in(alloc: Global, names: &[Bytes], heads: &[Head]) -> Result<List<Bytes>, Memory>
+pub fn names_in(alloc: Global, names: &[Bytes], heads: &[TypeHead]) -> Result<List<Bytes>, Memory>
     ensures { IfOk result (λ list. list ≡ declared_types names.now heads.now) }
 {
     let mut list = built_in_names(alloc)?;
@@ -55,7 +55,7 @@ fn built_in_names(alloc: Global) -> Result<List<Bytes>, Memory>
 }
 
 /// The declarations of the declared types, by their numbers.
-pub fn bodies_in(alloc: Global, heads: &[Head]) -> Result<List<Option<u32>>, Memory>
+pub fn bodies_in(alloc: Global, heads: &[TypeHead]) -> Result<List<Option<u32>>, Memory>
     ensures { IfOk result (λ bodies. bodies ≡ replicate 17 None ++ map head_body heads.now) }
 {
     let mut bodies = built_in_bodies(alloc)?;

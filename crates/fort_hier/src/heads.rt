@@ -6,14 +6,14 @@ use fort_base::{List, Memory};
 use fort_tree::{
     Component, Comprises, Declaration, Excludes, Extends, Name, Names, NextName, Object, Trait,
 };
-use fort_types::Kind;
+use fort_types::TypeKind;
 use std::alloc::Global;
 
 /// The head of a declaration of a trait or object.
 #[derive(Drop)]
-pub struct Head {
+pub struct TypeHead {
     pub name: Name,
-    pub kind: Kind,
+    pub kind: TypeKind,
     /// Which declaration of the component it is, counted from 0.
     pub body: usize,
     /// The names of its `extends`, where it has one.
@@ -25,7 +25,7 @@ pub struct Head {
 }
 
 /// The heads of a component's types, in their order.
-pub fn heads_in(alloc: Global, component: &Component) -> Result<List<Head>, Memory>
+pub fn heads_in(alloc: Global, component: &Component) -> Result<List<TypeHead>, Memory>
     ensures { IfOk result (λ list. list ≡ heads_of component.now) }
 {
     let mut list = List::new(alloc);
@@ -41,7 +41,7 @@ fn add_head(
     alloc: Global,
     body: usize,
     declaration: &Declaration,
-    list: &mut List<Head>,
+    list: &mut List<TypeHead>,
 ) -> Result<(), Memory>
     ensures { OnOk result (list.new ≡ list.old ++ head_of body declaration.now) }
 {
@@ -54,12 +54,12 @@ fn add_head(
 }
 
 /// The head of a trait.
-fn head_of_trait(alloc: Global, body: usize, declared: &Trait) -> Result<Head, Memory>
+fn head_of_trait(alloc: Global, body: usize, declared: &Trait) -> Result<TypeHead, Memory>
     ensures { IfOk result (λ head. head ≡ trait_head body declared.now) }
 {
-    Ok(Head {
+    Ok(TypeHead {
         name: declared.name,
-        kind: Kind::Trait,
+        kind: TypeKind::Trait,
         body,
         extends: extended(alloc, &declared.extends)?,
         excludes: excluded(alloc, &declared.excludes)?,
@@ -68,12 +68,12 @@ fn head_of_trait(alloc: Global, body: usize, declared: &Trait) -> Result<Head, M
 }
 
 /// The head of an object.
-fn head_of_object(alloc: Global, body: usize, declared: &Object) -> Result<Head, Memory>
+fn head_of_object(alloc: Global, body: usize, declared: &Object) -> Result<TypeHead, Memory>
     ensures { IfOk result (λ head. head ≡ object_head body declared.now) }
 {
-    Ok(Head {
+    Ok(TypeHead {
         name: declared.name,
-        kind: Kind::Object,
+        kind: TypeKind::Object,
         body,
         extends: extended(alloc, &declared.extends)?,
         excludes: List::new(alloc),

@@ -21,7 +21,7 @@ mod walks;
 pub use accepted::{Hierarchy, places_in};
 pub use checked::hierarchy;
 pub use earliest::earlier;
-pub use heads::{Head, heads_in};
+pub use heads::{TypeHead, heads_in};
 pub use laws::{accepted_is_sound, no_type_below_two};
 pub use lowest::{BrokenSentence, lowest_broken};
 pub use numbers::{Numbers, numbers_in};

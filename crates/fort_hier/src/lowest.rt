@@ -5,7 +5,7 @@ ghost use Rattle.fort_hier.specs.Lowest.{IsLowestFrom};
 
 use crate::sentences::{Sentence, first_broken};
 use fort_base::{Place, TypeTable};
-use fort_types::Declared;
+use fort_types::DeclaredType;
 
 /// A broken sentence, and the earliest place where it is broken.
 #[derive(Clone, Copy, Debug, PartialEq, Eq)]
@@ -18,7 +18,7 @@ pub struct BrokenSentence {
 ///
 /// The places are those of the last types of the hierarchy, in its order.
 pub fn lowest_broken(
-    types: &[Declared],
+    types: &[DeclaredType],
     table: &TypeTable,
     places: &[Place],
 ) -> Option<BrokenSentence>
@@ -36,7 +36,7 @@ pub fn lowest_broken(
 }
 
 /// The same of the sentences from 404 on.
-fn from_404(types: &[Declared], table: &TypeTable, places: &[Place]) -> Option<BrokenSentence>
+fn from_404(types: &[DeclaredType], table: &TypeTable, places: &[Place]) -> Option<BrokenSentence>
     requires rows { HasRows types.now table.now }
     requires fewer { length places.now ≤ length types.now }
     ensures { IsLowestFrom types.now places.now 404 result }
@@ -51,7 +51,7 @@ fn from_404(types: &[Declared], table: &TypeTable, places: &[Place]) -> Option<B
 }
 
 /// The same of the sentences from 405 on.
-fn from_405(types: &[Declared], table: &TypeTable, places: &[Place]) -> Option<BrokenSentence>
+fn from_405(types: &[DeclaredType], table: &TypeTable, places: &[Place]) -> Option<BrokenSentence>
     requires rows { HasRows types.now table.now }
     requires fewer { length places.now ≤ length types.now }
     ensures { IsLowestFrom types.now places.now 405 result }
@@ -66,7 +66,7 @@ fn from_405(types: &[Declared], table: &TypeTable, places: &[Place]) -> Option<B
 }
 
 /// The same of the sentences from 406 on.
-fn from_406(types: &[Declared], table: &TypeTable, places: &[Place]) -> Option<BrokenSentence>
+fn from_406(types: &[DeclaredType], table: &TypeTable, places: &[Place]) -> Option<BrokenSentence>
     requires rows { HasRows types.now table.now }
     requires fewer { length places.now ≤ length types.now }
     ensures { IsLowestFrom types.now places.now 406 result }
@@ -81,7 +81,7 @@ fn from_406(types: &[Declared], table: &TypeTable, places: &[Place]) -> Option<B
 }
 
 /// The same of 407.
-fn from_407(types: &[Declared], table: &TypeTable, places: &[Place]) -> Option<BrokenSentence>
+fn from_407(types: &[DeclaredType], table: &TypeTable, places: &[Place]) -> Option<BrokenSentence>
     requires rows { HasRows types.now table.now }
     requires fewer { length places.now ≤ length types.now }
     ensures { IsLowestFrom types.now places.now 407 result }

@@ -3,7 +3,7 @@ ghost use Rattle.std.specs.Prelude.{◌≡◌, ◌++◌, ◌∷◌, ◌<◌, ◌
 ghost use Rattle.fort_hier.specs.Names.{Spelling, declared_spellings};
 ghost use Rattle.fort_hier.specs.Numbers.{NumberIs, HoldsNumbers, all_types, number_of, head_spelling};
 
-use crate::heads::Head;
+use crate::heads::TypeHead;
 use crate::spellings::{DECLARED_NAMES, spelled, type_name};
 use fort_base::{Bytes, Memory};
 use indexmap::IndexMap;
@@ -19,7 +19,7 @@ pub struct Numbers<'a> {
 pub fn numbers_in<'a>(
     alloc: Global,
     names: &'a [Bytes],
-    heads: &[Head],
+    heads: &[TypeHead],
 ) -> Result<Numbers<'a>, Memory>
     requires { length heads.now < 2 ^ 31 }
     ensures { IfOk result (HoldsNumbers (all_types names.now heads.now)) }
@@ -45,7 +45,7 @@ fn add_built_in<'a>(numbers: &mut Numbers<'a>) -> Result<(), Memory>
 /// Adds the types of a component to the built-in ones.
 fn add_heads<'a>(
     names: &'a [Bytes],
-    heads: &[Head],
+    heads: &[TypeHead],
     numbers: &mut Numbers<'a>,
 ) -> Result<(), Memory>
     requires few { length heads.now < 2 ^ 31 }

@@ -11,7 +11,7 @@ ghost use Rattle.fort_types.specs.Table.{HasRows};
 
 use crate::accepted::places_in;
 use crate::duplicates::first_duplicate;
-use crate::heads::Head;
+use crate::heads::TypeHead;
 use crate::lowest::lowest_broken;
 use crate::numbers::numbers_in;
 use crate::spellings::DECLARED_NAMES;
@@ -20,7 +20,7 @@ use crate::types::types_in;
 use crate::unknown::first_unknown;
 use fort_base::{Bytes, CheckFault, List, Rule, TypeTable};
 use fort_tree::{Component, Name};
-use fort_types::Declared;
+use fort_types::DeclaredType;
 use std::alloc::Global;
 
 /// 401 DuplicateName
@@ -45,9 +45,9 @@ pub fn refuse_duplicate(alloc: Global, component: &Component) -> Result<(), Chec
 pub fn known_types(
     alloc: Global,
     names: &[Bytes],
-    heads: &[Head],
+    heads: &[TypeHead],
     mentioned: &[Name],
-) -> Result<List<Declared>, CheckFault>
+) -> Result<List<DeclaredType>, CheckFault>
     requires few { length heads.now < 2 ^ 31 }
     ensures types { IfOk result (λ types. types ≡ hierarchy_of names.now heads.now) }
     ensures ok { OnOk result (IsFirst (IsUnknown (all_types names.now heads.now) names.now mentioned.now) None) }
@@ -65,8 +65,8 @@ pub fn known_types(
 /// Refuses types that break one of 403 to 407, by the lowest number.
 pub fn refuse_broken(
     alloc: Global,
-    heads: &[Head],
-    types: &[Declared],
+    heads: &[TypeHead],
+    types: &[DeclaredType],
     table: &TypeTable,
 ) -> Result<(), CheckFault>
     requires rows { HasRows types.now table.now }

@@ -8,7 +8,7 @@ ghost use Rattle.fort_hier.specs.Lowest.{rule_number};
 use crate::earliest::earlier;
 use crate::walks::{any_excluding, any_leaf, any_not_set, any_set, any_unlisted};
 use fort_base::{Place, Rule, TypeTable};
-use fort_types::Declared;
+use fort_types::DeclaredType;
 
 /// A sentence that no declared type may break.
 #[derive(Clone, Copy, Debug, PartialEq, Eq)]
@@ -44,7 +44,7 @@ impl Sentence {
 ///
 /// The places are those of the last types of the hierarchy, in its order.
 pub fn first_broken(
-    types: &[Declared],
+    types: &[DeclaredType],
     table: &TypeTable,
     places: &[Place],
     sentence: Sentence,
@@ -65,7 +65,7 @@ pub fn first_broken(
 }
 
 /// Whether a type breaks a sentence.
-fn breaks(types: &[Declared], table: &TypeTable, sentence: Sentence, a: usize) -> bool
+fn breaks(types: &[DeclaredType], table: &TypeTable, sentence: Sentence, a: usize) -> bool
     requires rows { HasRows types.now table.now }
     requires inside { a < length types.now }
     ensures { IsTrue result ↔ Breaks sentence types.now a }
@@ -81,7 +81,7 @@ fn breaks(types: &[Declared], table: &TypeTable, sentence: Sentence, a: usize) -
 
 /// Whether a type is above itself by one or more `extends`: whether a type that it extends is below it.
 #[tactic(auto, using(crate::proofs::ByRows::cycle_told))]
-fn is_on_cycle(types: &[Declared], table: &TypeTable, a: usize) -> bool
+fn is_on_cycle(types: &[DeclaredType], table: &TypeTable, a: usize) -> bool
     requires rows { HasRows types.now table.now }
     requires inside { a < length types.now }
     ensures { IsTrue result ↔ IsOnCycle types.now a }
@@ -91,7 +91,7 @@ fn is_on_cycle(types: &[Declared], table: &TypeTable, a: usize) -> bool
 
 /// Whether a type extends an object or a leaf.
 #[tactic(auto, using(crate::proofs::ByRows::leaf_told))]
-fn extends_leaf(types: &[Declared], a: usize) -> bool
+fn extends_leaf(types: &[DeclaredType], a: usize) -> bool
     requires inside { a < length types.now }
     ensures { IsTrue result ↔ ExtendsLeaf types.now a }
 {
@@ -100,7 +100,7 @@ fn extends_leaf(types: &[Declared], a: usize) -> bool
 
 /// Whether a type is below both sides of a declared exclusion.
 #[tactic(auto, using(crate::proofs::ByRows::both_told))]
-fn is_below_both(types: &[Declared], table: &TypeTable, a: usize) -> bool
+fn is_below_both(types: &[DeclaredType], table: &TypeTable, a: usize) -> bool
     requires rows { HasRows types.now table.now }
     requires inside { a < length types.now }
     ensures { IsTrue result ↔ IsBelowBoth types.now a }
@@ -110,7 +110,7 @@ fn is_below_both(types: &[Declared], table: &TypeTable, a: usize) -> bool
 
 /// Whether a type extends a trait whose list hasn't it.
 #[tactic(auto, using(crate::proofs::ByRows::unlisted_told))]
-fn is_not_listed(types: &[Declared], a: usize) -> bool
+fn is_not_listed(types: &[DeclaredType], a: usize) -> bool
     requires inside { a < length types.now }
     ensures { IsTrue result ↔ IsNotListed types.now a }
 {
@@ -119,7 +119,7 @@ fn is_not_listed(types: &[Declared], a: usize) -> bool
 
 /// Whether a type's list has one that isn't below the type.
 #[tactic(auto, using(crate::proofs::ByRows::other_told))]
-fn lists_other(types: &[Declared], table: &TypeTable, a: usize) -> bool
+fn lists_other(types: &[DeclaredType], table: &TypeTable, a: usize) -> bool
     requires rows { HasRows types.now table.now }
     requires inside { a < length types.now }
     ensures { IsTrue result ↔ ListsOther types.now a }

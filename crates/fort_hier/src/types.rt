@@ -3,12 +3,12 @@ ghost use Rattle.std.specs.Prelude.{◌≡◌, ◌++◌, ◌∷◌, [], length, 
 ghost use Rattle.fort_hier.specs.Names.{Spelling};
 ghost use Rattle.fort_hier.specs.Numbers.{HoldsNumbers, built_in_declared, declared_by, extends_numbers, number, plain};
 
-use crate::heads::Head;
+use crate::heads::TypeHead;
 use crate::numbers::Numbers;
 use crate::spellings::spelled;
 use fort_base::{Bytes, List, Memory};
 use fort_tree::Name;
-use fort_types::{Declared, Kind};
+use fort_types::{DeclaredType, TypeKind};
 use std::alloc::Global;
 
 /// The declared types that heads declare, built-in ones first; the size is that of the list of numbered names.
@@ -17,8 +17,8 @@ pub fn types_in(
     names: &[Bytes],
     numbers: &Numbers,
     size: usize,
-    heads: &[Head],
-) -> Result<List<Declared>, Memory>
+    heads: &[TypeHead],
+) -> Result<List<DeclaredType>, Memory>
     ensures { IfOk result (λ types. (list : Seq Spelling) → HoldsNumbers list numbers.now → length list ≡ size
         → types ≡ built_in_declared ++ map (declared_by list names.now) heads.now) }
 {
@@ -30,24 +30,24 @@ pub fn types_in(
 }
 
 /// The built-in declared types.
-fn built_in(alloc: Global) -> Result<List<Declared>, Memory>
+fn built_in(alloc: Global) -> Result<List<DeclaredType>, Memory>
     ensures { IfOk result (λ types. types ≡ built_in_declared) }
 {
     let mut types = List::new(alloc);
-    types.push(simple(alloc, Kind::Trait, &[])?)?;
-    types.push(simple(alloc, Kind::Trait, &[0])?)?;
-    add_simple(alloc, Kind::Leaf, 0, 5, &mut types)?;
-    add_simple(alloc, Kind::Object, 1, 10, &mut types)?;
+    types.push(simple(alloc, TypeKind::Trait, &[])?)?;
+    types.push(simple(alloc, TypeKind::Trait, &[0])?)?;
+    add_simple(alloc, TypeKind::Leaf, 0, 5, &mut types)?;
+    add_simple(alloc, TypeKind::Object, 1, 10, &mut types)?;
     Ok(types)
 }
 
 /// Adds so many types of a kind that extend one type.
 fn add_simple(
     alloc: Global,
-    kind: Kind,
+    kind: TypeKind,
     above: usize,
     count: usize,
-    types: &mut List<Declared>,
+    types: &mut List<DeclaredType>,
 ) -> Result<(), Memory>
     ensures { OnOk result (types.new ≡ types.old ++ replicate count (plain kind (above ∷ []))) }
 {
@@ -58,10 +58,10 @@ fn add_simple(
 }
 
 /// A type that excludes nothing and has no list.
-fn simple(alloc: Global, kind: Kind, extends: &[usize]) -> Result<Declared, Memory>
+fn simple(alloc: Global, kind: TypeKind, extends: &[usize]) -> Result<DeclaredType, Memory>
     ensures { IfOk result (λ declared. declared ≡ plain kind extends.now) }
 {
-    Ok(Declared {
+    Ok(DeclaredType {
         kind,
         extends: List::from_slice(alloc, extends)?,
         excludes: List::new(alloc),
@@ -75,15 +75,15 @@ fn declared(
     names: &[Bytes],
     numbers: &Numbers,
     size: usize,
-    head: &Head,
-) -> Result<Declared, Memory>
+    head: &TypeHead,
+) -> Result<DeclaredType, Memory>
     ensures { IfOk result (λ declared. (list : Seq Spelling) → HoldsNumbers list numbers.now → length list ≡ size
         → declared ≡ declared_by list names.now head.now) }
 {
     let extends = extended(alloc, names, numbers, size, &head.extends)?;
     let excludes = numbered(alloc, names, numbers, size, head.excludes.as_slice())?;
     let comprises = numbered(alloc, names, numbers, size, head.comprises.as_slice())?;
-    Ok(Declared {
+    Ok(DeclaredType {
         kind: head.kind,
         extends,
         excludes,

@@ -3,7 +3,7 @@ ghost use Rattle.std.specs.Prelude.{◌≡◌, ◌↔◌, IsTrue};
 ghost use Rattle.fort_hier.specs.Walks.{SomeSet, SomeUnset, SomeLeaf, SomeUnlisted, SomeExcluding, LeafAt, UnlistedAt, ExcludesAbove};
 
 use fort_base::List;
-use fort_types::{Declared, set_at};
+use fort_types::{DeclaredType, set_at};
 
 /// Whether some row of a list has a place set.
 pub fn any_set(rows: &[List<bool>], list: &[usize], a: usize) -> bool
@@ -30,7 +30,7 @@ pub fn any_not_set(rows: &[List<bool>], list: &[usize], a: usize) -> bool
 }
 
 /// Whether some number of a list is that of an object or a leaf.
-pub fn any_leaf(types: &[Declared], list: &[usize]) -> bool
+pub fn any_leaf(types: &[DeclaredType], list: &[usize]) -> bool
     ensures { IsTrue result ↔ SomeLeaf types.now list.now }
 {
     for b in list {
@@ -42,7 +42,7 @@ pub fn any_leaf(types: &[Declared], list: &[usize]) -> bool
 }
 
 /// Whether a number is that of an object or a leaf.
-fn is_leaf(types: &[Declared], b: usize) -> bool
+fn is_leaf(types: &[DeclaredType], b: usize) -> bool
     ensures { IsTrue result ↔ LeafAt types.now b }
 {
     match types.get(b) {
@@ -52,7 +52,7 @@ fn is_leaf(types: &[Declared], b: usize) -> bool
 }
 
 /// Whether some number of a list is that of a type with a list that hasn't a number.
-pub fn any_unlisted(types: &[Declared], list: &[usize], a: usize) -> bool
+pub fn any_unlisted(types: &[DeclaredType], list: &[usize], a: usize) -> bool
     ensures { IsTrue result ↔ SomeUnlisted types.now list.now a }
 {
     for b in list {
@@ -64,7 +64,7 @@ pub fn any_unlisted(types: &[Declared], list: &[usize], a: usize) -> bool
 }
 
 /// Whether a number is that of a type with a list that hasn't another number.
-fn is_unlisted(types: &[Declared], b: usize, a: usize) -> bool
+fn is_unlisted(types: &[DeclaredType], b: usize, a: usize) -> bool
     ensures { IsTrue result ↔ UnlistedAt types.now b a }
 {
     match types.get(b) {
@@ -76,7 +76,7 @@ fn is_unlisted(types: &[Declared], b: usize, a: usize) -> bool
 }
 
 /// Whether a row has the place of a type set that excludes another whose place is set, or `Any`.
-pub fn any_excluding(types: &[Declared], rows: &[List<bool>], a: usize) -> bool
+pub fn any_excluding(types: &[DeclaredType], rows: &[List<bool>], a: usize) -> bool
     ensures { IsTrue result ↔ SomeExcluding types.now rows.now a }
 {
     for (t, declared) in types.iter().enumerate() {

@@ -6,7 +6,7 @@ use Rattle.std.specs.Cmp.Lexicographic.{bytes_decides}
 use Rattle.std.proofs.lemmas.List.{append-nil, map-append, length-map}
 use Rattle.fort_scan.specs.Lists.{same, among}
 use Rattle.fort_scan.proofs.Symbols.{same_is, same_refl}
-use Rattle.fort_lex.specs.declared.names.Names.{Names}
+use Rattle.fort_lex.specs.declared.names.NameTable.{NameTable}
 use Rattle.fort_lex.specs.declared.meaning.Meaning.{Meaning}
 use Rattle.fort_lex.specs.declared.meaning.Meaning.TheVariants as a_meaning
 use Rattle.fort_token.specs.declared.token.Kind.{Kind}
@@ -92,21 +92,21 @@ none_grows words w v false n e h = h
 
 -- ---- what the names hold
 
-pub known_kind_is : (words : List (List ℕ)) (names : Names) (w : List ℕ) (k : Kind) → HoldsNames words names → known_kind names w ≡ Some k → KindFor (words_with words w) w (meaning_of w) k
+pub known_kind_is : (words : List (List ℕ)) (names : NameTable) (w : List ℕ) (k : Kind) → HoldsNames words names → known_kind names w ≡ Some k → KindFor (words_with words w) w (meaning_of w) k
 known_kind_is words names w k h e = let f = h.sound w k e in subst (λ t. KindFor t w (meaning_of w) k) (sym (with_same words w (meaning_of w) k f)) f
 
-pub known_held : (words : List (List ℕ)) (names : Names) (w : List ℕ) (k : Kind) → HoldsNames words names → known_kind names w ≡ Some k → HoldsNames (words_with words w) names
+pub known_held : (words : List (List ℕ)) (names : NameTable) (w : List ℕ) (k : Kind) → HoldsNames words names → known_kind names w ≡ Some k → HoldsNames (words_with words w) names
 known_held words names w k h e = subst (λ t. HoldsNames t names) (sym (with_same words w (meaning_of w) k (h.sound w k e))) h
 
-length_names : (words : List (List ℕ)) (names : Names) → HoldsNames words names → length names.names ≡ length words
+length_names : (words : List (List ℕ)) (names : NameTable) → HoldsNames words names → length names.names ≡ length words
 length_names words names h = ap length h.names ∙ length-map words encode_utf8_all
 
-pub new_kind_is : (words : List (List ℕ)) (names : Names) (w : List ℕ) (k : Kind) → HoldsNames words names → known_kind names w ≡ None → KindAt (length names.names) (meaning_of w) k
+pub new_kind_is : (words : List (List ℕ)) (names : NameTable) (w : List ℕ) (k : Kind) → HoldsNames words names → known_kind names w ≡ None → KindAt (length names.names) (meaning_of w) k
     → KindFor (words_with words w) w (meaning_of w) k
 new_kind_is words names w k h e a =
     new_kind words w (meaning_of w) k (h.complete w e) (subst (λ n. KindAt n (meaning_of w) k) (length_names words names h) a)
 
-sound_by : (words : List (List ℕ)) (names : Names) (w v : List ℕ) (k l : Kind) → HoldsNames words names → KindFor (words_with words w) w (meaning_of w) k
+sound_by : (words : List (List ℕ)) (names : NameTable) (w v : List ℕ) (k l : Kind) → HoldsNames words names → KindFor (words_with words w) w (meaning_of w) k
     → (b : Bool) → bytes_eq w v ≡ b → cond b (Some k) (known_kind names v) ≡ Some l → KindFor (words_with words w) v (meaning_of v) l
 sound_by words names w v k l h f true e i =
     let is : w ≡ v = (bytes_decides w v).0 e in
@@ -114,12 +114,12 @@ sound_by words names w v k l h f true e i =
     subst (λ t. KindFor (words_with words w) v (meaning_of v) t) same_kind (subst (λ t. KindFor (words_with words w) t (meaning_of t) k) is f)
 sound_by words names w v k l h f false e i = kind_grows words w v (is_numbered (meaning_of w)) (among words w) refl (meaning_of v) l (h.sound v l i)
 
-complete_by : (words : List (List ℕ)) (names : Names) (w v : List ℕ) (k : Kind) → HoldsNames words names → among words w ≡ false
+complete_by : (words : List (List ℕ)) (names : NameTable) (w v : List ℕ) (k : Kind) → HoldsNames words names → among words w ≡ false
     → (b : Bool) → bytes_eq w v ≡ b → cond b (Some k) (known_kind names v) ≡ None → among (words_with words w) v ≡ false
 complete_by words names w v k h n true e i = absurd cc
 complete_by words names w v k h n false e i = none_grows words w v (is_numbered (meaning_of w)) n e (h.complete v i)
 
-pub new_held : (words : List (List ℕ)) (old new : Names) (w : List ℕ) (k : Kind) → HoldsNames words old → known_kind old w ≡ None → KindAt (length old.names) (meaning_of w) k
+pub new_held : (words : List (List ℕ)) (old new : NameTable) (w : List ℕ) (k : Kind) → HoldsNames words old → known_kind old w ≡ None → KindAt (length old.names) (meaning_of w) k
     → new.names ≡ old.names ++ cond (is_numbered (meaning_of w)) (encode_utf8_all w ∷ []) [] → ((v : List ℕ) → known_kind new v ≡ cond (bytes_eq w v) (Some k) (known_kind old v))
     → HoldsNames (words_with words w) new
 new_held words old new w k h e a names known =

@@ -12,7 +12,7 @@ use Rattle.fort_scan.specs.Tokens.{Piece}
 use Rattle.fort_scan.specs.Faults.{IsList, IsFault, IsMany}
 use Rattle.std.specs.Str.{bytes_eq}
 use Rattle.indexmap.specs.IndexMap.{get_by}
-use Rattle.fort_lex.specs.declared.names.Names.{Names}
+use Rattle.fort_lex.specs.declared.names.NameTable.{NameTable}
 use Rattle.fort_lex.specs.declared.builder.Builder.{Builder}
 use Rattle.fort_ops.specs.declared.op.Op.TheVariants as an_op
 use Rattle.fort_lex.specs.declared.meaning.Meaning.{Meaning}
@@ -40,11 +40,11 @@ KindAt n a_meaning.OperatorWord k = k ≡ kind.Op (an_op.Word n)
 KindAt n a_meaning.Name k = k ≡ kind.Name (record { 0 = n })
 
 -- what the map has for a word
-abbrev pub known_kind : Names → List ℕ → Option Kind
+abbrev pub known_kind : NameTable → List ℕ → Option Kind
 known_kind n w = get_by (λ key. bytes_eq w key.now) n.known
 
 -- The names are these words, and the map has the kind of each of them, and no wrong kind of any word.
-pub record HoldsNames (words : List (List ℕ)) (n : Names) : Type 0 where
+pub record HoldsNames (words : List (List ℕ)) (n : NameTable) : Type 0 where
   pub names : n.names ≡ map encode_utf8_all words
   pub sound : (w : List ℕ) (k : Kind) → known_kind n w ≡ Some k → KindFor words w (meaning_of w) k
   pub complete : (w : List ℕ) → known_kind n w ≡ None → among words w ≡ false

@@ -6,7 +6,7 @@ ghost use Rattle.fort_lex.specs.Meanings.{said, escaped_char};
 ghost use Rattle.fort_lex.specs.Building.{Holds, OkKind};
 ghost use Rattle.fort_lex.specs.Files.{StandsFor};
 
-use crate::names::Names;
+use crate::names::NameTable;
 use fort_base::{Bytes, List, Memory, Place};
 use fort_scan::{Shape, gap_kind, place_after};
 use fort_token::{Kind, Token, Tokens};
@@ -50,7 +50,7 @@ fn escaped_char(c: char) -> char
 pub struct Builder<'a> {
     pub list: List<Token>,
     pub texts: List<Bytes>,
-    pub names: Names<'a>,
+    pub names: NameTable<'a>,
     pub place: Place,
 }
 
@@ -61,7 +61,7 @@ impl<'a> Builder<'a> {
         Builder {
             list: List::new(alloc),
             texts: List::new(alloc),
-            names: Names::new(alloc),
+            names: NameTable::new(alloc),
             place: Place { line: 1, column: 1 },
         }
     }

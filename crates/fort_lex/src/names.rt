@@ -13,16 +13,16 @@ use std::alloc::Global;
 
 /// The numbers of names, and what each word that stood so far is.
 #[derive(Drop)]
-pub struct Names<'a> {
+pub struct NameTable<'a> {
     pub names: List<Bytes>,
     pub known: IndexMap<&'a [char], Kind>,
 }
 
-impl<'a> Names<'a> {
-    pub fn new(alloc: Global) -> Names<'a>
+impl<'a> NameTable<'a> {
+    pub fn new(alloc: Global) -> NameTable<'a>
         ensures { HoldsNames [] result }
     {
-        Names {
+        NameTable {
             names: List::new(alloc),
             known: IndexMap::new(alloc),
         }
@@ -32,7 +32,7 @@ impl<'a> Names<'a> {
     pub fn into_names(self) -> List<Bytes>
         ensures { result ≡ self.entry.names }
     {
-        let Names { names, known: _ } = self;
+        let NameTable { names, known: _ } = self;
         names
     }
 

@@ -6,13 +6,13 @@ use Rattle.fort_core.specs.declared.program.Program.{Program}
 use Rattle.fort_core.specs.declared.term.Term.{Term}
 use Rattle.fort_core.specs.declared.value.Value.{Value}
 use Rattle.fort_machine.specs.Cells.{Cell, untouched, found, made, Fits, left_at}
-use Rattle.fort_machine.specs.Deeds.{Deed, only_at, made_from, afterwards, failing}
+use Rattle.fort_machine.specs.Effects.{Effect, only_at, made_from, afterwards, failing}
 use Rattle.fort_machine.specs.Acts.{Act, stuck, turns, enters, asks, sets, makes, calls, ends}
 use Rattle.fort_machine.specs.Steps.{Does, steps, or_unit}
 use Rattle.fort_machine.specs.Attempts.{aborts, completed, failed, gave_up, fell_asleep}
 use Rattle.fort_machine.specs.EffectLaws.{EffectsJoin, EffectsFollow, EffectsPart, MakesInARow, StepsMakeInARow, GivesBack, AbortUndoes}
 use Rattle.fort_machine.proofs.Cells.{older_back, all_back}
-use Rattle.fort_machine.proofs.Deeds.{both_assoc, idle_both, both_idle, afterwards_both, both_fits, fits_first, fits_then}
+use Rattle.fort_machine.proofs.WholeEffects.{both_assoc, idle_both, both_idle, afterwards_both, both_fits, fits_first, fits_then}
 use Rattle.fort_machine.proofs.Runs.{runs_fit}
 
 pub effects_join : EffectsJoin
@@ -54,7 +54,7 @@ made_none : (c : Cell) (v : Value) (o : Option Value) → c ≡ made (Some v) �
 made_none c v None e f = refl
 made_none c v (Some w) e f = absurd (subst (λ x. Fits x (Some w)) e f)
 
-no_row : (loc : ℕ) (d : Deed) → ((l : ℕ) (w : Option Value) → d.cells l ≡ made w → ⊥) → loc ≡ 0 → MakesInARow loc d
+no_row : (loc : ℕ) (d : Effect) → ((l : ℕ) (w : Option Value) → d.cells l ≡ made w → ⊥) → loc ≡ 0 → MakesInARow loc d
 no_row loc d n e = record {
   values = [];
   in_a_row = λ l w h. absurd (n l w h);
@@ -74,21 +74,21 @@ unit_first : (vs : List Value) → or_unit vs ≡ [] → ⊥
 unit_first [] e = cc
 unit_first (v ∷ vs) e = cc
 
-row_of : (p : Program) (inner : Bool) (loc : ℕ) (x : Act) (b : Term) (d : Deed) → Does p inner loc x b d → MakesInARow loc d
+row_of : (p : Program) (inner : Bool) (loc : ℕ) (x : Act) (b : Term) (d : Effect) → Does p inner loc x b d → MakesInARow loc d
 row_of p inner loc stuck b d k = absurd k
-row_of p inner loc (turns next output cost) b d k = no_row loc d (λ l w h. let z : untouched ≡ made w = sym (ap (λ (y : Deed). y.cells l) k.2) ∙ h in cc) k.0
-row_of p inner loc (enters body next) b d k = no_row loc d (λ l w h. let z : untouched ≡ made w = sym (ap (λ (y : Deed). y.cells l) k.3) ∙ h in cc) k.1
-row_of p inner loc (asks l next) b d k = no_row loc d (λ n w h. only_not_made l (found (Some k.0) None) (λ u q. cc) n w (sym (ap (λ (y : Deed). y.cells n) k.3) ∙ h)) k.1
-row_of p inner loc (sets l v) b d k = no_row loc d (λ n w h. only_not_made l (found None (Some v)) (λ u q. cc) n w (sym (ap (λ (y : Deed). y.cells n) k.2) ∙ h)) k.0
+row_of p inner loc (turns next output cost) b d k = no_row loc d (λ l w h. let z : untouched ≡ made w = sym (ap (λ (y : Effect). y.cells l) k.2) ∙ h in cc) k.0
+row_of p inner loc (enters body next) b d k = no_row loc d (λ l w h. let z : untouched ≡ made w = sym (ap (λ (y : Effect). y.cells l) k.3) ∙ h in cc) k.1
+row_of p inner loc (asks l next) b d k = no_row loc d (λ n w h. only_not_made l (found (Some k.0) None) (λ u q. cc) n w (sym (ap (λ (y : Effect). y.cells n) k.3) ∙ h)) k.1
+row_of p inner loc (sets l v) b d k = no_row loc d (λ n w h. only_not_made l (found None (Some v)) (λ u q. cc) n w (sym (ap (λ (y : Effect). y.cells n) k.2) ∙ h)) k.0
 row_of p inner loc (makes values next cost) b d k = record {
   values = or_unit values;
-  in_a_row = λ l w h. made_in_row loc (or_unit values) l w (sym (ap (λ (y : Deed). y.cells l) k.1) ∙ h);
-  all_made = λ n v h. ap (λ (y : Deed). y.cells (loc + n)) k.1 ∙ row_made loc (or_unit values) n v h;
-  none_there = λ s f n v h. made_none (d.cells (loc + n)) v (s (loc + n)) (ap (λ (y : Deed). y.cells (loc + n)) k.1 ∙ row_made loc (or_unit values) n v h) (f (loc + n));
+  in_a_row = λ l w h. made_in_row loc (or_unit values) l w (sym (ap (λ (y : Effect). y.cells l) k.1) ∙ h);
+  all_made = λ n v h. ap (λ (y : Effect). y.cells (loc + n)) k.1 ∙ row_made loc (or_unit values) n v h;
+  none_there = λ s f n v h. made_none (d.cells (loc + n)) v (s (loc + n)) (ap (λ (y : Effect). y.cells (loc + n)) k.1 ∙ row_made loc (or_unit values) n v h) (f (loc + n));
   zero_for_none = λ q. absurd (unit_first values q);
 }
 row_of p inner loc (calls set values) b d k = absurd k
-row_of p inner loc ends b d k = no_row loc d (λ l w h. let z : untouched ≡ made w = sym (ap (λ (y : Deed). y.cells l) k.5) ∙ h in cc) k.2
+row_of p inner loc ends b d k = no_row loc d (λ l w h. let z : untouched ≡ made w = sym (ap (λ (y : Effect). y.cells l) k.5) ∙ h in cc) k.2
 
 pub steps_make_in_a_row : StepsMakeInARow
 steps_make_in_a_row p inner loc a b d (steps x h k) = row_of p inner loc x b d k
@@ -104,6 +104,6 @@ pub abort_undoes : AbortUndoes
 abort_undoes p m s within body d b e k (completed v x y z) = absurd cc
 abort_undoes p m s within body d b e k (failed v x y z) = absurd cc
 abort_undoes p m s within body d b e k (gave_up v x y z u q) =
-    (ap (λ c. afterwards c s) q ∙ fun_ext (λ l. all_back (d.cells l) (s l) (runs_fit s within body aborts d k l)), ap (λ (c : Deed). c.output) q)
+    (ap (λ c. afterwards c s) q ∙ fun_ext (λ l. all_back (d.cells l) (s l) (runs_fit s within body aborts d k l)), ap (λ (c : Effect). c.output) q)
 abort_undoes p m s within body d b e k (fell_asleep marks x y z u o q) =
-    (ap (λ c. afterwards c s) q ∙ fun_ext (λ l. all_back (d.cells l) (s l) (runs_fit s within body aborts d k l)), ap (λ (c : Deed). c.output) q)
+    (ap (λ c. afterwards c s) q ∙ fun_ext (λ l. all_back (d.cells l) (s l) (runs_fit s within body aborts d k l)), ap (λ (c : Effect). c.output) q)

@@ -8,15 +8,15 @@ use Rattle.fort_core.specs.declared.term.Term.TheVariants.{outs-Asleep, outs-Val
 use Rattle.fort_core.specs.declared.term.Term.TheOpen.{Term-F}
 use Rattle.fort_core.specs.declared.value.Value.{Value}
 use Rattle.fort_machine.specs.Cells.{found, Fits, left_at}
-use Rattle.fort_machine.specs.Deeds.{Store, Deed, both, FitsAll, afterwards}
+use Rattle.fort_machine.specs.Effects.{Store, Effect, both, FitsAll, afterwards}
 use Rattle.fort_machine.specs.Ends.{open_yet, standing, throw_of}
-use Rattle.fort_machine.specs.Frames.{Frame, plug}
+use Rattle.fort_machine.specs.Frames.{Frame, plug, trodden}
 use Rattle.fort_machine.specs.Parts.{IsOneOf, terms_in, Inside, itself, in_part}
 use Rattle.fort_machine.specs.Marked.{Marks, In, Bare, Alike}
 use Rattle.fort_machine.specs.Attempts.{Sleeps, Awake, MayTry, Ended, Closes, completed, failed, gave_up, fell_asleep}
 use Rattle.fort_machine.specs.Runs.{none, step, stop, attempt}
 use Rattle.fort_machine.specs.RunLaws.{Framed}
-use Rattle.fort_machine.proofs.Deeds.{both_meet, fits_first, fits_then}
+use Rattle.fort_machine.proofs.WholeEffects.{both_meet, fits_first, fits_then}
 use Rattle.fort_machine.proofs.Inside.{Sleeper, inside_plug, split_plug}
 use Rattle.fort_machine.proofs.Less.{bare_none, local_marks}
 use Rattle.fort_machine.proofs.Places.{ready_open}
@@ -42,6 +42,7 @@ awake_alike s s' t path h w = record {
   is_term = w.is_term;
   is_path = w.is_path;
   ready = w.ready;
+  reached = w.reached;
   sleepless = λ k. w.sleepless (sleeps_alike s' s w.frames w.part (ready_open w.part w.ready) (subst (Alike s' s) w.is_term (alike_back s s' t h)) k);
 }
 
@@ -51,9 +52,9 @@ may_alike true s s' t fs a o e h (inl no_sleep) = inl (λ k. no_sleep (sleeps_al
 may_alike true s s' t fs a o e h (inr only) = inr (λ path w. only path (awake_alike s s' t path (h refl) w))
 
 -- what a step leaves asleep slept, or watches what the step read
-pub alike_step : (s s' : Store) (d : Deed) (fs : List Frame) (a b : Term) → standing a ≡ open_yet
+pub alike_step : (s s' : Store) (d : Effect) (fs : List Frame) (a b : Term) → standing a ≡ open_yet
     → ((marks : Marks) → Sleeper marks b → Sleeper marks a ⊎ ((l : ℕ) (v : Value) → In l v marks → afterwards d s l ≡ afterwards d s' l))
-    → Alike s s' (plug fs a) → Alike (afterwards d s) (afterwards d s') (plug fs b)
+    → Alike s s' (plug fs a) → Alike (afterwards d s) (afterwards d s') (plug (trodden fs) b)
 alike_step s s' d fs a b o k h marks body i l v m = go (split_plug marks body fs b i)
   where
     old : (c : Term) → Inside (Asleep marks c) (plug fs a) → afterwards d s l ≡ afterwards d s' l
@@ -94,7 +95,7 @@ throw_sleeps marks v t e (b, in_part c h i) = go (subst (IsOneOf c) (ap terms_in
     go (inr q) = q
 
 -- what an attempt leaves asleep watches what it read
-pub closes_marks : (p : Program) (m : Mode) (body b : Term) (ended : Ended) (d1 d2 : Deed) (s s' : Store) → Bare body → Closes p m body ended d1 b d2 → FitsAll d1 s → FitsAll d1 s'
+pub closes_marks : (p : Program) (m : Mode) (body b : Term) (ended : Ended) (d1 d2 : Effect) (s s' : Store) → Bare body → Closes p m body ended d1 b d2 → FitsAll d1 s → FitsAll d1 s'
     → (marks : Marks) → Sleeper marks b → (l : ℕ) (v : Value) → In l v marks → afterwards d2 s l ≡ afterwards d2 s' l
 closes_marks p m body b ended d1 d2 s s' bare (completed v x y z) f g marks k l w i = absurd (value_sleeps marks v b y k)
 closes_marks p m body b ended d1 d2 s s' bare (failed v x y z) f g marks k l w i = absurd (throw_sleeps marks v b y k)
@@ -113,22 +114,22 @@ bare_alike s s' t bare marks body i l v m = absurd (bare_none marks t bare (body
 
 pub framed : Framed
 framed p inner strict s s' ps t r d (none a b c) h f = none a b c
-framed p inner strict s s' ps t r d (step {rest = rest} {a = a} {b = b} {d1 = d1} {d2 = d2} {loc = loc} fs e c l f1 k w) h f =
+framed p inner strict s s' ps t r d (step {rest = rest} {a = a} {b = b} {d1 = d1} {d2 = d2} {loc = loc} fs e c n l f1 k w) h f =
     let g : FitsAll (both d1 d2) s' = subst (λ x. FitsAll x s') w f in
-    let m = both_meet d1 d2 s f1 (runs_fit (afterwards d1 s) rest (plug fs b) r d2 k) in
-    step fs e c l (fits_first d1 d2 s' m g)
-    (framed p inner strict (afterwards d1 s) (afterwards d1 s') rest (plug fs b) r d2 k
+    let m = both_meet d1 d2 s f1 (runs_fit (afterwards d1 s) rest (plug (trodden fs) b) r d2 k) in
+    step fs e c n l (fits_first d1 d2 s' m g)
+    (framed p inner strict (afterwards d1 s) (afterwards d1 s') rest (plug (trodden fs) b) r d2 k
     (λ x. alike_step s s' d1 fs a b (ready_open a (local_ready p inner loc a b d1 l)) (λ marks q. inl (local_marks p inner loc a b d1 l marks q)) (subst (Alike s s') c (h x)))
     (fits_then d1 d2 s' m g)) w
-framed p inner strict s s' ps t r d (stop fs a b c e x w) h f = stop fs a b c e x w
-framed p inner strict s s' ps t r d (attempt {m = md} {within = within} {rest = rest} {a = a} {b = b} {body = body} {ended = ended} {d1 = d1} {d2 = d2} {d3 = d3} fs e c l bare may k close k' w) h f =
+framed p inner strict s s' ps t r d (stop fs a b c n e x w) h f = stop fs a b c n e x w
+framed p inner strict s s' ps t r d (attempt {m = md} {within = within} {rest = rest} {a = a} {b = b} {body = body} {ended = ended} {d1 = d1} {d2 = d2} {d3 = d3} fs e c n l bare may k close k' w) h f =
     let g : FitsAll (both d2 d3) s' = subst (λ x. FitsAll x s') w f in
     let o = ready_open a (form_ready a md body l) in
     let f1 : FitsAll d1 s = runs_fit s within body ended d1 k in
-    let mt = both_meet d2 d3 s (closes_fit p md body b ended d1 d2 s close f1) (runs_fit (afterwards d2 s) rest (plug fs b) r d3 k') in
+    let mt = both_meet d2 d3 s (closes_fit p md body b ended d1 d2 s close f1) (runs_fit (afterwards d2 s) rest (plug (trodden fs) b) r d3 k') in
     let g1 : FitsAll d1 s' = fits_closed p md body b ended d1 d2 s' close (fits_first d2 d3 s' mt g) in
-    attempt fs e c l bare (may_alike strict s s' t fs a o c h may)
+    attempt fs e c n l bare (may_alike strict s s' t fs a o c h may)
     (framed p true true s s' within body ended d1 k (λ x. bare_alike s s' body bare) g1) close
-    (framed p inner strict (afterwards d2 s) (afterwards d2 s') rest (plug fs b) r d3 k'
+    (framed p inner strict (afterwards d2 s) (afterwards d2 s') rest (plug (trodden fs) b) r d3 k'
     (λ x. alike_step s s' d2 fs a b o (λ marks q. inr (closes_marks p md body b ended d1 d2 s s' bare close f1 g1 marks q)) (subst (Alike s s') c (h x)))
     (fits_then d2 d3 s' mt g)) w

@@ -20,13 +20,13 @@ use Rattle.fort_core.specs.declared.term.Term.TheOpen.{Term-F, Value-F}
 use Rattle.fort_core.specs.declared.value.Value.{Value, para-Value, fold-Value, out-Value}
 use Rattle.fort_core.specs.declared.value.Closure.{Closure, out-Closure, roll-out-Closure, para-Closure, para-roll-Closure, fold-Closure, fold_out-Closure}
 use Rattle.fort_machine.specs.Types.{has_type}
-use Rattle.fort_machine.specs.Primitives.{Kind, Answer, gives, makes_text, throws, prints, ends, nothing, answer_of}
-use Rattle.fort_machine.specs.Deeds.{Deed}
+use Rattle.fort_machine.specs.Primitives.{ValueKind, Answer, gives, makes_text, throws, prints, ends, nothing, answer_of}
+use Rattle.fort_machine.specs.Effects.{Effect}
 use Rattle.fort_machine.specs.Ends.{Standing, at_value, at_throw, open_yet, standing, throw_of}
 use Rattle.fort_machine.specs.Parts.{IsOneOf, in_clauses, parts_of, terms_in, Inside, itself, in_part}
 use Rattle.fort_machine.specs.Scopes.{holds_all}
 use Rattle.fort_machine.specs.Substitution.{with_value, substituted, substituted_all, at_location, with_location, closure_now, located, bound_to, held_by}
-use Rattle.fort_machine.specs.Acts.{Act, stuck, turns, enters, asks, sets, makes, calls, unit, single, throws_object, throwing, by_standing, after, after_all, Together, at_values, leftmost, some_open, standing_together, by_together, once_all}
+use Rattle.fort_machine.specs.Acts.{Act, stuck, turns, enters, asks, sets, makes, calls, unit, single, throws_object, throwing, by_standing, after, after_all, Together, at_values, leftmost, some_still, some_open, standing_together, by_together, once_all}
 use Rattle.fort_machine.specs.Acts as acts
 use Rattle.fort_machine.specs.Generators.{Items, numbers_from, elements_from, no_items, items_at, by_item, first_half, rest_half, for_items, reduced_halves, reduce_items, spanned}
 use Rattle.fort_machine.specs.Forms.{entering, applying_to, applying, filling, binding, reading_at, writing_at, location_of, field_of, by_element, sizing, choosing, clause_for, finally_then, trying, too_deep, act_at}
@@ -190,6 +190,7 @@ module _ (marks : Marks) (t : Term) where
   good_together : (g : Together) (k : List Value → Act) → ((vs : List Value) → Good (k vs)) → Good (by_together g k)
   good_together (at_values vs) k h = h vs
   good_together (leftmost v) k h = less_throw v
+  good_together some_still k h = tt
   good_together some_open k h = tt
 
   good_once : (ts : List Term) (k : List Value → Act) → ((vs : List Value) → Good (k vs)) → Good (once_all ts k)
@@ -206,7 +207,7 @@ module _ (marks : Marks) (t : Term) where
   good_entering c (Some hs) = λ bare s. absurd (bare_none marks c.body bare (less_all marks (hs ++ c.held) c.body s))
   good_entering c None = tt
 
-  good_apply : (k : Kind) (v : Value) → Good (applying_to k v)
+  good_apply : (k : ValueKind) (v : Value) → Good (applying_to k v)
   good_apply (Value-F.Function c) v = good_entering c (bound_to c.parameters v)
   good_apply _ v = tt
 
@@ -216,7 +217,7 @@ module _ (marks : Marks) (t : Term) where
   good_applying (f ∷ v ∷ []) = good_apply (out-Value f) v
   good_applying (f ∷ v ∷ w ∷ vs) = tt
 
-  good_filling : (p : Program) (ty : Ty) (v : Value) (k : Kind) → Good (filling p ty v k)
+  good_filling : (p : Program) (ty : Ty) (v : Value) (k : ValueKind) → Good (filling p ty v k)
   good_filling p ty v (Value-F.Small (pos n)) = λ l. less_value _
   good_filling p ty v (Value-F.Small (negsuc n)) = good_throwing p p.built_in.negative_size
   good_filling p ty v _ = tt
@@ -237,16 +238,16 @@ module _ (marks : Marks) (t : Term) where
   good_if true x y gx gy = gx
   good_if false x y gx gy = gy
 
-  good_element : (p : Program) (k m : Kind) (f : Option ℕ → Act) → ((o : Option ℕ) → Good (f o)) → Good (by_element p k m f)
+  good_element : (p : Program) (k m : ValueKind) (f : Option ℕ → Act) → ((o : Option ℕ) → Good (f o)) → Good (by_element p k m f)
   good_element p (Value-F.Array element base size) (Value-F.Small (pos i)) f h = good_if (nat_lt i size) _ _ (h (Some (base.0 + i))) (good_throwing p p.built_in.index_out_of_range)
   good_element p (Value-F.Array element base size) (Value-F.Small (negsuc i)) f h = good_throwing p p.built_in.index_out_of_range
   good_element p _ _ f h = tt
 
-  good_sizing : (k : Kind) → Good (sizing k)
+  good_sizing : (k : ValueKind) → Good (sizing k)
   good_sizing (Value-F.Array element base size) = less_value _
   good_sizing _ = tt
 
-  good_choosing : (k : Kind) (a b : Term) → Less a → Less b → Good (choosing k a b)
+  good_choosing : (k : ValueKind) (a b : Term) → Less a → Less b → Good (choosing k a b)
   good_choosing (Value-F.Truth true) a b la lb = la
   good_choosing (Value-F.Truth false) a b la lb = lb
   good_choosing _ a b la lb = tt
@@ -384,7 +385,7 @@ module _ (marks : Marks) (t : Term) where
   good_acts p x (by_itself e) = subst Good e (good_act p (out-Term t) refl)
   good_acts p x (by_call {values = vs} {decl = decl} e h i) = subst Good i (good_body p decl.body vs)
 
-  less_does : (p : Program) (inner : Bool) (loc : ℕ) (x : Act) (b : Term) (d : Deed) → Good x → Does p inner loc x b d → Less b
+  less_does : (p : Program) (inner : Bool) (loc : ℕ) (x : Act) (b : Term) (d : Effect) → Good x → Does p inner loc x b d → Less b
   less_does p inner loc stuck b d g k = absurd k
   less_does p inner loc (turns next output cost) b d g k = subst Less (sym k.1) g
   less_does p inner loc (enters c next) b d g k = subst Less (sym k.2) (g k.0)
@@ -395,5 +396,5 @@ module _ (marks : Marks) (t : Term) where
   less_does p inner loc acts.ends b d g k = subst Less (sym k.4) (less_throw k.0)
 
 -- what sleeps after a step slept before
-pub local_marks : (p : Program) (inner : Bool) (loc : ℕ) (a b : Term) (d : Deed) → Local p inner loc a b d → (marks : Marks) → Sleeper marks b → Sleeper marks a
+pub local_marks : (p : Program) (inner : Bool) (loc : ℕ) (a b : Term) (d : Effect) → Local p inner loc a b d → (marks : Marks) → Sleeper marks b → Sleeper marks a
 local_marks p inner loc a b d (steps x h k) marks = less_does marks a p inner loc x b d (good_acts marks a p x h) k

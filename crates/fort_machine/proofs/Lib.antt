@@ -1,5 +1,5 @@
 pub mod Cells
-pub mod Deeds
+pub mod WholeEffects
 pub mod Runs
 pub mod Standing
 pub mod Places
@@ -14,3 +14,6 @@ pub mod Less
 pub mod Frame
 pub mod Legs
 pub mod WorkedRuns
+pub mod Split
+pub mod Read
+pub mod Costs

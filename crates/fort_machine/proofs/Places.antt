@@ -1,18 +1,18 @@
 -- Places in a term: the path of a thread determines what stands there.
-use Rattle.std.proofs.Common.{◌≡◌, ℕ, List, [], ◌∷◌, ◌++◌, map, length, refl, ap, sym, ◌∙◌, arith, append_assoc, ◌⊎◌, inl, inr}
+use Rattle.std.proofs.Common.{◌≡◌, ℕ, true, false, List, [], ◌∷◌, ◌++◌, map, length, refl, ap, sym, ◌∙◌, arith, append_assoc, ◌⊎◌, inl, inr}
 use Rattle.std.proofs.lemmas.List.{append-nil}
 use Rattle.fort_base.specs.declared.ids.SetId.{SetId}
 use Rattle.fort_core.specs.declared.term.Term.{Term, out-Term}
 use Rattle.fort_core.specs.declared.term.Term as term
-use Rattle.fort_core.specs.declared.term.Term.TheVariants.{outs-Group, outs-Call, outs-Operator, outs-Apply, outs-Fill, outs-Let, outs-Mutable, outs-Write, outs-ReadField, outs-WriteField, outs-ReadElement, outs-WriteElement, outs-Size, outs-Then, outs-If, outs-Typecase, outs-For, outs-ForHalves, outs-Reduce, outs-ReduceHalves, outs-Also, outs-Try, outs-Throw}
+use Rattle.fort_core.specs.declared.term.Term.TheVariants.{outs-Group, outs-Call, outs-Operator, outs-Apply, outs-Fill, outs-Let, outs-Mutable, outs-Write, outs-ReadField, outs-WriteField, outs-ReadElement, outs-WriteElement, outs-Size, outs-Then, outs-If, outs-Typecase, outs-For, outs-ForHalves, outs-Reduce, outs-ReduceHalves, outs-Also, outs-Try, outs-Throw, outs-Stepped}
 use Rattle.fort_core.specs.declared.term.Term.TheOpen.{Term-F}
 use Rattle.fort_core.specs.declared.value.Value.{Value}
 use Rattle.fort_core.specs.declared.value.Closure.{Closure}
-use Rattle.fort_machine.specs.Ends.{Standing, at_value, open_yet, standing_at, standing}
-use Rattle.fort_machine.specs.Frames.{Frame, in_group, in_call, in_function, in_argument, in_first_half, in_second_half, in_first_reduced, in_second_reduced, in_block, in_throw, in_operand, in_fill_size, in_fill_value, in_let, in_mutable, in_write, in_field, in_field_target, in_field_value, in_element, in_index, in_element_target, in_element_index, in_element_value, in_size, in_then, in_test, in_subject, in_source, in_reduced_source, in_try, on, plug, part_number, road}
+use Rattle.fort_machine.specs.Ends.{Standing, at_value, open_yet, standing_at, standing, Finished}
+use Rattle.fort_machine.specs.Frames.{Frame, in_group, in_call, in_function, in_argument, in_first_half, in_second_half, in_first_reduced, in_second_reduced, in_block, in_throw, in_operand, in_fill_size, in_fill_value, in_let, in_mutable, in_write, in_field, in_field_target, in_field_value, in_element, in_index, in_element_target, in_element_index, in_element_value, in_size, in_then, in_test, in_subject, in_source, in_reduced_source, in_try, in_stepped, on, plug, part_number, road, passes}
 use Rattle.fort_machine.specs.Attempts.{Ready}
 use Rattle.fort_machine.specs.RunLaws.{OnePlace}
-use Rattle.fort_machine.proofs.Standing.{standing-Value, not_finished, is_open, open_thrown, values_open, group_open}
+use Rattle.fort_machine.proofs.Standing.{standing-Value, not_finished, is_open, open_thrown, values_open, group_open, stepped_open}
 
 abbrev pub on_layer : Frame → Term → Term-F Term Value Closure
 on_layer (in_group before behind) t = Term-F.Group (before ++ t ∷ behind)
@@ -46,6 +46,7 @@ on_layer (in_subject x clauses other) t = Term-F.Typecase x t clauses other
 on_layer (in_source o s x body) t = Term-F.For o s x t body
 on_layer (in_reduced_source o s set empty x body) t = Term-F.Reduce o s set empty x t body
 on_layer (in_try x clauses last) t = Term-F.Try t x clauses last
+on_layer in_stepped t = Term-F.Stepped t
 
 -- the layer of a term round an open part
 pub out_on : (f : Frame) (t : Term) → standing t ≡ open_yet → out-Term (on f t) ≡ on_layer f t
@@ -80,6 +81,7 @@ out_on (in_subject x clauses other) t o = outs-Typecase _ _ _ _
 out_on (in_source s1 s2 x body) t o = outs-For _ _ _ _ _
 out_on (in_reduced_source s1 s2 set empty x body) t o = outs-Reduce _ _ _ _ _ _ _
 out_on (in_try x clauses last) t o = outs-Try _ _ _ _
+out_on in_stepped t o = ap out-Term (stepped_open t o) ∙ outs-Stepped t
 
 layer_open : (f : Frame) (t : Term) → standing t ≡ open_yet → standing_at (on_layer f t) ≡ open_yet
 layer_open in_throw t o = open_thrown (out-Term t) o
@@ -203,6 +205,7 @@ next_at (Term-F.Typecase x a cs b) = serial (in_subject x cs b) a
 next_at (Term-F.For o s x a b) = serial (in_source o s x b) a
 next_at (Term-F.Reduce o s set empty x a b) = serial (in_reduced_source o s set empty x b) a
 next_at (Term-F.Try a x cs last) = serial (in_try x cs last) a
+next_at (Term-F.Stepped a) = serial in_stepped a
 next_at _ = over
 
 abbrev by_kind : Frame → Term → Kind → Next
@@ -263,10 +266,31 @@ same_middle (z ∷ xs) ys (p ∷ ps) qs x y n e =
 pub ready_open : (a : Term) → Ready a → standing a ≡ open_yet
 ready_open a r = is_open a r.unfinished
 
+-- a part that is passed over has a number, so no path ends round it
+passes_number : (f : Frame) (t : Term) → passes f t ≡ true → part_number f ≡ [] → ⊥
+passes_number (in_group before behind) t e n = cc
+passes_number (in_call set before behind) t e n = cc
+passes_number (in_function argument) t e n = cc
+passes_number (in_argument function) t e n = cc
+passes_number (in_first_half second) t e n = cc
+passes_number (in_second_half first) t e n = cc
+passes_number (in_first_reduced set second) t e n = cc
+passes_number (in_second_reduced set first) t e n = cc
+passes_number (in_block before behind) t e n = cc
+passes_number _ t e n = cc
+
+no_front : (ns ms : List ℕ) → [] ≡ ns ++ ms → ns ≡ []
+no_front [] ms e = refl
+no_front (n ∷ ns) ms e = absurd cc
+
+not_waiting : (f : Frame) (fs : List Frame) (t : Term) → standing t ≡ open_yet → Finished t ⊎ (passes f t ≡ true) → [] ≡ road (f ∷ fs) → ⊥
+not_waiting f fs t o (inl h) p = not_finished t o h
+not_waiting f fs t o (inr h) p = passes_number f t h (no_front (part_number f) (road fs) p)
+
 pub one_place : OnePlace
 one_place [] [] a b e p ra rb = (refl, e)
-one_place [] (g ∷ gs) a b e p ra rb = absurd (not_finished (plug gs b) (plug_open gs b (ready_open b rb)) (ra.no_part g (plug gs b) e))
-one_place (f ∷ fs) [] a b e p ra rb = absurd (not_finished (plug fs a) (plug_open fs a (ready_open a ra)) (rb.no_part f (plug fs a) (sym e)))
+one_place [] (g ∷ gs) a b e p ra rb = absurd (not_waiting g gs (plug gs b) (plug_open gs b (ready_open b rb)) (ra.no_part g (plug gs b) e) p)
+one_place (f ∷ fs) [] a b e p ra rb = absurd (not_waiting f fs (plug fs a) (plug_open fs a (ready_open a ra)) (rb.no_part f (plug fs a) (sym e)) (sym p))
 one_place (f ∷ fs) (g ∷ gs) a b e p ra rb =
     go (compare f g (plug fs a) (plug gs b) (plug_open fs a (ready_open a ra)) (plug_open gs b (ready_open b rb)) e) (λ h k. one_place fs gs a b h k ra rb)
   where

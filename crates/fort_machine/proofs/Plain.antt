@@ -6,8 +6,8 @@ use Rattle.fort_core.specs.declared.program.Program.{Program}
 use Rattle.fort_core.specs.declared.term.Term.{Term}
 use Rattle.fort_core.specs.declared.value.Value.{Value}
 use Rattle.fort_machine.specs.Cells.{Cell, untouched, found, made, Fits, left_at}
-use Rattle.fort_machine.specs.Deeds.{Store, Deed, only_at, made_from, FitsAll, afterwards, failing}
-use Rattle.fort_machine.specs.Frames.{plug}
+use Rattle.fort_machine.specs.Effects.{Store, Effect, only_at, made_from, FitsAll, afterwards, failing}
+use Rattle.fort_machine.specs.Frames.{plug, trodden}
 use Rattle.fort_machine.specs.Attempts as closes
 use Rattle.fort_machine.specs.Attempts.{Ended, goes, aborts, Closes}
 use Rattle.fort_machine.specs.Runs as runs
@@ -15,7 +15,7 @@ use Rattle.fort_machine.specs.Runs.{Runs}
 use Rattle.fort_machine.specs.Plain as plain
 use Rattle.fort_machine.specs.Plain.{put, put_from, ReadsPlainly, WritesPlainly, MakesPlainly, PlainlyCloses, Plain, RunsPlainly}
 use Rattle.fort_machine.proofs.Cells.{older_back, all_back, newer_kept}
-use Rattle.fort_machine.proofs.Deeds.{afterwards_both}
+use Rattle.fort_machine.proofs.WholeEffects.{afterwards_both}
 use Rattle.fort_machine.proofs.Runs.{runs_fit, closes_fit}
 use Rattle.fort_machine.proofs.Effects.{here}
 
@@ -116,37 +116,37 @@ left_row l (v ∷ vs) s k = go (l == k) (left_row (l + 1) vs s k)
 pub makes_plainly : MakesPlainly
 makes_plainly l vs cost s = ((λ f. row_none l vs s f, λ f. row_fits l vs s f), fun_ext (λ k. left_row l vs s k))
 
-closes_plainly : (p : Program) (m : Mode) (body b : Term) (ended : Ended) (d e : Deed) (s : Store) → FitsAll d s → Closes p m body ended d b e
+closes_plainly : (p : Program) (m : Mode) (body b : Term) (ended : Ended) (d e : Effect) (s : Store) → FitsAll d s → Closes p m body ended d b e
     → PlainlyCloses p m body s (afterwards d s) d.output ended b (afterwards e s) e.output
-closes_plainly p m body b ended d e s f (closes.Closes.completed v x y z) = plain.PlainlyCloses.completed v x y (ap (λ q. afterwards q s) z) (ap (λ (q : Deed). q.output) z)
+closes_plainly p m body b ended d e s f (closes.Closes.completed v x y z) = plain.PlainlyCloses.completed v x y (ap (λ q. afterwards q s) z) (ap (λ (q : Effect). q.output) z)
 closes_plainly p m body b ended d e s f (closes.Closes.failed v x y z) = plain.PlainlyCloses.failed v x y
     (λ l w h. ap (λ q. afterwards q s l) z ∙ ap (left_at ((failing d).cells l)) h ∙ older_back (d.cells l) w (subst (Fits (d.cells l)) h (f l)))
     (λ l h. ap (λ q. afterwards q s l) z ∙ ap (left_at ((failing d).cells l)) h ∙ newer_kept (d.cells l) (subst (Fits (d.cells l)) h (f l)) ∙ sym (ap (left_at (d.cells l)) h))
-    (ap (λ (q : Deed). q.output) z)
-closes_plainly p m body b ended d e s f (closes.Closes.gave_up v x y z u w) = plain.PlainlyCloses.gave_up v x y z u (ap (λ q. afterwards q s) w ∙ fun_ext (λ l. all_back (d.cells l) (s l) (f l))) (ap (λ (q : Deed). q.output) w)
-closes_plainly p m body b ended d e s f (closes.Closes.fell_asleep marks x y z o u w) = plain.PlainlyCloses.fell_asleep marks x y u (ap (λ q. afterwards q s) w ∙ fun_ext (λ l. all_back (d.cells l) (s l) (f l))) (ap (λ (q : Deed). q.output) w)
+    (ap (λ (q : Effect). q.output) z)
+closes_plainly p m body b ended d e s f (closes.Closes.gave_up v x y z u w) = plain.PlainlyCloses.gave_up v x y z u (ap (λ q. afterwards q s) w ∙ fun_ext (λ l. all_back (d.cells l) (s l) (f l))) (ap (λ (q : Effect). q.output) w)
+closes_plainly p m body b ended d e s f (closes.Closes.fell_asleep marks x y z o u w) = plain.PlainlyCloses.fell_asleep marks x y u (ap (λ q. afterwards q s) w ∙ fun_ext (λ l. all_back (d.cells l) (s l) (f l))) (ap (λ (q : Effect). q.output) w)
 
-closes_cost : (p : Program) (m : Mode) (body b : Term) (ended : Ended) (d e : Deed) → Closes p m body ended d b e → e.cost ≡ 1 + d.cost
-closes_cost p m body b ended d e (closes.Closes.completed v x y z) = ap (λ (q : Deed). q.cost) z
-closes_cost p m body b ended d e (closes.Closes.failed v x y z) = ap (λ (q : Deed). q.cost) z
-closes_cost p m body b ended d e (closes.Closes.gave_up v x y z u w) = ap (λ (q : Deed). q.cost) w
-closes_cost p m body b ended d e (closes.Closes.fell_asleep marks x y z o u w) = ap (λ (q : Deed). q.cost) w
+closes_cost : (p : Program) (m : Mode) (body b : Term) (ended : Ended) (d e : Effect) → Closes p m body ended d b e → e.cost ≡ 1 + d.cost
+closes_cost p m body b ended d e (closes.Closes.completed v x y z) = ap (λ (q : Effect). q.cost) z
+closes_cost p m body b ended d e (closes.Closes.failed v x y z) = ap (λ (q : Effect). q.cost) z
+closes_cost p m body b ended d e (closes.Closes.gave_up v x y z u w) = ap (λ (q : Effect). q.cost) w
+closes_cost p m body b ended d e (closes.Closes.fell_asleep marks x y z o u w) = ap (λ (q : Effect). q.cost) w
 
 pub runs_plainly : RunsPlainly
-runs_plainly p inner strict s ps t r d (runs.Runs.none a b c) = plain.Plain.none a b (ap (λ x. afterwards x s) c) (ap (λ (x : Deed). x.output) c) (ap (λ (x : Deed). x.cost) c)
-runs_plainly p inner strict s ps t r d (runs.Runs.step {rest = rest} {b = b} {d1 = d1} {d2 = d2} fs a c l f k w) =
-    let q = runs_plainly p inner strict (afterwards d1 s) rest (plug fs b) r d2 k in
-    let e = ap (λ x. afterwards x s) w ∙ afterwards_both d1 d2 s f (runs_fit (afterwards d1 s) rest (plug fs b) r d2 k) in
+runs_plainly p inner strict s ps t r d (runs.Runs.none a b c) = plain.Plain.none a b (ap (λ x. afterwards x s) c) (ap (λ (x : Effect). x.output) c) (ap (λ (x : Effect). x.cost) c)
+runs_plainly p inner strict s ps t r d (runs.Runs.step {rest = rest} {b = b} {d1 = d1} {d2 = d2} fs a c n l f k w) =
+    let q = runs_plainly p inner strict (afterwards d1 s) rest (plug (trodden fs) b) r d2 k in
+    let e = ap (λ x. afterwards x s) w ∙ afterwards_both d1 d2 s f (runs_fit (afterwards d1 s) rest (plug (trodden fs) b) r d2 k) in
     subst (λ x. Plain p inner ps s t r x d.output d.cost) (sym e)
-    (plain.Plain.step fs a c l f refl q (ap (λ (x : Deed). x.output) w) (ap (λ (x : Deed). x.cost) w))
-runs_plainly p inner strict s ps t r d (runs.Runs.stop fs a b c e h w) =
-    plain.Plain.stop fs a b c e h (ap (λ x. afterwards x s) w) (ap (λ (x : Deed). x.output) w) (ap (λ (x : Deed). x.cost) w)
-runs_plainly p inner strict s ps t r d (runs.Runs.attempt {m = m} {within = within} {rest = rest} {b = b} {body = body} {ended = ended} {d1 = d1} {d2 = d2} {d3 = d3} fs a c l bare may k close k' w) =
+    (plain.Plain.step fs a c n l f refl q (ap (λ (x : Effect). x.output) w) (ap (λ (x : Effect). x.cost) w))
+runs_plainly p inner strict s ps t r d (runs.Runs.stop fs a b c n e h w) =
+    plain.Plain.stop fs a b c n e h (ap (λ x. afterwards x s) w) (ap (λ (x : Effect). x.output) w) (ap (λ (x : Effect). x.cost) w)
+runs_plainly p inner strict s ps t r d (runs.Runs.attempt {m = m} {within = within} {rest = rest} {b = b} {body = body} {ended = ended} {d1 = d1} {d2 = d2} {d3 = d3} fs a c z l bare may k close k' w) =
     let f1 = runs_fit s within body ended d1 k in
     let q = runs_plainly p true true s within body ended d1 k in
-    let q' = runs_plainly p inner strict (afterwards d2 s) rest (plug fs b) r d3 k' in
-    let e = ap (λ x. afterwards x s) w ∙ afterwards_both d2 d3 s (closes_fit p m body b ended d1 d2 s close f1) (runs_fit (afterwards d2 s) rest (plug fs b) r d3 k') in
-    let n : d.cost ≡ d2.cost + d3.cost = ap (λ (x : Deed). x.cost) w in
+    let q' = runs_plainly p inner strict (afterwards d2 s) rest (plug (trodden fs) b) r d3 k' in
+    let e = ap (λ x. afterwards x s) w ∙ afterwards_both d2 d3 s (closes_fit p m body b ended d1 d2 s close f1) (runs_fit (afterwards d2 s) rest (plug (trodden fs) b) r d3 k') in
+    let n : d.cost ≡ d2.cost + d3.cost = ap (λ (x : Effect). x.cost) w in
     let n2 = closes_cost p m body b ended d1 d2 close in
     subst (λ x. Plain p inner ps s t r x d.output d.cost) (sym e)
-    (plain.Plain.attempt fs a c l q (closes_plainly p m body b ended d1 d2 s f1 close) q' (ap (λ (x : Deed). x.output) w) (omega arith))
+    (plain.Plain.attempt fs a c z l q (closes_plainly p m body b ended d1 d2 s f1 close) q' (ap (λ (x : Effect). x.output) w) (omega arith))

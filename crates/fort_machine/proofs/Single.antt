@@ -16,9 +16,9 @@ use Rattle.fort_core.specs.declared.term.Term as term
 use Rattle.fort_core.specs.declared.term.Term.TheVariants.{outs-Atomic, outs-Asleep}
 use Rattle.fort_core.specs.declared.value.Value.{Value}
 use Rattle.fort_machine.specs.Cells.{Cell, found, Fits}
-use Rattle.fort_machine.specs.Deeds.{Store, Deed, reading, only_at, both, FitsAll, afterwards, completing, failing, aborting}
+use Rattle.fort_machine.specs.Effects.{Store, Effect, reading, only_at, both, FitsAll, afterwards, completing, failing, aborting}
 use Rattle.fort_machine.specs.Ends.{throw_of}
-use Rattle.fort_machine.specs.Frames.{Frame, plug, road}
+use Rattle.fort_machine.specs.Frames.{Frame, plug, road, trodden}
 use Rattle.fort_machine.specs.Acts.{Act, stuck, turns, enters, asks, sets, makes, calls, ends}
 use Rattle.fort_machine.specs.Forms.{act}
 use Rattle.fort_machine.specs.Calls.{Dispatches, by_body}
@@ -49,7 +49,7 @@ one_decl p set set' vs vs' d d' decl decl' e q h k =
     let same : d' ≡ d = h.no_other d' decl' k2.most_specific in
     let z : Some decl ≡ Some decl' = sym h.most_specific.applicable.is_decl ∙ ap (λ (i : DeclId). slice_get p.decls i.0) (sym same) ∙ k2.most_specific.applicable.is_decl in cc
 
-no_call : (p : Program) (inner : Bool) (loc : ℕ) (x : Act) (b : Term) (d : Deed) → Does p inner loc x b d → (set : SetId) (vs : List Value) → x ≡ calls set vs → ⊥
+no_call : (p : Program) (inner : Bool) (loc : ℕ) (x : Act) (b : Term) (d : Effect) → Does p inner loc x b d → (set : SetId) (vs : List Value) → x ≡ calls set vs → ⊥
 no_call p inner loc x b d k set vs e = subst (λ y. Does p inner loc y b d) e k
 
 one_act : (p : Program) (a a' : Term) (x x' : Act) → a ≡ a' → ((set : SetId) (vs : List Value) → x ≡ calls set vs → ⊥) → ((set : SetId) (vs : List Value) → x' ≡ calls set vs → ⊥)
@@ -64,7 +64,7 @@ one_act p a a' x x' e n n' (by_call {set = set} {values = vs} {d = d} {decl = de
     let e3 : decl ≡ decl' = one_decl p set set' vs vs' d d' decl decl' e1 e2 h h' in
     sym i ∙ (λ j. by_body p (e3 j).body (e2 j)) ∙ i'
 
-one_does : (p : Program) (inner : Bool) (loc : ℕ) (s : Store) (x : Act) (b b' : Term) (d d' : Deed) → Does p inner loc x b d → Does p inner loc x b' d' → FitsAll d s → FitsAll d' s → (b ≡ b') × (d ≡ d')
+one_does : (p : Program) (inner : Bool) (loc : ℕ) (s : Store) (x : Act) (b b' : Term) (d d' : Effect) → Does p inner loc x b d → Does p inner loc x b' d' → FitsAll d s → FitsAll d' s → (b ≡ b') × (d ≡ d')
 one_does p inner loc s stuck b b' d d' k k' f f' = absurd k
 one_does p inner loc s (turns next output cost) b b' d d' k k' f f' = (k.1 ∙ sym k'.1, k.2 ∙ sym k'.2)
 one_does p inner loc s (enters body next) b b' d d' k k' f f' = (k.2 ∙ sym k'.2, k.3 ∙ sym k'.3)
@@ -81,7 +81,7 @@ one_does p inner loc s ends b b' d d' k k' f f' =
     (k.4 ∙ ap throw_of w ∙ sym k'.4, k.5 ∙ sym k'.5)
 
 -- a form has one step
-one_local : (p : Program) (inner : Bool) (loc loc' : ℕ) (s : Store) (a a' b b' : Term) (d d' : Deed) → loc ≡ loc' → a ≡ a' → Local p inner loc a b d → Local p inner loc' a' b' d' → FitsAll d s → FitsAll d' s → (b ≡ b') × (d ≡ d')
+one_local : (p : Program) (inner : Bool) (loc loc' : ℕ) (s : Store) (a a' b b' : Term) (d d' : Effect) → loc ≡ loc' → a ≡ a' → Local p inner loc a b d → Local p inner loc' a' b' d' → FitsAll d s → FitsAll d' s → (b ≡ b') × (d ≡ d')
 one_local p inner loc loc' s a a' b b' d d' el ea (steps x h k) (steps x' h' k') f f' =
     let e : x ≡ x' = one_act p a a' x x' ea (no_call p inner loc x b d k) (no_call p inner loc' x' b' d' k') h h' in
     one_does p inner loc s x b b' d d' k (subst (λ y. Does p inner loc y b' d') (sym e) (subst (λ y. Does p inner y x' b' d') (sym el) k')) f f'
@@ -90,7 +90,7 @@ pub one_step : OneStep
 one_step p inner loc s a b b' d d' k k' f f' = one_local p inner loc loc s a a b b' d d' refl refl k k' f f'
 
 -- where a machine of an attempt stops, no step is
-stops_not_steps : (p : Program) (inner : Bool) (loc : ℕ) (a a' b : Term) (d : Deed) → a ≡ a' → inner ≡ true → Acts p a ends → Local p inner loc a' b d → ⊥
+stops_not_steps : (p : Program) (inner : Bool) (loc : ℕ) (a a' b : Term) (d : Effect) → a ≡ a' → inner ≡ true → Acts p a ends → Local p inner loc a' b d → ⊥
 stops_not_steps p inner loc a a' b d e i h (steps x h' k) =
     let q : ends ≡ x = one_act p a a' ends x e (λ set vs z. cc) (no_call p inner loc x b d k) h h' in
     let k2 : Does p inner loc ends b d = subst (λ y. Does p inner loc y b d) (sym q) k in
@@ -162,7 +162,7 @@ one_marks marks others d ra oa rb ob = rising_one marks others oa ob
     (λ l v h. let r = ra.were_read l v h in rb.are_all l v r.0 r.1) (λ l v h. let r = rb.were_read l v h in ra.are_all l v r.0 r.1)
 
 -- an attempt closes in one way
-closes_one : (p : Program) (m : Mode) (body : Term) (r r' : Ended) (d d' e e' : Deed) (t t' : Term) → r ≡ r' → d ≡ d' → Closes p m body r d t e → Closes p m body r' d' t' e' → (t ≡ t') × (e ≡ e')
+closes_one : (p : Program) (m : Mode) (body : Term) (r r' : Ended) (d d' e e' : Effect) (t t' : Term) → r ≡ r' → d ≡ d' → Closes p m body r d t e → Closes p m body r' d' t' e' → (t ≡ t') × (e ≡ e')
 closes_one p m body r r' d d' e e' t t' q w (completed v a b c) (completed v' a' b' c') = let z : goes (term.Value v) ≡ goes (term.Value v') = sym a ∙ q ∙ a' in (cc, c ∙ ap completing w ∙ sym c')
 closes_one p m body r r' d d' e e' t t' q w (completed v a b c) (failed v' a' b' c') = let z : goes (term.Value v) ≡ goes (throw_of v') = sym a ∙ q ∙ a' in absurd (value_not_throw v v' (cc))
 closes_one p m body r r' d d' e e' t t' q w (completed v a b c) (gave_up v' a' b' c' h' k') = absurd cc
@@ -183,50 +183,50 @@ closes_one p m body r r' d d' e e' t t' q w (fell_asleep ms a b c g h k) (fell_a
     (h ∙ ap (λ x. Asleep x body) (one_marks ms ms' d' (subst (AreRead ms) w c) g c' g') ∙ sym h', k ∙ ap aborting w ∙ sym k')
 
 module _ (p : Program) where
-  pub single : (inner strict : Bool) (s s' : Store) (ps ps' : List Pick) (t t' : Term) (r r' : Ended) (d d' : Deed) → s ≡ s' → ps ≡ ps' → t ≡ t'
+  pub single : (inner strict : Bool) (s s' : Store) (ps ps' : List Pick) (t t' : Term) (r r' : Ended) (d d' : Effect) → s ≡ s' → ps ≡ ps' → t ≡ t'
       → Runs p inner strict s ps t r d → Runs p inner strict s' ps' t' r' d' → (r ≡ r') × (d ≡ d')
   single inner strict s s' ps ps' t t' r r' d d' es ep et (none a b c) (none a' b' c') = (b ∙ ap goes et ∙ sym b', c ∙ sym c')
-  single inner strict s s' ps ps' t t' r r' d d' es ep et (none a b c) (step fs e h l f k w) = absurd cc
-  single inner strict s s' ps ps' t t' r r' d d' es ep et (none a b c) (stop fs i e h x y w) = absurd cc
-  single inner strict s s' ps ps' t t' r r' d d' es ep et (none a b c) (attempt fs e h l bare m k close k2 w) = absurd cc
-  single inner strict s s' ps ps' t t' r r' d d' es ep et (step fs e h l f k w) (none a' b' c') = absurd cc
+  single inner strict s s' ps ps' t t' r r' d d' es ep et (none a b c) (step fs e h n l f k w) = absurd cc
+  single inner strict s s' ps ps' t t' r r' d d' es ep et (none a b c) (stop fs i e h n x y w) = absurd cc
+  single inner strict s s' ps ps' t t' r r' d d' es ep et (none a b c) (attempt fs e h n l bare m k close k2 w) = absurd cc
+  single inner strict s s' ps ps' t t' r r' d d' es ep et (step fs e h n l f k w) (none a' b' c') = absurd cc
   single inner strict s s' ps ps' t t' r r' d d' es ep et
-      (step {rest = rest} {a = a} {b = b} {d1 = d1} {d2 = d2} {loc = loc} fs e h l f k w)
-      (step {rest = rest'} {a = a'} {b = b'} {d1 = d1'} {d2 = d2'} {loc = loc'} gs e' h' l' f' k' w') =
+      (step {rest = rest} {a = a} {b = b} {d1 = d1} {d2 = d2} {loc = loc} fs e h n l f k w)
+      (step {rest = rest'} {a = a'} {b = b'} {d1 = d1'} {d2 = d2'} {loc = loc'} gs e' h' n' l' f' k' w') =
       let q = same_steps fs gs loc loc' rest rest' (sym e ∙ ep ∙ e') in
       let one = one_place fs gs a a' (sym h ∙ et ∙ h') q.0 (local_ready p inner loc a b d1 l) (local_ready p inner loc' a' b' d1' l') in
       let did = one_local p inner loc loc' s a a' b b' d1 d1' q.1 one.1 l l' f (subst (FitsAll d1') (sym es) f') in
-      let i = single inner strict (afterwards d1 s) (afterwards d1' s') rest rest' (plug fs b) (plug gs b') r r' d2 d2' (λ j. afterwards (did.1 j) (es j)) q.2 (λ j. plug (one.0 j) (did.0 j)) k k' in
+      let i = single inner strict (afterwards d1 s) (afterwards d1' s') rest rest' (plug (trodden fs) b) (plug (trodden gs) b') r r' d2 d2' (λ j. afterwards (did.1 j) (es j)) q.2 (λ j. plug (trodden (one.0 j)) (did.0 j)) k k' in
       (i.0, w ∙ (λ j. both (did.1 j) (i.1 j)) ∙ sym w')
-  single inner strict s s' ps ps' t t' r r' d d' es ep et (step {rest = rest} {a = a} {b = b} {d1 = d1} {loc = loc} fs e h l f k w) (stop {a = a'} gs i e' h' x y w') =
+  single inner strict s s' ps ps' t t' r r' d d' es ep et (step {rest = rest} {a = a} {b = b} {d1 = d1} {loc = loc} fs e h n l f k w) (stop {a = a'} gs i e' h' n' x y w') =
       let q = same_steps fs gs loc 0 rest [] (sym e ∙ ep ∙ e') in
       let one = one_place fs gs a a' (sym h ∙ et ∙ h') q.0 (local_ready p inner loc a b d1 l) (stop_ready p a' x) in
       absurd (stops_not_steps p inner loc a' a b d1 (sym one.1) i x l)
-  single inner strict s s' ps ps' t t' r r' d d' es ep et (step {rest = rest} {loc = loc} fs e h l f k w) (attempt {within = within'} {rest = rest'} gs e' h' l' bare' m' k' close' k2' w') =
+  single inner strict s s' ps ps' t t' r r' d d' es ep et (step {rest = rest} {loc = loc} fs e h n l f k w) (attempt {within = within'} {rest = rest'} gs e' h' n' l' bare' m' k' close' k2' w') =
       absurd (mixed fs gs loc within' rest rest' (sym e ∙ ep ∙ e'))
-  single inner strict s s' ps ps' t t' r r' d d' es ep et (stop fs i e h x y w) (none a' b' c') = absurd cc
-  single inner strict s s' ps ps' t t' r r' d d' es ep et (stop {a = a} fs i e h x y w) (step {rest = rest'} {a = a'} {b = b'} {d1 = d1'} {loc = loc'} gs e' h' l' f' k' w') =
+  single inner strict s s' ps ps' t t' r r' d d' es ep et (stop fs i e h n x y w) (none a' b' c') = absurd cc
+  single inner strict s s' ps ps' t t' r r' d d' es ep et (stop {a = a} fs i e h n x y w) (step {rest = rest'} {a = a'} {b = b'} {d1 = d1'} {loc = loc'} gs e' h' n' l' f' k' w') =
       let q = same_steps fs gs 0 loc' [] rest' (sym e ∙ ep ∙ e') in
       let one = one_place fs gs a a' (sym h ∙ et ∙ h') q.0 (stop_ready p a x) (local_ready p inner loc' a' b' d1' l') in
       absurd (stops_not_steps p inner loc' a a' b' d1' one.1 i x l')
-  single inner strict s s' ps ps' t t' r r' d d' es ep et (stop fs i e h x y w) (stop gs i' e' h' x' y' w') = (y ∙ sym y', w ∙ sym w')
-  single inner strict s s' ps ps' t t' r r' d d' es ep et (stop fs i e h x y w) (attempt {within = within'} {rest = rest'} gs e' h' l' bare' m' k' close' k2' w') =
+  single inner strict s s' ps ps' t t' r r' d d' es ep et (stop fs i e h n x y w) (stop gs i' e' h' n' x' y' w') = (y ∙ sym y', w ∙ sym w')
+  single inner strict s s' ps ps' t t' r r' d d' es ep et (stop fs i e h n x y w) (attempt {within = within'} {rest = rest'} gs e' h' n' l' bare' m' k' close' k2' w') =
       absurd (mixed fs gs 0 within' [] rest' (sym e ∙ ep ∙ e'))
-  single inner strict s s' ps ps' t t' r r' d d' es ep et (attempt fs e h l bare m k close k2 w) (none a' b' c') = absurd cc
-  single inner strict s s' ps ps' t t' r r' d d' es ep et (attempt {within = within} {rest = rest} fs e h l bare m k close k2 w) (step {rest = rest'} {loc = loc'} gs e' h' l' f' k' w') =
+  single inner strict s s' ps ps' t t' r r' d d' es ep et (attempt fs e h n l bare m k close k2 w) (none a' b' c') = absurd cc
+  single inner strict s s' ps ps' t t' r r' d d' es ep et (attempt {within = within} {rest = rest} fs e h n l bare m k close k2 w) (step {rest = rest'} {loc = loc'} gs e' h' n' l' f' k' w') =
       absurd (mixed gs fs loc' within rest' rest (sym e' ∙ sym ep ∙ e))
-  single inner strict s s' ps ps' t t' r r' d d' es ep et (attempt {within = within} {rest = rest} fs e h l bare m k close k2 w) (stop gs i e' h' x y w') =
+  single inner strict s s' ps ps' t t' r r' d d' es ep et (attempt {within = within} {rest = rest} fs e h n l bare m k close k2 w) (stop gs i e' h' n' x y w') =
       absurd (mixed gs fs 0 within [] rest (sym e' ∙ sym ep ∙ e))
   single inner strict s s' ps ps' t t' r r' d d' es ep et
-      (attempt {m = m} {within = within} {rest = rest} {a = a} {b = b} {body = body} {ended = ended} {d1 = d1} {d2 = d2} {d3 = d3} fs e h l bare may k close k2 w)
-      (attempt {m = m'} {within = within'} {rest = rest'} {a = a'} {b = b'} {body = body'} {ended = ended'} {d1 = d1'} {d2 = d2'} {d3 = d3'} gs e' h' l' bare' may' k' close' k2' w') =
+      (attempt {m = m} {within = within} {rest = rest} {a = a} {b = b} {body = body} {ended = ended} {d1 = d1} {d2 = d2} {d3 = d3} fs e h n l bare may k close k2 w)
+      (attempt {m = m'} {within = within'} {rest = rest'} {a = a'} {b = b'} {body = body'} {ended = ended'} {d1 = d1'} {d2 = d2'} {d3 = d3'} gs e' h' n' l' bare' may' k' close' k2' w') =
       let q = same_attempts fs gs within within' rest rest' (sym e ∙ ep ∙ e') in
       let one = one_place fs gs a a' (sym h ∙ et ∙ h') q.0 (form_ready a m body l) (form_ready a' m' body' l') in
       let form = form_one a a' m m' body body' one.1 l l' in
       let i = single true true s s' within within' body body' ended ended' d1 d1' es q.1 form.1 k k' in
       let close2 : Closes p m body ended' d1' b' d2' = subst (λ x. Closes p x body ended' d1' b' d2') (sym form.0) (subst (λ x. Closes p m' x ended' d1' b' d2') (sym form.1) close') in
       let did = closes_one p m body ended ended' d1 d1' d2 d2' b b' i.0 i.1 close close2 in
-      let j = single inner strict (afterwards d2 s) (afterwards d2' s') rest rest' (plug fs b) (plug gs b') r r' d3 d3' (λ x. afterwards (did.1 x) (es x)) q.2 (λ x. plug (one.0 x) (did.0 x)) k2 k2' in
+      let j = single inner strict (afterwards d2 s) (afterwards d2' s') rest rest' (plug (trodden fs) b) (plug (trodden gs) b') r r' d3 d3' (λ x. afterwards (did.1 x) (es x)) q.2 (λ x. plug (trodden (one.0 x)) (did.0 x)) k2 k2' in
       (j.0, w ∙ (λ x. both (did.1 x) (j.1 x)) ∙ sym w')
 
 pub one_run : OneRun

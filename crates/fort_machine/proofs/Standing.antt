@@ -1,13 +1,13 @@
 -- How a term stands, and tuples whose parts aren't all values.
-use Rattle.std.proofs.Common.{◌≡◌, List, [], ◌∷◌, ◌++◌, Option, Some, None, refl, ap, sym, ◌∙◌, ◌⊎◌, inl, inr}
+use Rattle.std.proofs.Common.{◌≡◌, Bool, true, false, ◌||◌, List, [], ◌∷◌, ◌++◌, Option, Some, None, refl, ap, sym, ◌∙◌, ◌⊎◌, inl, inr}
 use Rattle.std.specs.Prelude.{option_map, option_and_then}
-use Rattle.fort_core.specs.declared.term.Term.{Term, Throw, Group, out-Term, roll-Term, roll-out-Term}
+use Rattle.fort_core.specs.declared.term.Term.{Term, Throw, Group, Stepped, out-Term, roll-Term, roll-out-Term}
 use Rattle.fort_core.specs.declared.term.Term as term
-use Rattle.fort_core.specs.declared.term.Term.TheVariants.{outs-Value, outs-Throw, rolls-Value, rolls-Throw}
+use Rattle.fort_core.specs.declared.term.Term.TheVariants.{outs-Value, outs-Throw, outs-Stepped, rolls-Value, rolls-Throw}
 use Rattle.fort_core.specs.declared.term.Term.TheOpen.{Term-F}
 use Rattle.fort_core.specs.declared.value.Value.{Value}
 use Rattle.fort_core.specs.declared.value.Closure.{Closure}
-use Rattle.fort_machine.specs.Ends.{Standing, at_value, at_throw, open_yet, of_thrown, standing_at, standing, throw_of, Finished, value_at, values_of, tuple_of, group}
+use Rattle.fort_machine.specs.Ends.{Standing, at_value, at_throw, open_yet, of_thrown, standing_at, standing, throw_of, Finished, value_at, values_of, tuple_of, group, marked_by, stepped, is_mark, has_stepped, still_by, is_still}
 use Rattle.fort_machine.specs.Ends as ends
 
 pub standing-Value : (v : Value) → standing (term.Value v) ≡ at_value v
@@ -61,3 +61,35 @@ group_open ts e = ap (tuple_of ts) e
 
 pub value_not_throw : (v w : Value) → term.Value v ≡ throw_of w → ⊥
 value_not_throw v w e = let z : at_value v ≡ at_throw w = sym (standing-Value v) ∙ ap standing e ∙ standing-throw w in cc
+
+-- a part in which a step was taken
+pub stepped_open : (t : Term) → standing t ≡ open_yet → stepped t ≡ Stepped t
+stepped_open t o = ap (λ st. marked_by st t) o
+
+pub stepped_finished : (t : Term) → Finished t → stepped t ≡ t
+stepped_finished t (ends.Finished.value v e) = ap (λ st. marked_by st t) (ap standing e ∙ standing-Value v)
+stepped_finished t (ends.Finished.throw v e) = ap (λ st. marked_by st t) (ap standing e ∙ standing-throw v)
+
+finished_still : (t : Term) → Finished t → is_still t ≡ false
+finished_still t (ends.Finished.value v e) = ap (λ st. still_by st (has_stepped t)) (ap standing e ∙ standing-Value v)
+finished_still t (ends.Finished.throw v e) = ap (λ st. still_by st (has_stepped t)) (ap standing e ∙ standing-throw v)
+
+pub or_false : (x y : Bool) → (x || y) ≡ false → (x ≡ false) × (y ≡ false)
+or_false true y e = absurd cc
+or_false false y e = (refl, e)
+
+pub still_stepped : (t : Term) → is_still (stepped t) ≡ false
+still_stepped t = go (decide t)
+  where
+    go : (standing t ≡ open_yet) ⊎ Finished t → is_still (stepped t) ≡ false
+    go (inl o) = ap is_still (stepped_open t o) ∙ ap (λ y. still_by (standing_at y) (is_mark y)) (outs-Stepped t)
+    go (inr f) = ap is_still (stepped_finished t f) ∙ finished_still t f
+
+pub standing_stepped : (v : Value) → standing (stepped (term.Value v)) ≡ at_value v
+standing_stepped v = ap standing (stepped_finished (term.Value v) (ends.Finished.value v refl)) ∙ standing-Value v
+
+pub standing_stepped_throw : (v : Value) → standing (stepped (throw_of v)) ≡ at_throw v
+standing_stepped_throw v = ap standing (stepped_finished (throw_of v) (ends.Finished.throw v refl)) ∙ standing-throw v
+
+pub stepped_stays_open : (t : Term) → standing t ≡ open_yet → standing (stepped t) ≡ open_yet
+stepped_stays_open t o = ap standing (stepped_open t o) ∙ ap standing_at (outs-Stepped t)

@@ -18,7 +18,8 @@ use Rattle.fort_types.specs.Relation.{Relation, below_at, relation}
 use Rattle.fort_machine.specs.Types.{all_below, type_at, type_of, domain_of}
 use Rattle.fort_machine.specs.Texts.{text_at, text}
 use Rattle.fort_machine.specs.Primitives.{prints}
-use Rattle.fort_machine.specs.Deeds.{Deed, idle, paid, printed, both}
+use Rattle.fort_machine.specs.Effects.{Effect, idle, paid, printed, both}
+use Rattle.fort_machine.specs.Ends.{has_stepped}
 use Rattle.fort_machine.specs.Acts.{turns, enters, calls, unit, with_first, at_values, by_together}
 use Rattle.fort_machine.specs.Forms.{act_at, act}
 use Rattle.fort_machine.specs.Calls.{IsApplicable, Dispatches, by_answer}
@@ -87,7 +88,7 @@ first_step = steps (enters printing printing) (by_call calls_run (dispatches 0 (
 
 -- the call of `println`
 calls_println : act hello printing ≡ calls (set 1) (letter ∷ [])
-calls_println = ap (act_at hello) (outs-Call (set 1) (term.Value letter ∷ [])) ∙ ap (λ st. by_together (with_first st (at_values [])) (calls (set 1))) (standing-Value letter)
+calls_println = ap (act_at hello) (outs-Call (set 1) (term.Value letter ∷ [])) ∙ ap (λ st. by_together (with_first st (has_stepped (term.Value letter)) (at_values [])) (calls (set 1))) (standing-Value letter)
 
 second_step : Local hello false 0 printing (term.Value unit) (printed (97 ∷ 10 ∷ []) 3)
 second_step = steps (turns (term.Value unit) (97 ∷ 10 ∷ []) 3)
@@ -95,7 +96,7 @@ second_step = steps (turns (term.Value unit) (97 ∷ 10 ∷ []) 3)
     (refl, refl, refl)
 
 -- what both do
-abbrev done : Deed
+abbrev done : Effect
 done = both (paid 1) (both (printed (97 ∷ 10 ∷ []) 3) idle)
 
 pub prints_letter : PrintsLetter
@@ -103,7 +104,7 @@ prints_letter = (
   done,
   record {
     is_run = record {
-      runs = step [] refl refl first_step (λ l. tt) (step [] refl refl second_step (λ l. tt) (none refl refl refl) refl) refl;
+      runs = step [] refl refl refl first_step (λ l. tt) (step [] refl refl refl second_step (λ l. tt) (none refl refl refl) refl) refl;
       bounded = λ l v e. absurd cc;
     };
     within_fuel = omega arith;

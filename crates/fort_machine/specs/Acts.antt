@@ -1,5 +1,5 @@
 -- Chapter "Steps and costs": what a form does at its next step, before it is asked what the store has. The code does it as it finds it out.
-use Rattle.std.specs.Prelude.{ℕ, List, [], ◌∷◌, Option, Some, None}
+use Rattle.std.specs.Prelude.{ℕ, Bool, true, false, List, [], ◌∷◌, Option, Some, None}
 use Rattle.fort_base.specs.declared.ids.SetId.{SetId}
 use Rattle.fort_base.specs.declared.ids.TypeId.{TypeId}
 use Rattle.fort_core.specs.declared.program.CoreKind.{CoreKind}
@@ -9,7 +9,7 @@ use Rattle.fort_core.specs.declared.program.Program.{Program}
 use Rattle.std.specs.Prelude.{slice_get, option_and_then}
 use Rattle.fort_core.specs.declared.term.Term.{Term}
 use Rattle.fort_core.specs.declared.value.Value.{Value, Object, Tuple}
-use Rattle.fort_machine.specs.Ends.{Standing, at_value, at_throw, open_yet, standing, throw_of}
+use Rattle.fort_machine.specs.Ends.{Standing, at_value, at_throw, open_yet, standing, throw_of, has_stepped}
 
 -- What a form does: nothing; it goes on as a term, with a text that it prints, at a cost; as a body that it runs, at the cost of 1; it reads a location, and goes on by what stands there, at the cost of 1; it writes to one, at the cost of 1; it makes locations with these values, or one with `()` where there are none, and goes on by the first, at a cost; it calls a set; or it ends its machine.
 pub data Act : Type 0 where
@@ -66,31 +66,35 @@ abbrev pub after_all : List Term → (List Value → Act) → Act
 after_all [] f = f []
 after_all (t ∷ ts) f = after t (λ v. after_all ts (λ vs. f (v ∷ vs)))
 
--- How the parts of a parallel node stand: all at values, all finished with a leftmost throw, or one of them open.
+-- How the parts of a parallel node stand: all at values; a leftmost throw, and each other part finished or passed over; no throw, and no step taken in those that are open; or one of them open in which a step was taken.
 pub data Together : Type 0 where
   at_values : (values : List Value) → Together
   leftmost : (thrown : Value) → Together
+  some_still : Together
   some_open : Together
 
--- A part with the parts behind it; one that is open keeps all waiting.
-abbrev pub with_first : Standing → Together → Together
-with_first (at_value v) (at_values vs) = at_values (v ∷ vs)
-with_first (at_value v) (leftmost w) = leftmost w
-with_first (at_throw v) (at_values vs) = leftmost v
-with_first (at_throw v) (leftmost w) = leftmost v
-with_first _ _ = some_open
+-- A part, marked or not, with the parts behind it; one that is open and marked keeps all waiting.
+abbrev pub with_first : Standing → Bool → Together → Together
+with_first (at_value v) marked (at_values vs) = at_values (v ∷ vs)
+with_first (at_value v) marked g = g
+with_first (at_throw v) marked some_open = some_open
+with_first (at_throw v) marked g = leftmost v
+with_first open_yet true g = some_open
+with_first open_yet false (at_values vs) = some_still
+with_first open_yet false g = g
 
 -- How the parts of a parallel node stand.
 abbrev pub standing_together : List Term → Together
 standing_together [] = at_values []
-standing_together (t ∷ ts) = with_first (standing t) (standing_together ts)
+standing_together (t ∷ ts) = with_first (standing t) (has_stepped t) (standing_together ts)
 
 -- A parallel node goes on by its parts: by their values, or as the leftmost throw.
 abbrev pub by_together : Together → (List Value → Act) → Act
 by_together (at_values vs) f = f vs
 by_together (leftmost v) f = becomes (throw_of v)
+by_together some_still f = stuck
 by_together some_open f = stuck
 
--- Parts that go beside each other: once all are finished, the leftmost throw is the node's, else the node goes on by all their values.
+-- Parts that go beside each other: once each is finished or passed over, the leftmost throw is the node's, else the node goes on by all their values.
 abbrev pub once_all : List Term → (List Value → Act) → Act
 once_all ts f = by_together (standing_together ts) f

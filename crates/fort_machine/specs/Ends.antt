@@ -1,6 +1,6 @@
 -- Chapter "Terms and threads": how a term stands, and a tuple, which is a value once its parts are. The code keeps an environment and frames in place of terms.
-use Rattle.std.specs.Prelude.{◌≡◌, nat_le, if◌then◌else◌, List, [], ◌∷◌, Option, Some, None, option_map, option_and_then}
-use Rattle.fort_core.specs.declared.term.Term.{Term, Throw, Group, out-Term}
+use Rattle.std.specs.Prelude.{◌≡◌, nat_le, Bool, true, false, not, if◌then◌else◌, List, [], ◌∷◌, Option, Some, None, option_map, option_and_then}
+use Rattle.fort_core.specs.declared.term.Term.{Term, Throw, Group, Stepped, out-Term}
 use Rattle.fort_core.specs.declared.term.Term as term
 use Rattle.fort_core.specs.declared.term.Term.TheOpen.{Term-F}
 use Rattle.fort_core.specs.declared.value.Value.{Value, Tuple}
@@ -55,3 +55,39 @@ tuple_of ts None = Group ts
 -- The term `(a, b)`: the tuple itself where all parts are values and it isn't too deep.
 abbrev pub group : List Term → Term
 group ts = tuple_of ts (values_of ts)
+
+-- A part with its mark that a step was taken in it; a finished part stands by itself.
+abbrev pub marked_by : Standing → Term → Term
+marked_by open_yet t = Stepped t
+marked_by _ t = t
+
+-- A part in which a step was taken.
+abbrev pub stepped : Term → Term
+stepped t = marked_by (standing t) t
+
+-- Whether a form is such a mark.
+abbrev pub is_mark : Term-F Term Value Closure → Bool
+is_mark (Term-F.Stepped t) = true
+is_mark _ = false
+
+-- Whether a term is a part that is marked.
+abbrev pub has_stepped : Term → Bool
+has_stepped t = is_mark (out-Term t)
+
+-- Open, and not marked.
+abbrev pub still_by : Standing → Bool → Bool
+still_by open_yet marked = not marked
+still_by _ marked = false
+
+-- Whether a part isn't finished and no step was taken in it.
+abbrev pub is_still : Term → Bool
+is_still t = still_by (standing t) (has_stepped t)
+
+-- Whether it is at a throw.
+abbrev pub throws_by : Standing → Bool
+throws_by (at_throw v) = true
+throws_by _ = false
+
+-- Whether a term is a throw of a value.
+abbrev pub is_thrown : Term → Bool
+is_thrown t = throws_by (standing t)

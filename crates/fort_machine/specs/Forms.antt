@@ -14,7 +14,7 @@ use Rattle.fort_core.specs.declared.value.Closure.{Closure}
 use Rattle.fort_core.specs.declared.value.Value.{Value, Small, Tuple, Array, out-Value}
 use Rattle.fort_machine.specs.Types.{has_type}
 use Rattle.fort_machine.specs.Texts.{depth, closure_depth, deepest}
-use Rattle.fort_machine.specs.Primitives.{Kind}
+use Rattle.fort_machine.specs.Primitives.{ValueKind}
 use Rattle.fort_machine.specs.Ends.{Standing, at_value, at_throw, open_yet, standing, throw_of}
 use Rattle.fort_machine.specs.Scopes.{holds_all}
 use Rattle.fort_machine.specs.Substitution.{substituted, substituted_all, located, bound_to}
@@ -27,7 +27,7 @@ entering c (Some hs) = enters c.body (substituted_all (hs ++ c.held) c.body)
 entering c None = stuck
 
 -- A function value is applied to its argument.
-abbrev pub applying_to : Kind → Value → Act
+abbrev pub applying_to : ValueKind → Value → Act
 applying_to (Value-F.Function c) v = entering c (bound_to c.parameters v)
 applying_to _ v = stuck
 
@@ -37,7 +37,7 @@ applying (f ∷ v ∷ []) = applying_to (out-Value f) v
 applying _ = stuck
 
 -- A new array of n elements costs 1 + n; below 0 it is `NegativeSize`.
-abbrev pub filling : Program → Ty → Value → Kind → Act
+abbrev pub filling : Program → Ty → Value → ValueKind → Act
 filling p ty v (Value-F.Small (pos n)) = makes (replicate n v) (λ l. term.Value (Array ty (record { 0 = l }) n)) (1 + n)
 filling p ty v (Value-F.Small (negsuc n)) = throwing p p.built_in.negative_size
 filling p ty v _ = stuck
@@ -68,25 +68,25 @@ place_of f [] = None
 place_of f (c ∷ cs) = if c.name.0 == f.0 then Some 0 else option_map (λ n. n + 1) (place_of f cs)
 
 -- The location of an object's field.
-abbrev pub field_of : Program → NameId → Kind → Option ℕ
+abbrev pub field_of : Program → NameId → ValueKind → Option ℕ
 field_of p f (Value-F.Object id base) =
     option_and_then (λ (s : CoreShape). option_map (λ n. base.0 + n) (place_of f s.fields)) (slice_get p.shapes id.0)
 field_of p f _ = None
 
 -- Goes on by the location of an array's element; an index below 0 or not below the size is `IndexOutOfRange`.
-abbrev pub by_element : Program → Kind → Kind → (Option ℕ → Act) → Act
+abbrev pub by_element : Program → ValueKind → ValueKind → (Option ℕ → Act) → Act
 by_element p (Value-F.Array element base size) (Value-F.Small (pos i)) f =
     if nat_lt i size then f (Some (base.0 + i)) else throwing p p.built_in.index_out_of_range
 by_element p (Value-F.Array element base size) (Value-F.Small (negsuc i)) f = throwing p p.built_in.index_out_of_range
 by_element p _ _ f = stuck
 
 -- The number of an array's elements.
-abbrev pub sizing : Kind → Act
+abbrev pub sizing : ValueKind → Act
 sizing (Value-F.Array element base size) = becomes (term.Value (Small (pos size)))
 sizing _ = stuck
 
 -- One of two parts, by a truth.
-abbrev pub choosing : Kind → Term → Term → Act
+abbrev pub choosing : ValueKind → Term → Term → Act
 choosing (Value-F.Truth true) a b = becomes a
 choosing (Value-F.Truth false) a b = becomes b
 choosing _ a b = stuck

@@ -1,5 +1,6 @@
 -- Chapter "Terms and threads": what stands round a part that steps, and the paths of threads. The code keeps a list of frames beside a term; here a frame is a term with one part left out.
-use Rattle.std.specs.Prelude.{ℕ, List, [], ◌∷◌, ◌++◌, map, length, Option}
+use Rattle.std.specs.Prelude.{ℕ, Bool, true, false, ◌&&◌, ◌||◌, List, [], ◌∷◌, ◌++◌, map, length, Option}
+use Rattle.std.specs.List.{list_any}
 use Rattle.fort_base.specs.declared.ids.NameId.{NameId}
 use Rattle.fort_base.specs.declared.ids.SetId.{SetId}
 use Rattle.fort_base.specs.declared.ty.Ty.{Ty}
@@ -9,9 +10,9 @@ use Rattle.fort_core.specs.declared.form.Span.{Span}
 use Rattle.fort_core.specs.declared.term.Term.{Term, Throw, Call, Operator, Apply, Fill, Let, Mutable, Write, ReadField, WriteField, ReadElement, WriteElement, Size, Then, If, Typecase, For, ForHalves, Reduce, ReduceHalves, Also, Try}
 use Rattle.fort_core.specs.declared.term.Term as term
 use Rattle.fort_core.specs.declared.value.Value.{Value}
-use Rattle.fort_machine.specs.Ends.{group}
+use Rattle.fort_machine.specs.Ends.{group, stepped, is_still, is_thrown}
 
--- A term with one part left out. First the parallel nodes, any part of which may be left out; then the forms that go from left to right, whose parts before the one that is left out are values.
+-- A term with one part left out. First the parallel nodes, any part of which may be left out; then the forms that go from left to right, whose parts before the one that is left out are values. Last the mark that a step was taken in a part of a parallel node.
 pub data Frame : Type 0 where
   in_group : (before behind : List Term) → Frame
   in_call : (set : SetId) (before behind : List Term) → Frame
@@ -44,6 +45,7 @@ pub data Frame : Type 0 where
   in_source : (order : Order) (span : Span) (variable : ℕ) (body : Term) → Frame
   in_reduced_source : (order : Order) (span : Span) (set : SetId) (empty : Term) (variable : ℕ) (body : Term) → Frame
   in_try : (variable : ℕ) (clauses : List (Term × Ty)) (last : Option Term) → Frame
+  in_stepped : Frame
 
 -- The term with a part in the place that is left out.
 abbrev pub on : Frame → Term → Term
@@ -78,6 +80,7 @@ on (in_subject variable clauses other) t = Typecase variable t clauses other
 on (in_source order span variable body) t = For order span variable t body
 on (in_reduced_source order span set empty variable body) t = Reduce order span set empty variable t body
 on (in_try variable clauses last) t = Try t variable clauses last
+on in_stepped t = stepped t
 
 -- A term with a part in the place that frames leave out, each inside the one before it.
 abbrev pub plug : List Frame → Term → Term
@@ -101,3 +104,36 @@ part_number _ = []
 abbrev pub road : List Frame → List ℕ
 road [] = []
 road (f ∷ fs) = part_number f ++ road fs
+
+-- The parts beside the one that is left out, in a parallel node.
+abbrev pub beside : Frame → List Term
+beside (in_group before behind) = before ++ behind
+beside (in_call set before behind) = before ++ behind
+beside (in_function argument) = argument ∷ []
+beside (in_argument function) = function ∷ []
+beside (in_first_half second) = second ∷ []
+beside (in_second_half first) = first ∷ []
+beside (in_first_reduced set second) = second ∷ []
+beside (in_second_reduced set first) = first ∷ []
+beside (in_block before behind) = before ++ behind
+beside _ = []
+
+-- Whether a part is passed over: it isn't finished, no step was taken in it, and a part beside it is a throw.
+abbrev pub passes : Frame → Term → Bool
+passes f t = list_any is_thrown (beside f) && is_still t
+
+-- Whether frames lead to a term through a part that is passed over.
+abbrev pub passed : List Frame → Term → Bool
+passed [] t = false
+passed (f ∷ fs) t = passes f (plug fs t) || passed fs t
+
+-- Frames behind a part's number, the part with its mark; without a number there is none.
+abbrev pub with_mark : List ℕ → List Frame → List Frame
+with_mark [] fs = fs
+with_mark (n ∷ ns) (in_stepped ∷ fs) = in_stepped ∷ fs
+with_mark (n ∷ ns) fs = in_stepped ∷ fs
+
+-- What stands round a part after a step in it: each part on the way has its mark.
+abbrev pub trodden : List Frame → List Frame
+trodden [] = []
+trodden (f ∷ fs) = f ∷ with_mark (part_number f) (trodden fs)

@@ -3,7 +3,7 @@ pub mod Texts
 pub mod Numbers
 pub mod Primitives
 pub mod Cells
-pub mod Deeds
+pub mod Effects
 pub mod Ends
 pub mod Frames
 pub mod Parts

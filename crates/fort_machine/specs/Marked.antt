@@ -5,7 +5,7 @@ use Rattle.fort_base.specs.declared.ids.Loc.{Loc}
 use Rattle.fort_core.specs.declared.term.Term.{Term, Asleep, fold-Term}
 use Rattle.fort_core.specs.declared.term.Term.TheOpen.{Term-F}
 use Rattle.fort_core.specs.declared.value.Value.{Value}
-use Rattle.fort_machine.specs.Deeds.{Store}
+use Rattle.fort_machine.specs.Effects.{Store}
 use Rattle.fort_machine.specs.Parts.{parts_of, Inside}
 
 -- Locations with values, as a sleeping form keeps them.

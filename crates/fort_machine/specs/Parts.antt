@@ -43,6 +43,7 @@ parts_of (Term-F.Also blocks) = blocks
 parts_of (Term-F.Try a x cs last) = a ∷ (option_to_list last ++ in_clauses cs)
 parts_of (Term-F.Atomic mode a) = a ∷ []
 parts_of (Term-F.Asleep marks a) = a ∷ []
+parts_of (Term-F.Stepped a) = a ∷ []
 parts_of _ = []
 
 -- The terms directly in a form, the body of a function included.

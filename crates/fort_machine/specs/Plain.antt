@@ -1,5 +1,5 @@
 -- Chapter "Runs": the plain reading, a store before and a store after, which follows. A step's effect says more: what was read, which a sleeping form watches.
-use Rattle.std.specs.Prelude.{◌≡◌, ℕ, ◌+◌, ◌<◌, ◌==◌, Bool, true, if◌then◌else◌, List, [], ◌∷◌, ◌++◌, length, Some, None, ◌↔◌}
+use Rattle.std.specs.Prelude.{◌≡◌, ℕ, ◌+◌, ◌<◌, ◌==◌, Bool, true, false, if◌then◌else◌, List, [], ◌∷◌, ◌++◌, length, Some, None, ◌↔◌}
 use Rattle.fort_core.specs.declared.form.Mode.{Mode}
 use Rattle.fort_core.specs.declared.form.Mode.TheVariants as mode
 use Rattle.fort_core.specs.declared.pick.Pick.{Pick, Step, Attempt}
@@ -7,9 +7,9 @@ use Rattle.fort_core.specs.declared.program.Program.{Program}
 use Rattle.fort_core.specs.declared.term.Term.{Term, Asleep}
 use Rattle.fort_core.specs.declared.term.Term as term
 use Rattle.fort_core.specs.declared.value.Value.{Value}
-use Rattle.fort_machine.specs.Deeds.{Store, Deed, reading, writing, making, FitsAll, afterwards}
+use Rattle.fort_machine.specs.Effects.{Store, Effect, reading, writing, making, FitsAll, afterwards}
 use Rattle.fort_machine.specs.Ends.{throw_of}
-use Rattle.fort_machine.specs.Frames.{Frame, plug}
+use Rattle.fort_machine.specs.Frames.{Frame, plug, passed, trodden}
 use Rattle.fort_machine.specs.Acts.{ends, single}
 use Rattle.fort_machine.specs.Steps.{Acts, Local}
 use Rattle.fort_machine.specs.Attempts.{Form, Ended, goes, aborts}
@@ -50,17 +50,17 @@ pub data PlainlyCloses (p : Program) (m : Mode) (body : Term) (s s1 : Store) (o1
 pub data Plain (p : Program) : (inner : Bool) (picks : List Pick) (s : Store) (t : Term) (r : Ended) (s' : Store) (output : List ℕ) (cost : ℕ) → Type 0 where
   none : {inner : Bool} {picks : List Pick} {s s' : Store} {t : Term} {r : Ended} {output : List ℕ} {cost : ℕ}
       → picks ≡ [] → r ≡ goes t → s' ≡ s → output ≡ [] → cost ≡ 0 → Plain p inner picks s t r s' output cost
-  step : {inner : Bool} {picks rest : List Pick} {s s1 s' : Store} {t a b : Term} {r : Ended} {output o : List ℕ} {cost n : ℕ} {d : Deed} {loc : ℕ} (fs : List Frame)
-      → picks ≡ Step (path_to fs) (location loc) ∷ rest → t ≡ plug fs a → Local p inner loc a b d → FitsAll d s → s1 ≡ afterwards d s
-      → Plain p inner rest s1 (plug fs b) r s' o n → output ≡ d.output ++ o → cost ≡ d.cost + n → Plain p inner picks s t r s' output cost
+  step : {inner : Bool} {picks rest : List Pick} {s s1 s' : Store} {t a b : Term} {r : Ended} {output o : List ℕ} {cost n : ℕ} {d : Effect} {loc : ℕ} (fs : List Frame)
+      → picks ≡ Step (path_to fs) (location loc) ∷ rest → t ≡ plug fs a → passed fs a ≡ false → Local p inner loc a b d → FitsAll d s → s1 ≡ afterwards d s
+      → Plain p inner rest s1 (plug (trodden fs) b) r s' o n → output ≡ d.output ++ o → cost ≡ d.cost + n → Plain p inner picks s t r s' output cost
   stop : {inner : Bool} {picks : List Pick} {s s' : Store} {t a : Term} {r : Ended} {output : List ℕ} {cost : ℕ} (fs : List Frame)
-      → inner ≡ true → picks ≡ Step (path_to fs) (location 0) ∷ [] → t ≡ plug fs a → Acts p a ends → r ≡ aborts → s' ≡ s → output ≡ [] → cost ≡ 1 → Plain p inner picks s t r s' output cost
+      → inner ≡ true → picks ≡ Step (path_to fs) (location 0) ∷ [] → t ≡ plug fs a → passed fs a ≡ false → Acts p a ends → r ≡ aborts → s' ≡ s → output ≡ [] → cost ≡ 1 → Plain p inner picks s t r s' output cost
   attempt : {inner : Bool} {m : Mode} {picks within rest : List Pick} {s s1 s2 s' : Store} {t a b body : Term} {ended r : Ended} {output o1 o2 o3 : List ℕ} {cost n1 n3 : ℕ} (fs : List Frame)
-      → picks ≡ Attempt (path_to fs) within ∷ rest → t ≡ plug fs a → Form a m body
+      → picks ≡ Attempt (path_to fs) within ∷ rest → t ≡ plug fs a → passed fs a ≡ false → Form a m body
       → Plain p true within s body ended s1 o1 n1 → PlainlyCloses p m body s s1 o1 ended b s2 o2
-      → Plain p inner rest s2 (plug fs b) r s' o3 n3 → output ≡ o2 ++ o3 → cost ≡ 1 + n1 + n3 → Plain p inner picks s t r s' output cost
+      → Plain p inner rest s2 (plug (trodden fs) b) r s' o3 n3 → output ≡ o2 ++ o3 → cost ≡ 1 + n1 + n3 → Plain p inner picks s t r s' output cost
 
 -- A run is one in the plain reading.
 abbrev pub RunsPlainly : Type 0
-RunsPlainly = (p : Program) (inner strict : Bool) (s : Store) (picks : List Pick) (t : Term) (r : Ended) (d : Deed)
+RunsPlainly = (p : Program) (inner strict : Bool) (s : Store) (picks : List Pick) (t : Term) (r : Ended) (d : Effect)
     → Runs p inner strict s picks t r d → Plain p inner picks s t r (afterwards d s) d.output d.cost

@@ -23,8 +23,8 @@ pub data Answer : Type 0 where
   nothing : Answer
 
 -- A value by its kind.
-abbrev pub Kind : Type 0
-Kind = Value-F Term Value Closure
+abbrev pub ValueKind : Type 0
+ValueKind = Value-F Term Value Closure
 
 -- A figure as a value, or the exception that says why there is none.
 abbrev pub as_value : Program → (ℤ → Value) → Figure → Answer
@@ -34,58 +34,58 @@ as_value p make by_zero = throws p.built_in.division_by_zero
 as_value p make below_zero = throws p.built_in.negative_exponent
 
 -- Asks two values for numbers on ZZ32.
-abbrev pub two_small : (ℤ → ℤ → Answer) → List Kind → Answer
+abbrev pub two_small : (ℤ → ℤ → Answer) → List ValueKind → Answer
 two_small f (Value-F.Small a ∷ Value-F.Small b ∷ []) = f a b
 two_small f _ = nothing
 
 -- The same on ZZ64.
-abbrev pub two_large : (ℤ → ℤ → Answer) → List Kind → Answer
+abbrev pub two_large : (ℤ → ℤ → Answer) → List ValueKind → Answer
 two_large f (Value-F.Large a ∷ Value-F.Large b ∷ []) = f a b
 two_large f _ = nothing
 
 -- An operator on two numbers, whose result must be in their type's range.
-abbrev pub small : Program → (ℤ → ℤ → Figure) → List Kind → Answer
+abbrev pub small : Program → (ℤ → ℤ → Figure) → List ValueKind → Answer
 small p f = two_small (λ a b. as_value p Small (within w32 (f a b)))
 
 -- The same on ZZ64.
-abbrev pub large : Program → (ℤ → ℤ → Figure) → List Kind → Answer
+abbrev pub large : Program → (ℤ → ℤ → Figure) → List ValueKind → Answer
 large p f = two_large (λ a b. as_value p Large (within w64 (f a b)))
 
 -- A comparison of two numbers.
-abbrev pub small_test : (ℤ → ℤ → Bool) → List Kind → Answer
+abbrev pub small_test : (ℤ → ℤ → Bool) → List ValueKind → Answer
 small_test f = two_small (λ a b. gives (Truth (f a b)))
 
 -- The same on ZZ64.
-abbrev pub large_test : (ℤ → ℤ → Bool) → List Kind → Answer
+abbrev pub large_test : (ℤ → ℤ → Bool) → List ValueKind → Answer
 large_test f = two_large (λ a b. gives (Truth (f a b)))
 
 -- An operator on one ZZ32.
-abbrev pub one_small : (ℤ → Answer) → List Kind → Answer
+abbrev pub one_small : (ℤ → Answer) → List ValueKind → Answer
 one_small f (Value-F.Small a ∷ []) = f a
 one_small f _ = nothing
 
 -- The same on one ZZ64.
-abbrev pub one_large : (ℤ → Answer) → List Kind → Answer
+abbrev pub one_large : (ℤ → Answer) → List ValueKind → Answer
 one_large f (Value-F.Large a ∷ []) = f a
 one_large f _ = nothing
 
 -- An operator on two texts.
-abbrev pub two_texts : (List ℕ → List ℕ → Answer) → List Kind → Answer
+abbrev pub two_texts : (List ℕ → List ℕ → Answer) → List ValueKind → Answer
 two_texts f (Value-F.Text s ∷ Value-F.Text r ∷ []) = f s r
 two_texts f _ = nothing
 
 -- An operator on two truths.
-abbrev pub two_truths : (Bool → Bool → Bool) → List Kind → Answer
+abbrev pub two_truths : (Bool → Bool → Bool) → List ValueKind → Answer
 two_truths f (Value-F.Truth a ∷ Value-F.Truth b ∷ []) = gives (Truth (f a b))
 two_truths f _ = nothing
 
 -- An operator on one truth.
-abbrev pub one_truth : (Bool → Bool) → List Kind → Answer
+abbrev pub one_truth : (Bool → Bool) → List ValueKind → Answer
 one_truth f (Value-F.Truth a ∷ []) = gives (Truth (f a))
 one_truth f _ = nothing
 
 -- An operator on one text.
-abbrev pub one_text : (List ℕ → Answer) → List Kind → Answer
+abbrev pub one_text : (List ℕ → Answer) → List ValueKind → Answer
 one_text f (Value-F.Text s ∷ []) = f s
 one_text f _ = nothing
 

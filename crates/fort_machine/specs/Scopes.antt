@@ -73,6 +73,7 @@ scoped_at (Term-F.Also blocks) xs = all_scoped blocks xs
 scoped_at (Term-F.Try a y cs last) xs = a xs && (clauses_scoped cs (y ∷ xs) && last_scoped last xs)
 scoped_at (Term-F.Atomic mode a) xs = a xs
 scoped_at (Term-F.Asleep marks a) xs = a xs
+scoped_at (Term-F.Stepped a) xs = a xs
 
 -- A closure's variables are those of its body, but for its parameters and what it holds.
 abbrev pub closure_scoped_at : Closure-F Scoped (Unit {0}) Scoped → Scoped

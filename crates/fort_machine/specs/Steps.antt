@@ -7,7 +7,7 @@ use Rattle.fort_core.specs.declared.program.Program.{Program}
 use Rattle.fort_core.specs.declared.term.Term.{Term}
 use Rattle.fort_core.specs.declared.term.Term as term
 use Rattle.fort_core.specs.declared.value.Value.{Value}
-use Rattle.fort_machine.specs.Deeds.{Deed, printed, paid, reading, writing, making}
+use Rattle.fort_machine.specs.Effects.{Effect, printed, paid, reading, writing, making}
 use Rattle.fort_machine.specs.Ends.{throw_of}
 use Rattle.fort_machine.specs.Acts.{Act, stuck, turns, enters, asks, sets, makes, calls, ends, unit, single}
 use Rattle.fort_machine.specs.Forms.{act}
@@ -25,7 +25,7 @@ or_unit [] = unit ∷ []
 or_unit (v ∷ vs) = v ∷ vs
 
 -- An act in a machine, an attempt's (at `true`) or the root's: the first fresh location where it makes some, else 0; what the form becomes; what is done.
-abbrev pub Does : Program → Bool → ℕ → Act → Term → Deed → Type 0
+abbrev pub Does : Program → Bool → ℕ → Act → Term → Effect → Type 0
 Does p inner loc (turns next output cost) b d = (loc ≡ 0) × (b ≡ next) × (d ≡ printed output cost)
 Does p inner loc (enters body next) b d = Bare body × (loc ≡ 0) × (b ≡ next) × (d ≡ paid 1)
 Does p inner loc (asks l next) b d = (v : Value) × (loc ≡ 0) × (b ≡ next v) × (d ≡ reading l v)
@@ -36,5 +36,5 @@ Does p inner loc (calls set values) b d = ⊥
 Does p inner loc stuck b d = ⊥
 
 -- A form steps to another one.
-pub data Local (p : Program) (inner : Bool) (loc : ℕ) (a b : Term) (d : Deed) : Type 0 where
+pub data Local (p : Program) (inner : Bool) (loc : ℕ) (a b : Term) (d : Effect) : Type 0 where
   steps : (x : Act) → Acts p a x → Does p inner loc x b d → Local p inner loc a b d

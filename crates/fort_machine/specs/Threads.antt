@@ -1,9 +1,9 @@
 -- Chapter "Runs": a part's picks as those of the whole term. The code puts a task's path before the picks of its legs.
-use Rattle.std.specs.Prelude.{ℕ, List, ◌++◌}
+use Rattle.std.specs.Prelude.{ℕ, List, [], ◌∷◌, ◌++◌}
 use Rattle.fort_core.specs.declared.path.Path.{Path}
 use Rattle.fort_core.specs.declared.pick.Pick.{Pick, Step, Attempt, out-Pick}
 use Rattle.fort_core.specs.declared.pick.Pick.TheOpen.{Pick-F}
-use Rattle.fort_machine.specs.Frames.{Frame, plug}
+use Rattle.fort_machine.specs.Frames.{Frame, plug, trodden}
 use Rattle.fort_machine.specs.Attempts.{Ended, goes, aborts}
 
 -- A path with another one before it.
@@ -23,3 +23,8 @@ under path pick = under_at path (out-Pick pick)
 abbrev pub ended_in : List Frame → Ended → Ended
 ended_in fs (goes t) = goes (plug fs t)
 ended_in fs aborts = aborts
+
+-- What stands round a part after some picks of it: as before without any, else each part on the way has its mark.
+abbrev pub round_after : List Pick → List Frame → List Frame
+round_after [] fs = fs
+round_after (pick ∷ picks) fs = trodden fs

@@ -16,7 +16,7 @@ use Rattle.fort_core.specs.declared.program.Program.{Program}
 use Rattle.fort_core.specs.declared.term.Term.{Term, Call}
 use Rattle.fort_core.specs.declared.term.Term as term
 use Rattle.fort_core.specs.declared.value.Value.{Value, Text}
-use Rattle.fort_machine.specs.Deeds.{Deed}
+use Rattle.fort_machine.specs.Effects.{Effect}
 use Rattle.fort_machine.specs.Acts.{unit}
 use Rattle.fort_machine.specs.Runs.{path_to, location}
 use Rattle.fort_machine.specs.Journals.{Records}
@@ -73,4 +73,4 @@ two_steps = record { fuel = 4; picks = Step (path_to []) (location 0) ∷ Step (
 
 -- It is a run of that program, ends at `()`, prints `a` with a line feed, and costs 4.
 abbrev pub PrintsLetter : Type 0
-PrintsLetter = (d : Deed) × Records hello two_steps (term.Value unit) d × (d.output ≡ 97 ∷ 10 ∷ []) × (d.cost ≡ 4)
+PrintsLetter = (d : Effect) × Records hello two_steps (term.Value unit) d × (d.output ≡ 97 ∷ 10 ∷ []) × (d.cost ≡ 4)

@@ -4,7 +4,7 @@
 #![tactic(auto)]
 
 ghost use Rattle.fort_machine.specs.EffectLaws.{EffectsJoin, EffectsFollow, EffectsPart, StepsMakeInARow, GivesBack, AbortUndoes};
-ghost use Rattle.fort_machine.specs.RunLaws.{OnePlace, OneStep, OneMarks, OneRun, Framed, SomeStore, OneStore, OneStoreBare, Lifts, RunsJoin, RunsFit, AttemptIsOnePick, PicksAddUp};
+ghost use Rattle.fort_machine.specs.RunLaws.{OnePlace, SteppedGoesOn, OneStep, OneMarks, MarksThere, OneRun, Framed, SomeStore, OneStore, OneStoreBare, Lifts, RunsJoin, RunsPart, RunsFit, AttemptIsOnePick, PicksAddUp, PicksCost};
 ghost use Rattle.fort_machine.specs.Plain.{MakesPlainly, ReadsPlainly, RunsPlainly, WritesPlainly};
 ghost use Rattle.fort_machine.specs.Worked.{PrintsLetter};
 
@@ -18,6 +18,11 @@ pub fn one_place()
     ensures { OnePlace }
 {}
 
+/// A part in which a step was taken is never passed over.
+pub fn stepped_goes_on()
+    ensures { SteppedGoesOn }
+{}
+
 /// A form has one step.
 pub fn one_step()
     ensures { OneStep }
@@ -26,6 +31,11 @@ pub fn one_step()
 /// What an attempt read determines its marks.
 pub fn one_marks()
     ensures { OneMarks }
+{}
+
+/// What a run read has marks.
+pub fn marks_there()
+    ensures { MarksThere }
 {}
 
 /// A run is determined by its picks.
@@ -56,6 +66,16 @@ pub fn effects_part()
 /// One run after another is a run.
 pub fn runs_join()
     ensures { RunsJoin }
+{}
+
+/// A run may be parted before each of its picks.
+pub fn runs_part()
+    ensures { RunsPart }
+{}
+
+/// A run has no more picks than its cost.
+pub fn picks_cost()
+    ensures { PicksCost }
 {}
 
 /// A run suits the store that it runs on.

@@ -3,7 +3,7 @@ use Rattle.std.proofs.Common.{◌≡◌, ◌≢◌, ◌<◌, ◌⊎◌, inl, inr
 use Rattle.std.specs.List.{slice_get, Contains}
 use Rattle.std.proofs.lemmas.Option.{slice_get_within}
 use Rattle.fort_base.specs.declared.ids.TypeId.{TypeId}
-use Rattle.fort_types.specs.Hierarchy.{Hierarchy, Path}
+use Rattle.fort_types.specs.Hierarchy.{DeclaredTypes, Path}
 use Rattle.fort_base.specs.declared.table.TypeTable.{TypeTable}
 use Rattle.fort_base.specs.declared.refusal.Memory.{Memory}
 use Rattle.fort_types.specs.Table.{is_set, IsExact, HasRows}
@@ -13,7 +13,7 @@ use Rattle.fort_meet.specs.Meets.{IsCommon, IsMeet, AreMeets}
 use Rattle.fort_meet.specs.Rows.{IsInBoth, Lists, IsHighest}
 use Rattle.fort_meet.proofs.Numbers.{contains_at, at_contained, same_number}
 
-module _ (h : Hierarchy) (rows : List (List Bool)) (e : IsExact (Path h) (length h) rows) where
+module _ (h : DeclaredTypes) (rows : List (List Bool)) (e : IsExact (Path h) (length h) rows) where
   path_of : (i j : ℕ) → IsTrue (is_set rows i j) → Path h i j
   path_of i j t = let k = set_inside rows i j (length h) e.wide t in let m = e.high in (e.sets i j (let l = k.0 in omega arith) k.1).0 t
 
@@ -63,7 +63,7 @@ module _ (h : Hierarchy) (rows : List (List Bool)) (e : IsExact (Path h) (length
 -- what is found in the rows of a table
 pub found : (table : TypeTable) (rows : List (List Bool)) (a b : ℕ) (common shown : List TypeId) (result : Result (List TypeId) Memory) → rows ≡ table.below → shown ≡ common
     → Lists (IsInBoth rows a b) (length rows) common → IfOk result (λ list. IsHighest rows shown (length shown) list)
-    → IfOk result (λ list. (h : Hierarchy) → HasRows h table → AreMeets h a b list)
+    → IfOk result (λ list. (h : DeclaredTypes) → HasRows h table → AreMeets h a b list)
 found table rows a b common shown (Ok list) e f c s = λ h t. meets_of h rows (subst (IsExact (Path h) (length h)) (sym e) t.below) a b common list c
     (subst (λ z. IsHighest rows z (length z) list) f s)
 found table rows a b common shown (Err m) e f c s = tt

@@ -1,6 +1,6 @@
 //! Meets by the rows of below: first what is below both, then what no other of these is above.
 ghost use Rattle.std.specs.Prelude.{◌<◌, ◌≤◌, ◌^◌, ◌↔◌, IsTrue, IfOk, length, List as Seq};
-ghost use Rattle.fort_types.specs.declared.hierarchy.Declared.{Declared};
+ghost use Rattle.fort_types.specs.declared.hierarchy.DeclaredType.{DeclaredType};
 ghost use Rattle.fort_types.specs.Table.{HasRows};
 ghost use Rattle.fort_meet.specs.Meets.{AreMeets};
 ghost use Rattle.fort_meet.specs.Rows.{Lists, IsInBoth, IsPassed, IsHighest};
@@ -17,7 +17,7 @@ use std::alloc::Global;
 /// no list. The chapter is "Types".
 pub fn meets(alloc: Global, table: &TypeTable, a: TypeId, b: TypeId) -> Result<List<TypeId>, Memory>
     requires numbered { length table.now.below ≤ 2 ^ 32 }
-    ensures { IfOk result (λ list. (h : Seq Declared) → HasRows h table.now → AreMeets h a.0 b.0 list) }
+    ensures { IfOk result (λ list. (h : Seq DeclaredType) → HasRows h table.now → AreMeets h a.0 b.0 list) }
 {
     let rows = table.below.as_slice();
     let common = common(alloc, rows, a, b)?;

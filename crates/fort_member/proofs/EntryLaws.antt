@@ -29,10 +29,10 @@ use Rattle.fort_tree.specs.declared.declarations.Parameters.{Parameters}
 use Rattle.fort_tree.specs.declared.declarations.Trait.{Trait}
 use Rattle.fort_tree.specs.declared.declarations.TraitMember.{TraitMember}
 use Rattle.fort_tree.specs.declared.declarations.TraitMember.TheVariants as trait_member
-use Rattle.fort_mention.specs.Mentions.{mentioned_type, mentioned_parameters}
-use Rattle.fort_mention.specs.Mentioning.{mentioned_expr}
-use Rattle.fort_mention.specs.TypeNames.{mentioned_function, mentioned_method_parameter, mentioned_method_parameters, mentioned_body, mentioned_method, mentioned_trait_member, mentioned_object_member, mentioned_object_parameter_list, mentioned_object_parameters, mentioned_trait, mentioned_object, mentioned_declaration, extended, excluded, comprised}
-use Rattle.fort_hier.specs.declared.heads.Head.{Head}
+use Rattle.fort_type_names.specs.Mentions.{mentioned_type, mentioned_parameters}
+use Rattle.fort_type_names.specs.Mentioning.{mentioned_expr}
+use Rattle.fort_type_names.specs.TypeNames.{mentioned_function, mentioned_method_parameter, mentioned_method_parameters, mentioned_body, mentioned_method, mentioned_trait_member, mentioned_object_member, mentioned_object_parameter_list, mentioned_object_parameters, mentioned_trait, mentioned_object, mentioned_declaration, extended, excluded, comprised}
+use Rattle.fort_hier.specs.declared.heads.TypeHead.{TypeHead}
 use Rattle.fort_hier.specs.Heads.{heads_from, head_of}
 use Rattle.fort_hier.specs.Names.{Spelling, spelling}
 use Rattle.fort_hier.specs.Numbers.{number_of}
@@ -64,7 +64,7 @@ module _ (list names : List Spelling) (self_type : Ty) where
   self_stands (Some ps) e = among_step ps.first (map (next_method_parameter_type list names self_type) ps.others) (self_among ps.others) (has_self ps.others) (among_stands ps.others) e
 
 -- The name of a type has a number below this.
-abbrev pub IsPlaced : ℕ → List Spelling → List Spelling → Head → Type 0
+abbrev pub IsPlaced : ℕ → List Spelling → List Spelling → TypeHead → Type 0
 IsPlaced n list names head = number_of list (spelling names head.name) < n
 
 -- ---- the declarations
@@ -183,7 +183,7 @@ module _ (n : ℕ) (list names : List Spelling) (Known : Name → Type 0) (known
 
   -- ---- all declarations, beside the heads of the types
 
-  abbrev IsHere : Head → Type 0
+  abbrev IsHere : TypeHead → Type 0
   IsHere = IsPlaced n list names
 
   good_trait : (t : Trait) → number_of list (spelling names t.name) < n → AreKnown (mentioned_trait t) → AreGood (flat_map (trait_entry list names (number_of list (spelling names t.name))) t.members)

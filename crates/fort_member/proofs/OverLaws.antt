@@ -2,7 +2,7 @@
 use Rattle.std.proofs.Common.{◌≡◌, List, sym, ◌∙◌, subst}
 use Rattle.fort_tree.specs.declared.declarations.Component.{Component}
 use Rattle.fort_tree.specs.declared.declarations.Declared.{Declared}
-use Rattle.fort_hier.specs.declared.heads.Head.{Head}
+use Rattle.fort_hier.specs.declared.heads.TypeHead.{TypeHead}
 use Rattle.fort_hier.specs.Heads.{heads_of}
 use Rattle.fort_hier.specs.Names.{Spelling}
 use Rattle.fort_set.specs.declared.field.Field.{Field}
@@ -19,7 +19,7 @@ over_parts c fields m f o = record {
   variables = o.variables;
 }
 
-pub over_component : (c : Component) (names : List Spelling) (own heads : List Head) (declarations : List Declared) (fields : List (List Field)) (m : Members) → names ≡ c.names → heads ≡ own → own ≡ heads_of c → declarations ≡ c.declarations
+pub over_component : (c : Component) (names : List Spelling) (own heads : List TypeHead) (declarations : List Declared) (fields : List (List Field)) (m : Members) → names ≡ c.names → heads ≡ own → own ≡ heads_of c → declarations ≡ c.declarations
     → HasFields c fields → AreOver names heads declarations fields m → AreMembers c m
 over_component c names own heads declarations fields m n s h d f o = over_parts c fields m f
     (subst (λ z. AreOver z (heads_of c) c.declarations fields m) n (subst (λ z. AreOver names z c.declarations fields m) (s ∙ h) (subst (λ z. AreOver names heads z fields m) d o)))

@@ -11,7 +11,7 @@ use Rattle.fort_types.specs.Hierarchy as types
 use Rattle.fort_types.specs.Types.{IsNumbered}
 use Rattle.fort_tree.specs.declared.declarations.Component.{Component}
 use Rattle.fort_tree.specs.declared.spot.Name.{Name}
-use Rattle.fort_mention.specs.TypeNames.{type_names}
+use Rattle.fort_type_names.specs.TypeNames.{type_names}
 use Rattle.fort_hier.specs.declared.accepted.Hierarchy.{Hierarchy}
 use Rattle.fort_hier.specs.Heads.{heads_of}
 use Rattle.fort_hier.specs.Hierarchies.{declares, IsHierarchy, unknown}

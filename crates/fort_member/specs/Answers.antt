@@ -4,7 +4,7 @@ use Rattle.std.specs.List.{flat_map}
 use Rattle.fort_base.specs.declared.refusal.Place.{Place}
 use Rattle.fort_tree.specs.declared.declarations.Component.{Component}
 use Rattle.fort_tree.specs.declared.declarations.Declared.{Declared}
-use Rattle.fort_hier.specs.declared.heads.Head.{Head}
+use Rattle.fort_hier.specs.declared.heads.TypeHead.{TypeHead}
 use Rattle.fort_hier.specs.Heads.{head_place}
 use Rattle.fort_hier.specs.Hierarchies.{declares, places_of}
 use Rattle.fort_hier.specs.Names.{Spelling}
@@ -32,7 +32,7 @@ pub record AreMembers (c : Component) (m : Members) : Type 0 where
   pub variables : m.variables ≡ variables_of c
 
 -- The members by a component's names, the heads of its types, its declarations, and the fields of its types.
-pub record AreOver (names : List Spelling) (heads : List Head) (declarations : List Declared) (fields : List (List Field)) (m : Members) : Type 0 where
+pub record AreOver (names : List Spelling) (heads : List TypeHead) (declarations : List Declared) (fields : List (List Field)) (m : Members) : Type 0 where
   pub places : m.places ≡ replicate 17 None ++ map Some (map head_place heads)
   pub objects : m.objects ≡ leaves_of (hierarchy_of names heads)
   pub fields_are : m.fields ≡ fields

@@ -1,7 +1,7 @@
 -- The chapter "Members", overload sets: what the sets of an accepted component are. The code asks none of this.
 use Rattle.std.specs.Prelude.{◌≡◌, ℕ, slice_get, Some}
 use Rattle.fort_tree.specs.declared.declarations.Component.{Component}
-use Rattle.fort_mention.specs.TypeNames.{type_names}
+use Rattle.fort_type_names.specs.TypeNames.{type_names}
 use Rattle.fort_hier.specs.declared.accepted.Hierarchy.{Hierarchy}
 use Rattle.fort_hier.specs.Hierarchies.{declares, IsHierarchy}
 use Rattle.fort_set.specs.declared.member.MemberSet.{MemberSet}

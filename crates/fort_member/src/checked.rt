@@ -1,7 +1,7 @@
 //! The members of a component, or the rule that it breaks.
 ghost use Rattle.std.specs.Prelude.{◌≡◌, ◌++◌, ◌<◌, ◌^◌, length, Option, None, Some, map, replicate, IfOk, IfErr, List as Seq};
 ghost use Rattle.std.specs.List.{flat_map};
-ghost use Rattle.fort_mention.specs.TypeNames.{type_names};
+ghost use Rattle.fort_type_names.specs.TypeNames.{type_names};
 ghost use Rattle.fort_hier.specs.Heads.{head_place};
 ghost use Rattle.fort_hier.specs.Hierarchies.{IsHierarchy};
 ghost use Rattle.fort_hier.specs.Names.{Spelling};
@@ -18,10 +18,10 @@ use crate::sets::sets_in;
 use crate::variables::variables_in;
 use fort_base::{Bytes, CheckFault, List, Memory, Place};
 use fort_field::fields;
-use fort_hier::{Head, Hierarchy, Numbers, heads_in, numbers_in, places_in, types_in};
+use fort_hier::{Hierarchy, Numbers, TypeHead, heads_in, numbers_in, places_in, types_in};
 use fort_set::{Field, MemberSet, Members};
 use fort_tree::{Component, Declared};
-use fort_types::{Declared as DeclaredType, Kind};
+use fort_types::{DeclaredType, TypeKind};
 use std::alloc::Global;
 
 /// How many names of types are built in, `Any` among them.
@@ -61,7 +61,7 @@ pub fn members(
 fn members_over(
     alloc: Global,
     names: &[Bytes],
-    heads: &[Head],
+    heads: &[TypeHead],
     declarations: &[Declared],
     fields: List<List<Field>>,
 ) -> Result<Members, Memory>
@@ -96,7 +96,7 @@ fn sets_of_all(
 }
 
 /// The places of all types, by their numbers.
-fn places_of_types(alloc: Global, heads: &[Head]) -> Result<List<Option<Place>>, Memory>
+fn places_of_types(alloc: Global, heads: &[TypeHead]) -> Result<List<Option<Place>>, Memory>
     ensures { IfOk result (λ all. all ≡ replicate 17 None ++ map Some (map head_place heads.now)) }
 {
     let places = places_in(alloc, heads)?;
@@ -133,8 +133,8 @@ fn is_leaf(declared: &DeclaredType) -> bool
     ensures { result ≡ is_object_or_leaf declared.now }
 {
     match declared.kind {
-        Kind::Trait => false,
-        Kind::Object => true,
-        Kind::Leaf => true,
+        TypeKind::Trait => false,
+        TypeKind::Object => true,
+        TypeKind::Leaf => true,
     }
 }

@@ -3,7 +3,7 @@ use Rattle.std.proofs.Common.{◌≡◌, ◌<◌, ◌+◌, ◌⊎◌, inl, inr, 
 use Rattle.std.specs.List.{slice_get}
 use Rattle.std.proofs.lemmas.Option.{slice_get_within}
 use Rattle.fort_base.specs.declared.table.TypeTable.{TypeTable}
-use Rattle.fort_types.specs.Hierarchy.{Hierarchy, Sound}
+use Rattle.fort_types.specs.Hierarchy.{DeclaredTypes, Sound}
 use Rattle.fort_types.specs.Table.{HasRows}
 use Rattle.fort_set.specs.declared.member.Member.{Member}
 use Rattle.fort_set.specs.declared.member.MemberSet.{MemberSet}
@@ -32,11 +32,11 @@ wider Q to spot s p q w = (w.0, let l = w.1 in omega arith, w.2)
 last : (Q : ℕ → Pairs) (to : ℕ) (spot : Spot) (s : MemberSet) (p q : Member) → Q to spot s p q → PairsAmong Q (to + 1) spot s p q
 last Q to spot s p q w = (to, omega arith, w)
 
-pub best_none : (h : Hierarchy) (Q : ℕ → Pairs) → IsBest h (PairsAmong Q 0) None
+pub best_none : (h : DeclaredTypes) (Q : ℕ → Pairs) → IsBest h (PairsAmong Q 0) None
 best_none h Q spot s p q w = absurd (let l = w.1 in omega arith)
 
 -- the same pairs by another name
-pub best_all : (h : Hierarchy) (F G : Pairs) (best : Option BrokenPair) → ((spot : Spot) (s : MemberSet) (p q : Member) → G spot s p q → F spot s p q)
+pub best_all : (h : DeclaredTypes) (F G : Pairs) (best : Option BrokenPair) → ((spot : Spot) (s : MemberSet) (p q : Member) → G spot s p q → F spot s p q)
     → ((spot : Spot) (s : MemberSet) (p q : Member) → F spot s p q → G spot s p q) → IsBest h F best → IsBest h G best
 best_all h F G None a b f = λ spot s p q w. f spot s p q (a spot s p q w)
 best_all h F G (Some best) a b f = let w = f.3 in (
@@ -53,7 +53,7 @@ best_all h F G (Some best) a b f = let w = f.3 in (
   },
 )
 
-module _ (h : Hierarchy) (sound : Sound h) (Q : ℕ → Pairs) (to : ℕ) where
+module _ (h : DeclaredTypes) (sound : Sound h) (Q : ℕ → Pairs) (to : ℕ) where
   -- those of the last stand behind those so far
   abbrev Behind : Type 0
   Behind = (a b : Spot) (s t : MemberSet) (p q x y : Member) → PairsAmong Q to a s p q → Q to b t x y → ByPositions a b
@@ -153,7 +153,7 @@ same_member : (t s : MemberSet) (k i : ℕ) (x p : Member) → t ≡ s → k ≡
 same_member t s k i x p e f g m =
     let a : slice_get t.members k ≡ slice_get s.members i = ap (λ (z : MemberSet). slice_get z.members k) e ∙ ap (slice_get s.members) f in cc
 
-module _ (h : Hierarchy) (n : ℕ) (set : MemberSet) (later earlier : ℕ) (p q : Member) (pi : StandsAt set earlier p) (qi : StandsAt set later q) where
+module _ (h : DeclaredTypes) (n : ℕ) (set : MemberSet) (later earlier : ℕ) (p q : Member) (pi : StandsAt set earlier p) (qi : StandsAt set later q) where
   first_is : (spot : Spot) (s : MemberSet) (x y : Member) → PairAt n set later earlier spot s x y → x ≡ p
   first_is spot s x y w = same_member s set spot.earlier earlier x p w.0 w.3 w.4.earlier pi
 
@@ -187,7 +187,7 @@ pub row_none : (table : TypeTable) (set : MemberSet) (later : ℕ) → RowBest t
 row_none table set later = record { told = λ h sound rows made n. best_none h (PairAt n set later) }
 
 pub row_more : (table : TypeTable) (set : MemberSet) (later earlier : ℕ) (p q : Member) (best next kept : Option BrokenPair) → StandsAt set earlier p → StandsAt set later q → earlier < later
-    → ((h : Hierarchy) → Sound h → HasRows h table → length p.parameters ≡ length q.parameters → IsJudged h set p q next) → Keeps best next kept
+    → ((h : DeclaredTypes) → Sound h → HasRows h table → length p.parameters ≡ length q.parameters → IsJudged h set p q next) → Keeps best next kept
     → RowBest table set later earlier best → RowBest table set later (earlier + 1) kept
 row_more table set later earlier p q best next kept a b l j k r = record {
   told = λ h sound rows made n. best_more h sound (PairAt n set later) earlier best next kept (behind n) (r.told h sound rows made n)
@@ -237,7 +237,7 @@ sets_more table sets n set best next kept is w k r = record {
     behind a b s t p q x y v u = let m = v.1 in let e = v.2.1 in let f = u.1 in inl (omega arith)
 
 -- all pairs of all sets
-pub sets_all : (h : Hierarchy) (sets : List MemberSet) (best : Option BrokenPair) → IsBest h (PairsAmong (PairsIn sets) (length sets)) best → IsBest h (pairs_of sets) best
+pub sets_all : (h : DeclaredTypes) (sets : List MemberSet) (best : Option BrokenPair) → IsBest h (PairsAmong (PairsIn sets) (length sets)) best → IsBest h (pairs_of sets) best
 sets_all h sets best w = best_all h (PairsAmong (PairsIn sets) (length sets)) (pairs_of sets) best within apart w
   where
     within : (spot : Spot) (s : MemberSet) (p q : Member) → pairs_of sets spot s p q → PairsAmong (PairsIn sets) (length sets) spot s p q

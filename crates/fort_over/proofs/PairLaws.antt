@@ -1,13 +1,13 @@
 -- Two declarations that pass break no rule.
 use Rattle.std.proofs.Common.{◌≡◌, ℕ}
-use Rattle.fort_types.specs.Hierarchy.{Hierarchy, Sound}
+use Rattle.fort_types.specs.Hierarchy.{DeclaredTypes, Sound}
 use Rattle.fort_types.proofs.Antisymmetry.{same_lists, same}
 use Rattle.fort_set.specs.declared.member.Member.{Member}
 use Rattle.fort_set.specs.declared.member.MemberSet.{MemberSet}
 use Rattle.fort_set.specs.Applicable.{IsMoreSpecific}
 use Rattle.fort_set.specs.Pairs.{NeverMeet, AreUnordered, Passes, aside, ordered, reversed, met, Breaks, same_parameters, first_result, second_result, arrow_overlap, no_meet, too_wide, not_declared}
 
-module _ (h : Hierarchy) (sound : Sound h) (s : MemberSet) where
+module _ (h : DeclaredTypes) (sound : Sound h) (s : MemberSet) where
   -- two that are more specific than each other have the same parameters
   both_ways : (p q : Member) → IsMoreSpecific h p q → IsMoreSpecific h q p → p.parameters ≡ q.parameters
   both_ways p q a b = same_lists p.parameters q.parameters a.0 (λ k x y e f. same h sound x y (a.1 k x y e f) (b.1 k y x f e))

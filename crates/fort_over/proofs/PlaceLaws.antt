@@ -7,7 +7,7 @@ use Rattle.fort_base.specs.declared.ids.TypeId.{TypeId}
 use Rattle.fort_base.specs.declared.refusal.Place.{Place}
 use Rattle.fort_base.specs.declared.table.TypeTable.{TypeTable}
 use Rattle.fort_tree.specs.Limits.{IsBefore}
-use Rattle.fort_types.specs.Hierarchy.{Hierarchy, Leaf}
+use Rattle.fort_types.specs.Hierarchy.{DeclaredTypes, Leaf}
 use Rattle.fort_types.specs.Table.{HasRows}
 use Rattle.fort_hier.specs.Earliest.{IsFirst, Keeps as KeepsPlace}
 use Rattle.fort_hier.proofs.First.{first_none, first_same, first_more, not_before}
@@ -88,11 +88,11 @@ module _ (table : TypeTable) (m : Members) (s : MemberSet) (d : Member) (at : �
     ];
   }
     where
-      other : (h : Hierarchy) → AreOf h table m → (u : TypeId) → u.0 ≡ o.0 → IsObjectBelow h u t → ⊥
+      other : (h : DeclaredTypes) → AreOf h table m → (u : TypeId) → u.0 ≡ o.0 → IsObjectBelow h u t → ⊥
       other h a u e b = let f : false ≡ true = (n.told h a).1 (subst (λ z. IsObjectBelow h z t) (same_type u o e) b) in absurd cc
 
   -- an object that the declaration is covered for
-  pub objects_covered : (o : TypeId) (best : Option Place) → ((h : Hierarchy) → HasRows h table → IsCovered h s d at o) → ObjectsFirst table m s d at t o.0 best
+  pub objects_covered : (o : TypeId) (best : Option Place) → ((h : DeclaredTypes) → HasRows h table → IsCovered h s d at o) → ObjectsFirst table m s d at t o.0 best
       → ObjectsFirst table m s d at t (o.0 + 1) best
   objects_covered o best n f = record {
     told = λ h a. first_same (UncoveredAt h m s d at t) o.0 best (λ place w. w.3 (it h a w.0 w.1)) (f.told h a);
@@ -102,11 +102,11 @@ module _ (table : TypeTable) (m : Members) (s : MemberSet) (d : Member) (at : �
     ];
   }
     where
-      it : (h : Hierarchy) → AreOf h table m → (u : TypeId) → u.0 ≡ o.0 → IsCovered h s d at u
+      it : (h : DeclaredTypes) → AreOf h table m → (u : TypeId) → u.0 ≡ o.0 → IsCovered h s d at u
       it h a u e = subst (λ z. IsCovered h s d at z) (same_type o u (sym e)) (n h a.0)
 
   -- one that it isn't covered for
-  pub objects_more : (o : TypeId) (best kept : Option Place) (place : Place) → IsObjectOf table m o t true → ((h : Hierarchy) → HasRows h table → IsCovered h s d at o → ⊥)
+  pub objects_more : (o : TypeId) (best kept : Option Place) (place : Place) → IsObjectOf table m o t true → ((h : DeclaredTypes) → HasRows h table → IsCovered h s d at o → ⊥)
       → place ≡ standing (get_or m.places o.0 None) → KeepsPlace best place kept → ObjectsFirst table m s d at t o.0 best → ObjectsFirst table m s d at t (o.0 + 1) kept
   objects_more o best kept place i n p k f = record {
     told = λ h a. first_more (UncoveredAt h m s d at t) o.0 best kept place (o, refl, (i.told h a).0 refl, n h a.0, p) (λ other w. w.4 ∙ sym p) k (f.told h a);
@@ -127,10 +127,10 @@ module _ (table : TypeTable) (m : Members) (s : MemberSet) (d : Member) (at : �
       same_owner : (u : ℕ) (v : TypeId) → d.owner ≡ Some (u, v) → t ≡ v
       same_owner u v g = let a : ℕ × TypeId = (at, t) in let b : ℕ × TypeId = (u, v) in let f : a ≡ b = cc in ap (λ (z : ℕ × TypeId). z.1) f
 
-      inside : (h : Hierarchy) → AreOf h table m → (o : TypeId) → Leaf h o.0 → o.0 < length table.below
+      inside : (h : DeclaredTypes) → AreOf h table m → (o : TypeId) → Leaf h o.0 → o.0 < length table.below
       inside h a o l = let n = a.0.below.high in let b = slice_get_within h o.0 l.0 l.1 in omega arith
 
-      of_owner : (h : Hierarchy) → AreOf h table m → (place : Place) → UncoveredOf h m s d place → PlacesAmong (UncoveredAt h m s d at t) (length table.below) place
+      of_owner : (h : DeclaredTypes) → AreOf h table m → (place : Place) → UncoveredOf h m s d place → PlacesAmong (UncoveredAt h m s d at t) (length table.below) place
       of_owner h a place (u, v, w, (number, (o, e, b, n, p))) = (
         number,
         (let l = inside h a o b.0 in omega arith),
@@ -186,6 +186,6 @@ sets_more table m n s best next kept is g k f = record {
     same_set : (x : MemberSet) → slice_get m.sets n ≡ Some x → x ≡ s
     same_set x e = cc
 
-    of_set : (h : Hierarchy) (place : Place) → UncoveredBy h m n place → PlacesAmong (UncoveredIn h m s) (length s.members) place
+    of_set : (h : DeclaredTypes) (place : Place) → UncoveredBy h m n place → PlacesAmong (UncoveredIn h m s) (length s.members) place
     of_set h place (x, e, (i, w)) = let same : x ≡ s = same_set x e in
         (i, slice_get_within s.members i w.0 (subst (λ z. StandsAt z i w.0) same w.1), subst (λ z. UncoveredIn h m z i place) same w)

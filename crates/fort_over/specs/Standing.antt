@@ -2,7 +2,7 @@
 use Rattle.std.specs.Prelude.{◌≡◌, ◌⊎◌, ◌<◌, ℕ, List, Option, Some, None, slice_get}
 use Rattle.fort_base.specs.declared.refusal.Place.{Place}
 use Rattle.fort_tree.specs.Limits.{IsBefore}
-use Rattle.fort_types.specs.Hierarchy.{Hierarchy}
+use Rattle.fort_types.specs.Hierarchy.{DeclaredTypes}
 use Rattle.fort_set.specs.declared.member.Member.{Member}
 use Rattle.fort_set.specs.declared.member.MemberSet.{MemberSet}
 use Rattle.fort_set.specs.Pairs.{Breaks}
@@ -50,7 +50,7 @@ abbrev pub pairs_of : List MemberSet → Pairs
 pairs_of sets spot s p q = (slice_get sets spot.number ≡ Some s) × IsPair spot s p q
 
 -- A pair breaks a rule, and none of these that breaks one stands before it.
-pub record IsFirstBroken (h : Hierarchy) (pairs : Pairs) (rule : ℕ) (spot : Spot) : Type 0 where
+pub record IsFirstBroken (h : DeclaredTypes) (pairs : Pairs) (rule : ℕ) (spot : Spot) : Type 0 where
   pub s : MemberSet
   pub p : Member
   pub q : Member
@@ -59,5 +59,5 @@ pub record IsFirstBroken (h : Hierarchy) (pairs : Pairs) (rule : ℕ) (spot : Sp
   pub none_before : (other : Spot) (t : MemberSet) (x y : Member) (number : ℕ) → pairs other t x y → Breaks h t x y number → StandsBefore other spot → ⊥
 
 -- None of these pairs breaks a rule.
-abbrev pub NoneBroken : Hierarchy → Pairs → Type 0
+abbrev pub NoneBroken : DeclaredTypes → Pairs → Type 0
 NoneBroken h pairs = (spot : Spot) (s : MemberSet) (p q : Member) (rule : ℕ) → pairs spot s p q → Breaks h s p q rule → ⊥

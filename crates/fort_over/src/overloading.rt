@@ -1,6 +1,6 @@
 //! The overload rules of a component.
 ghost use Rattle.std.specs.Prelude.{◌≤◌, ◌^◌, IfOk, IfErr, length, List as Seq};
-ghost use Rattle.fort_types.specs.declared.hierarchy.Declared.{Declared};
+ghost use Rattle.fort_types.specs.declared.hierarchy.DeclaredType.{DeclaredType};
 ghost use Rattle.fort_over.specs.Answers.{AreOver, KeepAllRules, IsFault};
 
 use crate::pairs::first_broken;
@@ -22,8 +22,8 @@ const ABSTRACT_NOT_COVERED: Rule = Rule(507);
 /// types, which is as many as there are numbers. It answers `Memory` where memory is wanting. The chapter is "Overload rules".
 pub fn overloads(alloc: Global, hierarchy: &Hierarchy, members: &Members) -> Result<(), CheckFault>
     requires numbered { length hierarchy.now.table.below ≤ 2 ^ 32 }
-    ensures ok { IfOk result (λ _. (h : Seq Declared) → AreOver h hierarchy.now members.now → KeepAllRules h members.now) }
-    ensures err { IfErr result (λ fault. (h : Seq Declared) → AreOver h hierarchy.now members.now → IsFault h members.now fault) }
+    ensures ok { IfOk result (λ _. (h : Seq DeclaredType) → AreOver h hierarchy.now members.now → KeepAllRules h members.now) }
+    ensures err { IfErr result (λ fault. (h : Seq DeclaredType) → AreOver h hierarchy.now members.now → IsFault h members.now fault) }
 {
     let broken = first_broken(alloc, &hierarchy.table, members.sets.as_slice())?;
     if let Some(pair) = broken {

@@ -1,6 +1,6 @@
 //! The first pair that breaks a rule.
 ghost use Rattle.std.specs.Prelude.{◌≡◌, ◌<◌, ◌≤◌, ◌^◌, IfOk, length, List as Seq};
-ghost use Rattle.fort_types.specs.declared.hierarchy.Declared.{Declared};
+ghost use Rattle.fort_types.specs.declared.hierarchy.DeclaredType.{DeclaredType};
 ghost use Rattle.fort_types.specs.Hierarchy.{Sound};
 ghost use Rattle.fort_types.specs.Table.{HasRows};
 ghost use Rattle.fort_over.specs.Walks.{IsJudged, RowBest, SetBest, SetsBest};
@@ -75,7 +75,7 @@ fn judged(
     second: &Member,
 ) -> Result<Option<BrokenPair>, Memory>
     requires numbered { length table.now.below ≤ 2 ^ 32 }
-    ensures { IfOk result (λ pair. (h : Seq Declared) → Sound h → HasRows h table.now → length first.now.parameters ≡ length second.now.parameters
+    ensures { IfOk result (λ pair. (h : Seq DeclaredType) → Sound h → HasRows h table.now → length first.now.parameters ≡ length second.now.parameters
         → IsJudged h set.now first.now second.now pair) }
 {
     match broken_rule(alloc, table, set, first, second)? {

@@ -3,14 +3,14 @@ use Rattle.std.proofs.Common.{◌≡◌, ◌↔◌, Bool, IsTrue, refl, sym, ap,
 use Rattle.fort_base.specs.declared.ty.Ty.{Ty, Arrow, out-Ty, out-roll-Ty}
 use Rattle.fort_base.specs.declared.ty.Ty.TheVariants.{rolls-Arrow}
 use Rattle.fort_base.specs.declared.ty.Ty.TheOpen.{Ty-F}
-use Rattle.fort_types.specs.Hierarchy.{Hierarchy}
+use Rattle.fort_types.specs.Hierarchy.{DeclaredTypes}
 use Rattle.fort_types.specs.Types.{Below}
 use Rattle.fort_types.specs.Layers.{BelowLayer}
 use Rattle.fort_types.proofs.ByLayers.{layers_of_below, below_of_layers}
 use Rattle.fort_set.specs.Meets.{ArrowsClash, arrows, inner}
 use Rattle.fort_pair.specs.Clashes.{ClashLayer}
 
-module _ (h : Hierarchy) where
+module _ (h : DeclaredTypes) where
   two : (a b : Ty) (x y : Ty-F Ty) → out-Ty a ≡ x → out-Ty b ≡ y → ClashLayer h x y → ClashLayer h (out-Ty a) (out-Ty b)
   two a b x y e f w = subst (λ z. ClashLayer h z (out-Ty b)) (sym e) (subst (λ z. ClashLayer h x z) (sym f) w)
 

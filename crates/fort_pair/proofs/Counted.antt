@@ -8,7 +8,7 @@ use Rattle.fort_base.specs.declared.table.TypeTable.{TypeTable}
 use Rattle.fort_base.specs.declared.ty.Ty.{Ty, out-Ty, out-roll-Ty}
 use Rattle.fort_base.specs.declared.ty.Ty.TheVariants.{Named, Tuple, rolls-Named, rolls-Tuple}
 use Rattle.fort_base.specs.declared.ty.Ty.TheOpen.{Ty-F}
-use Rattle.fort_types.specs.Hierarchy.{Hierarchy, Sound}
+use Rattle.fort_types.specs.Hierarchy.{DeclaredTypes, Sound}
 use Rattle.fort_types.specs.Types.{Below}
 use Rattle.fort_types.specs.Table.{HasRows}
 use Rattle.fort_types.proofs.ByParts.{same_layers}
@@ -68,16 +68,16 @@ only_one P a p q m = (
   λ w. subst (Contains (a ∷ [])) (sym (q m w)) (here a []),
 )
 
-pub lesser_listed : (h : Hierarchy) → Sound h → (a b : Ty) → Below h a b → HasAll (Meet h a b) (a ∷ [])
+pub lesser_listed : (h : DeclaredTypes) → Sound h → (a b : Ty) → Below h a b → HasAll (Meet h a b) (a ∷ [])
 lesser_listed h s a b w = only_one (Meet h a b) a (lesser w) (λ m v. of_lesser h s v w)
 
-pub greater_listed : (h : Hierarchy) → Sound h → (a b : Ty) → Below h b a → HasAll (Meet h a b) (b ∷ [])
+pub greater_listed : (h : DeclaredTypes) → Sound h → (a b : Ty) → Below h b a → HasAll (Meet h a b) (b ∷ [])
 greater_listed h s a b w = only_one (Meet h a b) b (greater w) (λ m v. of_greater h s v w)
 
-pub lesser_counted : (h : Hierarchy) → Sound h → (a b : Ty) → Below h a b → Counts h a b 1
+pub lesser_counted : (h : DeclaredTypes) → Sound h → (a b : Ty) → Below h a b → Counts h a b 1
 lesser_counted h s a b w = record { list = a ∷ []; has = record { exactly = lesser_listed h s a b w; once = alone a }; stands = inl refl }
 
-pub greater_counted : (h : Hierarchy) → Sound h → (a b : Ty) → Below h b a → Counts h a b 1
+pub greater_counted : (h : DeclaredTypes) → Sound h → (a b : Ty) → Below h b a → Counts h a b 1
 greater_counted h s a b w = record { list = b ∷ []; has = record { exactly = greater_listed h s a b w; once = alone b }; stands = inl refl }
 
 -- ---- meets by the layers
@@ -94,14 +94,14 @@ named_apart i j e = let f : Ty-F.Named i ≡ Ty-F.Named j = sym (out_named i) �
 tuple_apart : (xs ys : List Ty) → Tuple xs ≡ Tuple ys → xs ≡ ys
 tuple_apart xs ys e = let f : Ty-F.Tuple xs ≡ Ty-F.Tuple ys = sym (out_tuple xs) ∙ ap out-Ty e ∙ out_tuple ys in cc
 
-named_listed : (h : Hierarchy) (i j : TypeId) (ids : List TypeId) → AreMeets h i.0 j.0 ids → HasAll (MeetLayer h (Ty-F.Named i) (Ty-F.Named j)) (map Named ids)
+named_listed : (h : DeclaredTypes) (i j : TypeId) (ids : List TypeId) → AreMeets h i.0 j.0 ids → HasAll (MeetLayer h (Ty-F.Named i) (Ty-F.Named j)) (map Named ids)
 named_listed h i j ids a m = (
   λ w. let u = of_map Named ids m w in (u.0, ap out-Ty (sym u.2) ∙ out_named u.0, (a.exactly u.0).0 u.1),
   λ w. let e : Named w.0 ≡ m = same_layers (Named w.0) m (out_named w.0 ∙ sym w.1) in
       subst (Contains (map Named ids)) e (in_map Named ids w.0 ((a.exactly w.0).1 w.2)),
 )
 
-tuples_listed : (h : Hierarchy) (xs ys : List Ty) (rows : List (List Ty)) → length xs ≡ length ys → HasAll (IsChoice h xs ys) rows
+tuples_listed : (h : DeclaredTypes) (xs ys : List Ty) (rows : List (List Ty)) → length xs ≡ length ys → HasAll (IsChoice h xs ys) rows
     → HasAll (MeetLayer h (Ty-F.Tuple xs) (Ty-F.Tuple ys)) (map Tuple rows)
 tuples_listed h xs ys rows n a m = (
   λ w. let u = of_map Tuple rows m w in (u.0, ap out-Ty (sym u.2) ∙ out_tuple u.0, n, (a u.0).0 u.1),
@@ -112,7 +112,7 @@ tuples_listed h xs ys rows n a m = (
 nothing_listed : (P : Ty → Type 0) → ((m : Ty) → P m → ⊥) → HasAll P []
 nothing_listed P n m = (λ w. absurd (in_none m w), λ w. absurd (n m w))
 
-listed_at : (h : Hierarchy) (x y : Ty-F Ty) (list : List Ty) → ListsLayer h x y list → HasAll (MeetLayer h x y) list
+listed_at : (h : DeclaredTypes) (x y : Ty-F Ty) (list : List Ty) → ListsLayer h x y list → HasAll (MeetLayer h x y) list
 listed_at h (Ty-F.Named i) (Ty-F.Named j) list w = subst (HasAll (MeetLayer h (Ty-F.Named i) (Ty-F.Named j))) (sym w.2) (named_listed h i j w.0 w.1)
 listed_at h (Ty-F.Tuple xs) (Ty-F.Tuple ys) list (inl w) = subst (HasAll (MeetLayer h (Ty-F.Tuple xs) (Ty-F.Tuple ys))) (sym w.1)
     (nothing_listed (MeetLayer h (Ty-F.Tuple xs) (Ty-F.Tuple ys)) (λ m v. w.0 v.2))
@@ -122,7 +122,7 @@ listed_at h x y list w = subst (HasAll (MeetLayer h x y)) (sym w) (nothing_liste
 through_all : (P Q : Ty → Type 0) (list : List Ty) → ((m : Ty) → P m ↔ Q m) → HasAll P list → HasAll Q list
 through_all P Q list e a m = (λ w. (e m).0 ((a m).0 w), λ w. (a m).1 ((e m).1 w))
 
-pub layer_listed : (h : Hierarchy) (a b : Ty) (list : List Ty) → (Below h a b → ⊥) → (Below h b a → ⊥) → ListsLayer h (out-Ty a) (out-Ty b) list → HasAll (Meet h a b) list
+pub layer_listed : (h : DeclaredTypes) (a b : Ty) (list : List Ty) → (Below h a b → ⊥) → (Below h b a → ⊥) → ListsLayer h (out-Ty a) (out-Ty b) list → HasAll (Meet h a b) list
 layer_listed h a b list s t w = through_all (MeetLayer h (out-Ty a) (out-Ty b)) (Meet h a b) list (by_layers h a b s t) (listed_at h (out-Ty a) (out-Ty b) list w)
 
 -- ---- counts by the layers
@@ -139,7 +139,7 @@ nothing_counted P n e q = record { list = []; exactly = nothing_listed P q; once
 rising_once : (ids : List TypeId) → AllPairs (λ (x y : TypeId). x.0 < y.0) ids → AllPairs (λ (x y : TypeId). x ≢ y) ids
 rising_once ids r i j d l m e = let w = r i j d l m in let f = ap (λ (z : TypeId). z.0) e in omega arith
 
-lists_once : (h : Hierarchy) (xs ys : List Ty) (lists : List (List Ty)) → length xs ≡ length ys → length lists ≡ length xs
+lists_once : (h : DeclaredTypes) (xs ys : List Ty) (lists : List (List Ty)) → length xs ≡ length ys → length lists ≡ length xs
     → ((k : ℕ) (x y : Ty) (list : List Ty) → slice_get xs k ≡ Some x → slice_get ys k ≡ Some y → slice_get lists k ≡ Some list → HasMeets h x y list)
     → (k : ℕ) (l : List Ty) → slice_get lists k ≡ Some l → AllPairs (λ (x y : Ty). x ≢ y) l
 lists_once h xs ys lists n m e k l f = let x = partner_of lists xs k l f m in let y = partner_of xs ys k x.0 x.1 n in (e k x.0 y.0 l x.1 y.1 f).once
@@ -150,7 +150,7 @@ lists_once h xs ys lists n m e k l f = let x = partner_of lists xs k l f m in le
     partner_of (u ∷ us) (v ∷ vs) zero w e n = (v, refl)
     partner_of (u ∷ us) (v ∷ vs) (suc k) w e n = partner_of us vs k w e (omega arith)
 
-tuples_counted : (h : Hierarchy) (xs ys : List Ty) (n : ℕ) → length xs ≡ length ys → CountsTo h xs ys (length xs) n → CountsAll (MeetLayer h (Ty-F.Tuple xs) (Ty-F.Tuple ys)) n
+tuples_counted : (h : DeclaredTypes) (xs ys : List Ty) (n : ℕ) → length xs ≡ length ys → CountsTo h xs ys (length xs) n → CountsAll (MeetLayer h (Ty-F.Tuple xs) (Ty-F.Tuple ys)) n
 tuples_counted h xs ys n e c = record {
   list = map Tuple (products c.lists);
   exactly = tuples_listed h xs ys (products c.lists) e (choices_listed h xs ys c.lists e (record { long = c.long; each_has = λ k x y l f g m. (c.each_has k x y l f g m).exactly }));
@@ -158,7 +158,7 @@ tuples_counted h xs ys n e c = record {
   stands = subst (Stands n) (sym (length-map (products c.lists) Tuple ∙ long_products c.lists)) c.stands;
 }
 
-counted_at : (h : Hierarchy) (x y : Ty-F Ty) (n : ℕ) → CountsLayer h x y n → CountsAll (MeetLayer h x y) n
+counted_at : (h : DeclaredTypes) (x y : Ty-F Ty) (n : ℕ) → CountsLayer h x y n → CountsAll (MeetLayer h x y) n
 counted_at h (Ty-F.Named i) (Ty-F.Named j) n w = record {
   list = map Named w.0;
   exactly = named_listed h i j w.0 w.1;
@@ -169,7 +169,7 @@ counted_at h (Ty-F.Tuple xs) (Ty-F.Tuple ys) n (inl w) = nothing_counted (MeetLa
 counted_at h (Ty-F.Tuple xs) (Ty-F.Tuple ys) n (inr w) = tuples_counted h xs ys n w.0 w.1
 counted_at h x y n w = nothing_counted (MeetLayer h x y) n w (λ m v. v)
 
-pub layer_counted : (h : Hierarchy) (a b : Ty) (n : ℕ) → (Below h a b → ⊥) → (Below h b a → ⊥) → CountsLayer h (out-Ty a) (out-Ty b) n → Counts h a b n
+pub layer_counted : (h : DeclaredTypes) (a b : Ty) (n : ℕ) → (Below h a b → ⊥) → (Below h b a → ⊥) → CountsLayer h (out-Ty a) (out-Ty b) n → Counts h a b n
 layer_counted h a b n s t w = let c = counted_at h (out-Ty a) (out-Ty b) n w in
     record { list = c.list; has = record { exactly = through_all (MeetLayer h (out-Ty a) (out-Ty b)) (Meet h a b) c.list (by_layers h a b s t) c.exactly; once = c.once }; stands = c.stands }
 
@@ -204,13 +204,13 @@ next_place P xs ys x y ls l i n e f p q k u v z a b c = elim (got ls l k z c) as
 
 -- a number stands for that of the choices so far, for each hierarchy whose rows these are
 pub record CountsSoFar (table : TypeTable) (xs ys : List Ty) (to n : ℕ) : Type 0 where
-  pub each : (h : Hierarchy) → Sound h → HasRows h table → CountsTo h xs ys to n
+  pub each : (h : DeclaredTypes) → Sound h → HasRows h table → CountsTo h xs ys to n
 
 pub counted_none : (table : TypeTable) (xs ys : List Ty) → CountsSoFar table xs ys 0 1
 counted_none table xs ys = record { each = λ h s t. record { lists = []; long = refl; each_has = λ k x y l e f g. absurd cc; stands = inl refl } }
 
 pub counted_more : (table : TypeTable) (xs ys : List Ty) (x y : Ty) (i n m r : ℕ) → slice_get xs i ≡ Some x → slice_get ys i ≡ Some y
-    → ((h : Hierarchy) → Sound h → HasRows h table → Counts h x y m) → ((a b : ℕ) → Stands n a → Stands m b → Stands r (a * b))
+    → ((h : DeclaredTypes) → Sound h → HasRows h table → Counts h x y m) → ((a b : ℕ) → Stands n a → Stands m b → Stands r (a * b))
     → CountsSoFar table xs ys i n → CountsSoFar table xs ys (i + 1) r
 counted_more table xs ys x y i n m r e f c p a = record {
   each = λ h s t. let d = a.each h s t in let g = c h s t in record {
@@ -221,18 +221,18 @@ counted_more table xs ys x y i n m r e f c p a = record {
   };
 }
 
-pub counted_done : (table : TypeTable) (xs ys : List Ty) (i n : ℕ) → i ≡ length xs → CountsSoFar table xs ys i n → (h : Hierarchy) → Sound h → HasRows h table → CountsTo h xs ys (length xs) n
+pub counted_done : (table : TypeTable) (xs ys : List Ty) (i n : ℕ) → i ≡ length xs → CountsSoFar table xs ys i n → (h : DeclaredTypes) → Sound h → HasRows h table → CountsTo h xs ys (length xs) n
 counted_done table xs ys i n e a h s t = subst (λ k. CountsTo h xs ys k n) e (a.each h s t)
 
 -- the lists so far, for each hierarchy whose rows these are
 pub record ListsSoFar (table : TypeTable) (xs ys : List Ty) (to : ℕ) (lists : List (List Ty)) : Type 0 where
-  pub each : (h : Hierarchy) → Sound h → HasRows h table → HaveAll h xs ys lists to
+  pub each : (h : DeclaredTypes) → Sound h → HasRows h table → HaveAll h xs ys lists to
 
 pub listed_none : (table : TypeTable) (xs ys : List Ty) → ListsSoFar table xs ys 0 []
 listed_none table xs ys = record { each = λ h s t. record { long = refl; each_has = λ k x y l e f g. absurd cc } }
 
 pub listed_more : (table : TypeTable) (xs ys : List Ty) (x y : Ty) (i : ℕ) (lists new : List (List Ty)) (list : List Ty) → slice_get xs i ≡ Some x → slice_get ys i ≡ Some y
-    → ((h : Hierarchy) → Sound h → HasRows h table → HasAll (Meet h x y) list) → new ≡ lists ++ list ∷ []
+    → ((h : DeclaredTypes) → Sound h → HasRows h table → HasAll (Meet h x y) list) → new ≡ lists ++ list ∷ []
     → ListsSoFar table xs ys i lists → ListsSoFar table xs ys (i + 1) new
 listed_more table xs ys x y i lists new list e f c q a = subst (ListsSoFar table xs ys (i + 1)) (sym q) (record {
   each = λ h s t. let d = a.each h s t in record {
@@ -242,7 +242,7 @@ listed_more table xs ys x y i lists new list e f c q a = subst (ListsSoFar table
 })
 
 pub listed_done : (table : TypeTable) (xs ys : List Ty) (i : ℕ) (lists : List (List Ty)) → i ≡ length xs → ListsSoFar table xs ys i lists
-    → (h : Hierarchy) → Sound h → HasRows h table → HaveAll h xs ys lists (length xs)
+    → (h : DeclaredTypes) → Sound h → HasRows h table → HaveAll h xs ys lists (length xs)
 listed_done table xs ys i lists e a h s t = subst (HaveAll h xs ys lists) e (a.each h s t)
 
 -- ---- what a count says
@@ -272,7 +272,7 @@ no_element : (l : List Ty) → ((m : Ty) → Contains l m → ⊥) → l ≡ []
 no_element [] n = refl
 no_element (x ∷ l) n = absurd (n x (here x l))
 
-module _ (h : Hierarchy) (xs ys : List Ty) (n : ℕ) (alike : length xs ≡ length ys) (c : CountsTo h xs ys (length xs) n) where
+module _ (h : DeclaredTypes) (xs ys : List Ty) (n : ℕ) (alike : length xs ≡ length ys) (c : CountsTo h xs ys (length xs) n) where
   pub none_somewhere : n ≡ 0 → Somewhere (HasNone h) xs ys
   none_somewhere e = let w = has_empty c.lists ((stands_nought n (choices_of c.lists) c.stands).0 e) in
       let x = at_place c.lists xs w.0 [] w.1 c.long in let y = at_place xs ys w.0 x.0 x.1 alike in

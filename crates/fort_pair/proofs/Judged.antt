@@ -4,7 +4,7 @@ use Rattle.fort_base.specs.declared.refusal.Rule.{Rule}
 use Rattle.fort_base.specs.declared.ty.Ty.{Ty}
 use Rattle.fort_base.specs.declared.refusal.Memory.{Memory}
 use Rattle.fort_base.specs.declared.table.TypeTable.{TypeTable}
-use Rattle.fort_types.specs.Hierarchy.{Hierarchy, Sound}
+use Rattle.fort_types.specs.Hierarchy.{DeclaredTypes, Sound}
 use Rattle.fort_types.specs.Table.{HasRows}
 use Rattle.fort_types.specs.Types.{Apart}
 use Rattle.fort_set.specs.declared.member.Member.{Member}
@@ -17,7 +17,7 @@ use Rattle.fort_pair.specs.Choices.{HasAll, CountsTo}
 use Rattle.fort_pair.specs.Judges.{Judges, AreAside, JudgesResults, JudgesMeets, CoversAll}
 use Rattle.fort_pair.proofs.Counted.{none_somewhere, each_somewhere, too_many, not_too_many}
 
-module _ (h : Hierarchy) (s : MemberSet) (p q : Member) where
+module _ (h : DeclaredTypes) (s : MemberSet) (p q : Member) where
   turned : AreAside h s q p → AreAside h s p q
   turned w = (w.0, λ x y i j e f g m k c. w.1 y x j i f e m g k (c.0, c.2, c.1))
 
@@ -75,8 +75,8 @@ module _ (h : Hierarchy) (s : MemberSet) (p q : Member) where
       covered w u = met u no_clash (each_somewhere h p.parameters q.parameters n long c some) (not_too_many h p.parameters q.parameters n long c few)
           (λ types v. w.all refl types ((all types).1 v))
 
-pub judged_result : (table : TypeTable) (s : MemberSet) (p q : Member) (r : Result (Option Rule) Memory) → ((h : Hierarchy) → HasRows h table → AreUnordered h s p q)
-    → IfOk r (λ rule. (h : Hierarchy) → Sound h → HasRows h table → JudgesMeets h s p q rule)
-    → IfOk r (λ rule. (h : Hierarchy) → Sound h → HasRows h table → length p.parameters ≡ length q.parameters → Judges h s p q rule)
+pub judged_result : (table : TypeTable) (s : MemberSet) (p q : Member) (r : Result (Option Rule) Memory) → ((h : DeclaredTypes) → HasRows h table → AreUnordered h s p q)
+    → IfOk r (λ rule. (h : DeclaredTypes) → Sound h → HasRows h table → JudgesMeets h s p q rule)
+    → IfOk r (λ rule. (h : DeclaredTypes) → Sound h → HasRows h table → length p.parameters ≡ length q.parameters → Judges h s p q rule)
 judged_result table s p q (Ok rule) u w = λ h d t n. w h d t (u h t)
 judged_result table s p q (Err m) u w = tt

@@ -3,7 +3,7 @@ use Rattle.std.proofs.Common.{◌≡◌, ◌<◌, ◌↔◌, ℕ, List, length, 
 use Rattle.fort_base.specs.declared.ids.TypeId.{TypeId}
 use Rattle.fort_base.specs.declared.ty.Ty.{Ty, out-Ty}
 use Rattle.fort_base.specs.declared.ty.Ty.TheOpen.{Ty-F}
-use Rattle.fort_types.specs.Hierarchy.{Hierarchy, Path, stop, Sound}
+use Rattle.fort_types.specs.Hierarchy.{DeclaredTypes, Path, stop, Sound}
 use Rattle.fort_types.specs.Types.{Below}
 use Rattle.fort_types.specs.Layers.{BelowLayer}
 use Rattle.fort_types.proofs.Paths.{end_inside}
@@ -17,7 +17,7 @@ use Rattle.fort_pair.specs.Choices.{MeetLayer}
 pub same_id : (a b : TypeId) → a.0 ≡ b.0 → a ≡ b
 same_id a b p = ap (λ (n : ℕ). let z : TypeId = record { 0 = n } in z) p
 
-module _ (h : Hierarchy) where
+module _ (h : DeclaredTypes) where
   -- the layers of a type below another
   layers_at : (a b : Ty) (x y : Ty-F Ty) → out-Ty a ≡ x → out-Ty b ≡ y → Below h a b → BelowLayer h x y
   layers_at a b x y e f w = subst (λ z. BelowLayer h z y) e (subst (λ z. BelowLayer h (out-Ty a) z) f (layers_of_below h w))

@@ -6,7 +6,7 @@ use Rattle.std.proofs.Math.Seq.{take-suc}
 use Rattle.std.proofs.lemmas.List.Concat.{flat_map-cons}
 use Rattle.std.proofs.Math.Nat.{zero-mul, suc-mul}
 use Rattle.fort_base.specs.declared.ty.Ty.{Ty}
-use Rattle.fort_types.specs.Hierarchy.{Hierarchy}
+use Rattle.fort_types.specs.Hierarchy.{DeclaredTypes}
 use Rattle.fort_set.specs.Meets.{Meet, IsChoice, HasMeets, choices_of}
 use Rattle.fort_pair.specs.Choices.{HasAll, HaveAll, products}
 use Rattle.fort_pair.proofs.Members.{in_none, here, either, in_map, of_map, in_flat, of_flat, head_apart, tail_apart, apart_cons, apart_append, apart_map, as_many}
@@ -73,10 +73,10 @@ products_apart (l ∷ ls) p = flat_apart (products ls) l (products_apart ls (λ 
 
 -- ---- with the lists of the meets at each place these ways are the choices
 
-abbrev Each : Hierarchy → List Ty → List Ty → List (List Ty) → Type 0
+abbrev Each : DeclaredTypes → List Ty → List Ty → List (List Ty) → Type 0
 Each h xs ys lists = (k : ℕ) (x y : Ty) (list : List Ty) → slice_get xs k ≡ Some x → slice_get ys k ≡ Some y → slice_get lists k ≡ Some list → HasAll (Meet h x y) list
 
-picks : (h : Hierarchy) (xs ys : List Ty) (lists : List (List Ty)) (ms : List Ty) → length xs ≡ length ys → length lists ≡ length xs → Each h xs ys lists
+picks : (h : DeclaredTypes) (xs ys : List Ty) (lists : List (List Ty)) (ms : List Ty) → length xs ≡ length ys → length lists ≡ length xs → Each h xs ys lists
     → OneOfEach lists ms ↔ IsChoice h xs ys ms
 picks h [] ys [] [] n l e = (λ o. (refl, λ k x y m f. absurd cc), λ c. refl)
 picks h [] ys [] (m ∷ ms) n l e = (λ o. absurd cc, λ c. absurd (let f = c.0 in omega arith))
@@ -97,16 +97,16 @@ picks h (x ∷ xs) (y ∷ ys) (z ∷ zs) (m ∷ ms) n l e =
         subst (λ (z : Ty). Meet h z b d) r (subst (λ (z : Ty). Meet h x z d) s (subst (λ (z : Ty). Meet h x y z) t w))
     places x y m xs ys ms w q (suc k) a b d f g i = q k a b d f g i
 
-pub choices_listed : (h : Hierarchy) (xs ys : List Ty) (lists : List (List Ty)) → length xs ≡ length ys → HaveAll h xs ys lists (length xs) → HasAll (IsChoice h xs ys) (products lists)
+pub choices_listed : (h : DeclaredTypes) (xs ys : List Ty) (lists : List (List Ty)) → length xs ≡ length ys → HaveAll h xs ys lists (length xs) → HasAll (IsChoice h xs ys) (products lists)
 choices_listed h xs ys lists n a ms = let w = picks h xs ys lists ms n a.long a.each_has in
     (λ c. w.0 (of_products lists ms c), λ c. in_products lists ms (w.1 c))
 
 -- ---- however the meets are listed, there are as many choices
 
-abbrev Once : Hierarchy → List Ty → List Ty → List (List Ty) → Type 0
+abbrev Once : DeclaredTypes → List Ty → List Ty → List (List Ty) → Type 0
 Once h xs ys lists = (k : ℕ) (x y : Ty) (list : List Ty) → slice_get xs k ≡ Some x → slice_get ys k ≡ Some y → slice_get lists k ≡ Some list → HasMeets h x y list
 
-pub same_count : (h : Hierarchy) (xs ys : List Ty) (ls ms : List (List Ty)) → length xs ≡ length ys → length ls ≡ length xs → length ms ≡ length xs
+pub same_count : (h : DeclaredTypes) (xs ys : List Ty) (ls ms : List (List Ty)) → length xs ≡ length ys → length ls ≡ length xs → length ms ≡ length xs
     → Once h xs ys ls → Once h xs ys ms → choices_of ls ≡ choices_of ms
 same_count h [] ys [] [] n l m e f = refl
 same_count h [] ys (a ∷ ls) ms n l m e f = absurd (omega arith)

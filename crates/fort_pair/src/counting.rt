@@ -1,6 +1,6 @@
 //! How many choices of one meet for each place there are, counted without listing them.
 ghost use Rattle.std.specs.Prelude.{◌≡◌, ◌≤◌, ◌*◌, ◌^◌, ℕ, IfOk, List as Seq, length};
-ghost use Rattle.fort_types.specs.declared.hierarchy.Declared.{Declared};
+ghost use Rattle.fort_types.specs.declared.hierarchy.DeclaredType.{DeclaredType};
 ghost use Rattle.fort_types.specs.Hierarchy.{Sound};
 ghost use Rattle.fort_types.specs.Types.{Below};
 ghost use Rattle.fort_types.specs.Table.{HasRows};
@@ -25,7 +25,7 @@ pub fn count_all(
 ) -> Result<usize, Memory>
     requires numbered { length table.now.below ≤ 2 ^ 32 }
     requires alike { length left.now ≡ length right.now }
-    ensures { IfOk result (λ n. (h : Seq Declared) → Sound h → HasRows h table.now → CountsTo h left.now right.now (length left.now) n) }
+    ensures { IfOk result (λ n. (h : Seq DeclaredType) → Sound h → HasRows h table.now → CountsTo h left.now right.now (length left.now) n) }
 {
     count_choices(alloc, table, left.as_slice(), right.as_slice())
 }
@@ -40,7 +40,7 @@ fn count_choices(
     requires numbered { length table.now.below ≤ 2 ^ 32 }
     requires alike { length left.now ≡ length right.now }
     ensures few { IfOk result (λ n. n ≤ 4097) }
-    ensures ok { IfOk result (λ n. (h : Seq Declared) → Sound h → HasRows h table.now → CountsTo h left.now right.now (length left.now) n) }
+    ensures ok { IfOk result (λ n. (h : Seq DeclaredType) → Sound h → HasRows h table.now → CountsTo h left.now right.now (length left.now) n) }
 {
     let mut all = 1;
     for i in 0..left.len() {
@@ -54,7 +54,7 @@ fn count_choices(
 fn count_meets(alloc: Global, table: &TypeTable, a: &Ty, b: &Ty) -> Result<usize, Memory>
     requires numbered { length table.now.below ≤ 2 ^ 32 }
     ensures few { IfOk result (λ n. n ≤ 4097) }
-    ensures ok { IfOk result (λ n. (h : Seq Declared) → Sound h → HasRows h table.now → Counts h a.now b.now n) }
+    ensures ok { IfOk result (λ n. (h : Seq DeclaredType) → Sound h → HasRows h table.now → Counts h a.now b.now n) }
 {
     if below(table, a, b) {
         return Ok(1);
@@ -70,7 +70,7 @@ fn count_meets(alloc: Global, table: &TypeTable, a: &Ty, b: &Ty) -> Result<usize
 fn layer_count(alloc: Global, table: &TypeTable, a: &Ty, b: &Ty) -> Result<usize, Memory>
     requires numbered { length table.now.below ≤ 2 ^ 32 }
     ensures few { IfOk result (λ n. n ≤ 4097) }
-    ensures ok { IfOk result (λ n. (h : Seq Declared) → Sound h → HasRows h table.now → CountsLayer h (out-Ty a.now) (out-Ty b.now) n) }
+    ensures ok { IfOk result (λ n. (h : Seq DeclaredType) → Sound h → HasRows h table.now → CountsLayer h (out-Ty a.now) (out-Ty b.now) n) }
 {
     match (a, b) {
         (Ty::Named(x), Ty::Named(y)) => count_declared(alloc, table, *x, *y),
@@ -84,7 +84,7 @@ fn layer_count(alloc: Global, table: &TypeTable, a: &Ty, b: &Ty) -> Result<usize
 fn count_parts(alloc: Global, table: &TypeTable, xs: &[Ty], ys: &[Ty]) -> Result<usize, Memory>
     requires numbered { length table.now.below ≤ 2 ^ 32 }
     ensures few { IfOk result (λ n. n ≤ 4097) }
-    ensures ok { IfOk result (λ n. (h : Seq Declared) → Sound h → HasRows h table.now → CountsLayer h (Ty-F.Tuple xs.now) (Ty-F.Tuple ys.now) n) }
+    ensures ok { IfOk result (λ n. (h : Seq DeclaredType) → Sound h → HasRows h table.now → CountsLayer h (Ty-F.Tuple xs.now) (Ty-F.Tuple ys.now) n) }
 {
     if xs.len() != ys.len() {
         return Ok(0);
@@ -96,7 +96,7 @@ fn count_parts(alloc: Global, table: &TypeTable, xs: &[Ty], ys: &[Ty]) -> Result
 fn count_declared(alloc: Global, table: &TypeTable, a: TypeId, b: TypeId) -> Result<usize, Memory>
     requires numbered { length table.now.below ≤ 2 ^ 32 }
     ensures few { IfOk result (λ n. n ≤ 4097) }
-    ensures ok { IfOk result (λ n. (h : Seq Declared) → Sound h → HasRows h table.now → CountsLayer h (Ty-F.Named a) (Ty-F.Named b) n) }
+    ensures ok { IfOk result (λ n. (h : Seq DeclaredType) → Sound h → HasRows h table.now → CountsLayer h (Ty-F.Named a) (Ty-F.Named b) n) }
 {
     let list = meets(alloc, table, a, b)?;
     Ok(capped(list.len()))

@@ -1,6 +1,6 @@
 //! Which declarations of a set cover the choices of two others.
 ghost use Rattle.std.specs.Prelude.{◌≡◌, ◌↔◌, IsTrue, List as Seq};
-ghost use Rattle.fort_types.specs.declared.hierarchy.Declared.{Declared};
+ghost use Rattle.fort_types.specs.declared.hierarchy.DeclaredType.{DeclaredType};
 ghost use Rattle.fort_types.specs.Table.{HasRows};
 ghost use Rattle.fort_set.specs.Pairs.{AreCovered};
 ghost use Rattle.fort_pair.specs.Judges.{Covers, CoversAll};
@@ -17,7 +17,7 @@ pub fn all_covered(
     second: &Member,
     choices: &[List<Ty>],
 ) -> bool
-    ensures { (h : Seq Declared) → HasRows h table.now → CoversAll h members.now first.now second.now choices.now result }
+    ensures { (h : Seq DeclaredType) → HasRows h table.now → CoversAll h members.now first.now second.now choices.now result }
 {
     for types in choices {
         if !is_covered(table, members, first, second, types) {
@@ -35,7 +35,7 @@ fn is_covered(
     second: &Member,
     types: &List<Ty>,
 ) -> bool
-    ensures { (h : Seq Declared) → HasRows h table.now → IsTrue result ↔ AreCovered h members.now first.now second.now types.now }
+    ensures { (h : Seq DeclaredType) → HasRows h table.now → IsTrue result ↔ AreCovered h members.now first.now second.now types.now }
 {
     for other in members {
         if covers(table, other, first, second, types) {
@@ -53,7 +53,7 @@ fn covers(
     second: &Member,
     types: &List<Ty>,
 ) -> bool
-    ensures { (h : Seq Declared) → HasRows h table.now → IsTrue result ↔ Covers h other.now first.now second.now types.now }
+    ensures { (h : Seq DeclaredType) → HasRows h table.now → IsTrue result ↔ Covers h other.now first.now second.now types.now }
 {
     are_below(table, &other.parameters, &first.parameters)
         && are_below(table, &other.parameters, &second.parameters)

@@ -1,6 +1,6 @@
 //! The rules of two declarations, one case after another.
 ghost use Rattle.std.specs.Prelude.{◌≡◌, ◌≤◌, ◌^◌, ◌↔◌, IsTrue, IfOk, List as Seq, length};
-ghost use Rattle.fort_types.specs.declared.hierarchy.Declared.{Declared};
+ghost use Rattle.fort_types.specs.declared.hierarchy.DeclaredType.{DeclaredType};
 ghost use Rattle.fort_types.specs.Hierarchy.{Sound};
 ghost use Rattle.fort_types.specs.Table.{HasRows};
 ghost use Rattle.fort_pair.specs.Judges.{AreAside, Judges, JudgesMeets, JudgesResults};
@@ -33,7 +33,7 @@ pub fn broken_rule(
     second: &Member,
 ) -> Result<Option<Rule>, Memory>
     requires numbered { length table.now.below ≤ 2 ^ 32 }
-    ensures { IfOk result (λ rule. (h : Seq Declared) → Sound h → HasRows h table.now → length first.now.parameters ≡ length second.now.parameters →
+    ensures { IfOk result (λ rule. (h : Seq DeclaredType) → Sound h → HasRows h table.now → length first.now.parameters ≡ length second.now.parameters →
         Judges h set.now first.now second.now rule) }
 {
     if first.parameters.len() != second.parameters.len() {
@@ -59,7 +59,7 @@ pub fn broken_rule(
 
 /// What the results say, where the first declaration is more specific.
 fn by_results(table: &TypeTable, set: &MemberSet, first: &Member, second: &Member) -> Option<Rule>
-    ensures { (h : Seq Declared) → HasRows h table.now → JudgesResults h set.now first.now second.now result }
+    ensures { (h : Seq DeclaredType) → HasRows h table.now → JudgesResults h set.now first.now second.now result }
 {
     if below(table, &first.result, &second.result) {
         return None;
@@ -72,7 +72,7 @@ fn by_results(table: &TypeTable, set: &MemberSet, first: &Member, second: &Membe
 
 /// Whether the declarations are dotted methods, and no declared type is below both receivers.
 fn are_aside(table: &TypeTable, set: &MemberSet, first: &Member, second: &Member) -> bool
-    ensures { (h : Seq Declared) → HasRows h table.now → IsTrue result ↔ AreAside h set.now first.now second.now }
+    ensures { (h : Seq DeclaredType) → HasRows h table.now → IsTrue result ↔ AreAside h set.now first.now second.now }
 {
     set.dotted && are_strangers(table, &first.parameters, &second.parameters)
 }
@@ -87,7 +87,7 @@ fn by_meets(
 ) -> Result<Option<Rule>, Memory>
     requires numbered { length table.now.below ≤ 2 ^ 32 }
     requires alike { length first.now.parameters ≡ length second.now.parameters }
-    ensures { IfOk result (λ rule. (h : Seq Declared) → Sound h → HasRows h table.now → JudgesMeets h set.now first.now second.now rule) }
+    ensures { IfOk result (λ rule. (h : Seq DeclaredType) → Sound h → HasRows h table.now → JudgesMeets h set.now first.now second.now rule) }
 {
     if arrows_clash(table, &first.parameters, &second.parameters) {
         return Ok(Some(Rule(505)));

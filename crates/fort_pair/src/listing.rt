@@ -1,7 +1,7 @@
 //! The choices of one meet for each place, listed.
 ghost use Rattle.std.specs.Prelude.{◌≡◌, ◌≤◌, ◌^◌, ◌∷◌, ◌++◌, ◌↔◌, [], IfOk, OnOk, OnErr, List as Seq, length, map};
 ghost use Rattle.std.specs.List.{flat_map};
-ghost use Rattle.fort_types.specs.declared.hierarchy.Declared.{Declared};
+ghost use Rattle.fort_types.specs.declared.hierarchy.DeclaredType.{DeclaredType};
 ghost use Rattle.fort_types.specs.Hierarchy.{Sound};
 ghost use Rattle.fort_types.specs.Types.{Below};
 ghost use Rattle.fort_types.specs.Table.{HasRows};
@@ -25,7 +25,7 @@ pub fn list_all(
 ) -> Result<List<List<Ty>>, Memory>
     requires numbered { length table.now.below ≤ 2 ^ 32 }
     requires alike { length left.now ≡ length right.now }
-    ensures { IfOk result (λ all. (h : Seq Declared) → Sound h → HasRows h table.now → HasAll (IsChoice h left.now right.now) all) }
+    ensures { IfOk result (λ all. (h : Seq DeclaredType) → Sound h → HasRows h table.now → HasAll (IsChoice h left.now right.now) all) }
 {
     list_choices(alloc, table, left.as_slice(), right.as_slice())
 }
@@ -39,7 +39,7 @@ fn list_choices(
 ) -> Result<List<List<Ty>>, Memory>
     requires numbered { length table.now.below ≤ 2 ^ 32 }
     requires alike { length left.now ≡ length right.now }
-    ensures { IfOk result (λ all. (h : Seq Declared) → Sound h → HasRows h table.now → HasAll (IsChoice h left.now right.now) all) }
+    ensures { IfOk result (λ all. (h : Seq DeclaredType) → Sound h → HasRows h table.now → HasAll (IsChoice h left.now right.now) all) }
 {
     let lists = list_each(alloc, table, left, right)?;
     all_ways(alloc, lists.as_slice())
@@ -55,7 +55,7 @@ fn list_each(
 ) -> Result<List<List<Ty>>, Memory>
     requires numbered { length table.now.below ≤ 2 ^ 32 }
     requires alike { length left.now ≡ length right.now }
-    ensures { IfOk result (λ lists. (h : Seq Declared) → Sound h → HasRows h table.now → HaveAll h left.now right.now lists (length left.now)) }
+    ensures { IfOk result (λ lists. (h : Seq DeclaredType) → Sound h → HasRows h table.now → HaveAll h left.now right.now lists (length left.now)) }
 {
     let mut lists = List::new(alloc);
     for i in 0..left.len() {
@@ -68,7 +68,7 @@ fn list_each(
 #[cycle(list)]
 fn list_meets(alloc: Global, table: &TypeTable, a: &Ty, b: &Ty) -> Result<List<Ty>, Memory>
     requires numbered { length table.now.below ≤ 2 ^ 32 }
-    ensures { IfOk result (λ list. (h : Seq Declared) → Sound h → HasRows h table.now → HasAll (Meet h a.now b.now) list) }
+    ensures { IfOk result (λ list. (h : Seq DeclaredType) → Sound h → HasRows h table.now → HasAll (Meet h a.now b.now) list) }
 {
     if below(table, a, b) {
         return only(alloc, a);
@@ -83,7 +83,7 @@ fn list_meets(alloc: Global, table: &TypeTable, a: &Ty, b: &Ty) -> Result<List<T
 #[cycle(list)]
 fn layer_list(alloc: Global, table: &TypeTable, a: &Ty, b: &Ty) -> Result<List<Ty>, Memory>
     requires numbered { length table.now.below ≤ 2 ^ 32 }
-    ensures { IfOk result (λ list. (h : Seq Declared) → Sound h → HasRows h table.now → ListsLayer h (out-Ty a.now) (out-Ty b.now) list) }
+    ensures { IfOk result (λ list. (h : Seq DeclaredType) → Sound h → HasRows h table.now → ListsLayer h (out-Ty a.now) (out-Ty b.now) list) }
 {
     match (a, b) {
         (Ty::Named(x), Ty::Named(y)) => list_declared(alloc, table, *x, *y),
@@ -96,7 +96,7 @@ fn layer_list(alloc: Global, table: &TypeTable, a: &Ty, b: &Ty) -> Result<List<T
 #[cycle(list)]
 fn list_parts(alloc: Global, table: &TypeTable, xs: &[Ty], ys: &[Ty]) -> Result<List<Ty>, Memory>
     requires numbered { length table.now.below ≤ 2 ^ 32 }
-    ensures { IfOk result (λ list. (h : Seq Declared) → Sound h → HasRows h table.now → ListsLayer h (Ty-F.Tuple xs.now) (Ty-F.Tuple ys.now) list) }
+    ensures { IfOk result (λ list. (h : Seq DeclaredType) → Sound h → HasRows h table.now → ListsLayer h (Ty-F.Tuple xs.now) (Ty-F.Tuple ys.now) list) }
 {
     if xs.len() != ys.len() {
         return Ok(List::new(alloc));
@@ -108,7 +108,7 @@ fn list_parts(alloc: Global, table: &TypeTable, xs: &[Ty], ys: &[Ty]) -> Result<
 /// The meets of two declared types, as types.
 fn list_declared(alloc: Global, table: &TypeTable, a: TypeId, b: TypeId) -> Result<List<Ty>, Memory>
     requires numbered { length table.now.below ≤ 2 ^ 32 }
-    ensures { IfOk result (λ list. (h : Seq Declared) → Sound h → HasRows h table.now → ListsLayer h (Ty-F.Named a) (Ty-F.Named b) list) }
+    ensures { IfOk result (λ list. (h : Seq DeclaredType) → Sound h → HasRows h table.now → ListsLayer h (Ty-F.Named a) (Ty-F.Named b) list) }
 {
     let ids = meets(alloc, table, a, b)?;
     named(alloc, ids.as_slice())

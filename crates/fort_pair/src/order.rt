@@ -1,6 +1,6 @@
 //! Two lists of types, place by place, by the rows of the declared types.
 ghost use Rattle.std.specs.Prelude.{◌≡◌, ◌↔◌, IsTrue, List as Seq, length};
-ghost use Rattle.fort_types.specs.declared.hierarchy.Declared.{Declared};
+ghost use Rattle.fort_types.specs.declared.hierarchy.DeclaredType.{DeclaredType};
 ghost use Rattle.fort_types.specs.Types.{Apart, Below};
 ghost use Rattle.fort_types.specs.Table.{HasRows};
 ghost use Rattle.fort_set.specs.Applicable.{Along, Somewhere};
@@ -20,7 +20,7 @@ pub fn are_same(left: &List<Ty>, right: &List<Ty>) -> bool
 
 /// Whether two lists are of one length, and each type of the first is below the one in its place of the second.
 pub fn are_below(table: &TypeTable, left: &List<Ty>, right: &List<Ty>) -> bool
-    ensures { (h : Seq Declared) → HasRows h table.now → IsTrue result ↔ Along (Below h) left.now right.now }
+    ensures { (h : Seq DeclaredType) → HasRows h table.now → IsTrue result ↔ Along (Below h) left.now right.now }
 {
     all_below(table, left.as_slice(), right.as_slice())
 }
@@ -28,14 +28,14 @@ pub fn are_below(table: &TypeTable, left: &List<Ty>, right: &List<Ty>) -> bool
 /// Whether two lists of one length have types in one place that are apart.
 pub fn are_apart(table: &TypeTable, left: &List<Ty>, right: &List<Ty>) -> bool
     requires alike { length left.now ≡ length right.now }
-    ensures { (h : Seq Declared) → HasRows h table.now → IsTrue result ↔ Somewhere (Apart h) left.now right.now }
+    ensures { (h : Seq DeclaredType) → HasRows h table.now → IsTrue result ↔ Somewhere (Apart h) left.now right.now }
 {
     apart_somewhere(table, left.as_slice(), right.as_slice())
 }
 
 /// Whether the first types of two lists aren't both declared types with some declared type below both.
 pub fn are_strangers(table: &TypeTable, left: &List<Ty>, right: &List<Ty>) -> bool
-    ensures { (h : Seq Declared) → HasRows h table.now → IsTrue result ↔ AreStrangers h left.now right.now }
+    ensures { (h : Seq DeclaredType) → HasRows h table.now → IsTrue result ↔ AreStrangers h left.now right.now }
 {
     strangers(table, left.as_slice(), right.as_slice())
 }
@@ -55,7 +55,7 @@ fn same_types(left: &[Ty], right: &[Ty]) -> bool
 }
 
 fn all_below(table: &TypeTable, left: &[Ty], right: &[Ty]) -> bool
-    ensures { (h : Seq Declared) → HasRows h table.now → IsTrue result ↔ Along (Below h) left.now right.now }
+    ensures { (h : Seq DeclaredType) → HasRows h table.now → IsTrue result ↔ Along (Below h) left.now right.now }
 {
     if left.len() != right.len() {
         return false;
@@ -70,7 +70,7 @@ fn all_below(table: &TypeTable, left: &[Ty], right: &[Ty]) -> bool
 
 fn apart_somewhere(table: &TypeTable, left: &[Ty], right: &[Ty]) -> bool
     requires alike { length left.now ≡ length right.now }
-    ensures { (h : Seq Declared) → HasRows h table.now → IsTrue result ↔ Somewhere (Apart h) left.now right.now }
+    ensures { (h : Seq DeclaredType) → HasRows h table.now → IsTrue result ↔ Somewhere (Apart h) left.now right.now }
 {
     for i in 0..left.len() {
         if apart(table, &left[i], &right[i]) {
@@ -81,7 +81,7 @@ fn apart_somewhere(table: &TypeTable, left: &[Ty], right: &[Ty]) -> bool
 }
 
 fn strangers(table: &TypeTable, left: &[Ty], right: &[Ty]) -> bool
-    ensures { (h : Seq Declared) → HasRows h table.now → IsTrue result ↔ AreStrangers h left.now right.now }
+    ensures { (h : Seq DeclaredType) → HasRows h table.now → IsTrue result ↔ AreStrangers h left.now right.now }
 {
     match (left.first(), right.first()) {
         (Some(a), Some(b)) => !layer_common(table, a, b),
@@ -91,7 +91,7 @@ fn strangers(table: &TypeTable, left: &[Ty], right: &[Ty]) -> bool
 
 /// Whether two types are declared types with some declared type below both.
 fn layer_common(table: &TypeTable, a: &Ty, b: &Ty) -> bool
-    ensures { (h : Seq Declared) → HasRows h table.now → IsTrue result ↔ CommonLayer h (out-Ty a.now) (out-Ty b.now) }
+    ensures { (h : Seq DeclaredType) → HasRows h table.now → IsTrue result ↔ CommonLayer h (out-Ty a.now) (out-Ty b.now) }
 {
     match (a, b) {
         (Ty::Named(x), Ty::Named(y)) => some_common(table, *x, *y),
@@ -101,7 +101,7 @@ fn layer_common(table: &TypeTable, a: &Ty, b: &Ty) -> bool
 
 /// Whether some declared type is below both.
 fn some_common(table: &TypeTable, a: TypeId, b: TypeId) -> bool
-    ensures { (h : Seq Declared) → HasRows h table.now → IsTrue result ↔ HasCommon h a.0 b.0 }
+    ensures { (h : Seq DeclaredType) → HasRows h table.now → IsTrue result ↔ HasCommon h a.0 b.0 }
 {
     some_both(table.below.as_slice(), a.0 as usize, b.0 as usize)
 }

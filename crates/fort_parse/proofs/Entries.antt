@@ -10,7 +10,7 @@ use Rattle.fort_tree.specs.Said.{Said, SaidEntry, elsewhere, tokens_of, gap_of, 
 use Rattle.fort_reading.specs.Parser.{Row, next_of, many_run, Eater}
 use Rattle.fort_reading.proofs.Laws.{Only, only_many, Gets, reads, ends, gets_then}
 use Rattle.fort_reading.proofs.Yields.{both, left_true, right_true}
-use Rattle.fort_starts.specs.Beginnings.{begins_apart_of}
+use Rattle.fort_first.specs.Beginnings.{begins_apart_of}
 use Rattle.fort_parse.specs.Blocks.{is_ended, last_ended}
 
 -- ---- what is read

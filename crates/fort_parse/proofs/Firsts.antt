@@ -28,7 +28,7 @@ use Rattle.fort_tree.proofs.CasesBlocks.{cases_delimited}
 use Rattle.fort_tree.proofs.SaysFlats.{says-Flat, says-Assign, says-Open, says-OpenAssign, says-Atomic, says-Tryatomic, says-Throw, says-Fn, says-Big, flat_says, operand_says, run_says, says-Name, says-Number, says-Text, says-True, says-False, says-Self_, says-Parens, says-Delimited, says-ArrayFill}
 use Rattle.fort_tree.proofs.SaysBlocks.{says-Do, says-If, says-While, says-For, says-Case, says-Typecase, says-Try}
 use Rattle.fort_reading.proofs.Yields.{left_true, true_right}
-use Rattle.fort_starts.specs.Beginnings.{word_begins_atom, begins_atom, begins_postfix, is_prefix, begins_unit, is_infix_kind, word_begins_head, begins_head, mark_assigns, assigns, begins_expr}
+use Rattle.fort_first.specs.Beginnings.{word_begins_atom, begins_atom, begins_postfix, is_prefix, begins_unit, is_infix_kind, word_begins_head, begins_head, mark_assigns, assigns, begins_expr}
 use Rattle.fort_parse.proofs.Statements.{allowing}
 
 -- ---- what they begin with

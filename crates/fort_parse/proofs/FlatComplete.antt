@@ -39,7 +39,7 @@ use Rattle.fort_reading.proofs.Laws.{Gets, reads, gets_then}
 use Rattle.fort_reading.proofs.Taking.{prefix_token, gets_prefix, gets_sign, gets_name, gets_mark, gets_word, gets_assign, gets_max, gets_min, gets_and, gets_or, is_word_at, is_mark_at, not_mark, not_word}
 use Rattle.fort_reading.proofs.Yields.{both, left_true, right_true, true_right, false_right, is_not, gets_list, next_stops}
 use Rattle.fort_parse_types.proofs.Complete.{complete_maybe_parameters}
-use Rattle.fort_starts.specs.Beginnings.{is_prefix, is_infix_kind, begins_atom, begins_postfix, begins_unit, begins_run_part, begins_flat_part, begins_head, begins_expr, assigns}
+use Rattle.fort_first.specs.Beginnings.{is_prefix, is_infix_kind, begins_atom, begins_postfix, begins_unit, begins_run_part, begins_flat_part, begins_head, begins_expr, assigns}
 use Rattle.fort_parse.specs.Flats.{prefixed, operand, infix_part, flat_part, flat_parts, flat, sequential, parallel, generator, reduction, big_reduction, function, head, open_assign, opened, assigned, assign, flat_more, expr_from, expr, next_expr, next_exprs, expr_list, maybe_list}
 use Rattle.fort_parse.proofs.Statements.{allowing, flat_stops, expr_stops, UnitExpr, HeadExpr, RunLaws, FlatLaws}
 use Rattle.fort_parse.proofs.Firsts.{run_begins, flat_begins, head_begins, expr_begins, close_no_expr, flat_not_head, atom_not_prefix, atom_not_infix, atom_not_assigns, infix_not_assigns}

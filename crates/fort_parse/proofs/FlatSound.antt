@@ -37,7 +37,7 @@ use Rattle.fort_reading.proofs.Laws.{Only, only_read, only_failed, only_then, on
 use Rattle.fort_reading.proofs.Taking.{prefix_token, only_prefix, only_sign, only_name, only_mark, only_word, only_assign, only_big}
 use Rattle.fort_reading.proofs.Yields.{Yields, YieldsMaybe, both, left_true, right_true, true_right, only_list, left_out, stands_there, all_after}
 use Rattle.fort_parse_types.proofs.Sound.{sound_maybe_parameters}
-use Rattle.fort_starts.specs.Beginnings.{is_prefix, is_infix_kind, begins_flat_part, begins_head, assigns}
+use Rattle.fort_first.specs.Beginnings.{is_prefix, is_infix_kind, begins_flat_part, begins_head, assigns}
 use Rattle.fort_parse.specs.Flats.{prefixed, operand, infix_part, flat_part, flat_parts, flat, sequential, parallel, generator, reduction, big_reduction, function, word_head, head_for, head, open_assign, opened, assigned, assign, flat_more, expr_from, expr, next_expr, next_exprs, expr_list, maybe_list}
 use Rattle.fort_parse.proofs.Statements.{allowing, YieldsUnit, RunLaws}
 

@@ -48,10 +48,10 @@ use Rattle.fort_reading.proofs.Taking.{gets_mark, gets_word, gets_name, gets_col
 use Rattle.fort_reading.proofs.Yields.{left_true, right_true, is_not, false_right, next_stops, gets_list}
 use Rattle.fort_parse_types.specs.Types.{begins_type}
 use Rattle.fort_parse_types.proofs.Complete.{complete_type_tree, type_begins, type_stops, type_stops_at}
-use Rattle.fort_starts.specs.declared.plain.PlainNames.{PlainNames}
-use Rattle.fort_starts.specs.Beginnings.{begins_atom, begins_head, begins_item, begins_item_kind, begins_case_clause, begins_type_clause, begins_else, begins_apart_of, begins_unit, begins_expr, is_prefix}
-use Rattle.fort_starts.specs.Plain.{plain_name, plain_names}
-use Rattle.fort_starts.specs.Endings.{semicolon_run}
+use Rattle.fort_first.specs.declared.plain.PlainNames.{PlainNames}
+use Rattle.fort_first.specs.Beginnings.{begins_atom, begins_head, begins_item, begins_item_kind, begins_case_clause, begins_type_clause, begins_else, begins_apart_of, begins_unit, begins_expr, is_prefix}
+use Rattle.fort_first.specs.Plain.{plain_name, plain_names}
+use Rattle.fort_first.specs.Endings.{semicolon_run}
 use Rattle.fort_parse.specs.Blocks.{is_ended, last_ended, some_of, sees_second, initialised, variable_from, var_item, names_from, flat_item, by_names, by_name, declared, item_from, head_item, item, block_item, block, case_clause, case_list, case_clauses, type_clause, type_clause_list, type_clauses, else_from, second_else, else_clause, also_block, also_blocks, elif, elifs, else_block, catch_from, catch, finally, next_generator, next_generators}
 use Rattle.fort_parse.specs.Runs.{do_form, if_rest, if_form, while_form, for_rest, for_form, case_rest, case_form, typecase_rest, typecase_form, try_form, delimited}
 use Rattle.fort_parse.proofs.FormFirsts.{Stops, item_begins, unit_is_item, type_is_item, new_line, Ends, ends_with}

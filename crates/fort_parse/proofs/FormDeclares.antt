@@ -19,10 +19,10 @@ use Rattle.fort_reading.specs.Words.{is_range, sees, spot_of}
 use Rattle.fort_reading.proofs.Laws.{Gets, reads, ends}
 use Rattle.fort_reading.proofs.Taking.{is_range_is, is_range_at}
 use Rattle.fort_reading.proofs.Yields.{left_true, right_true}
-use Rattle.fort_starts.specs.declared.plain.PlainNames.{PlainNames}
-use Rattle.fort_starts.specs.Beginnings.{begins_head}
+use Rattle.fort_first.specs.declared.plain.PlainNames.{PlainNames}
+use Rattle.fort_first.specs.Beginnings.{begins_head}
 use Rattle.fort_parse.specs.Flats.{operand}
-use Rattle.fort_starts.specs.Plain.{plain_name, plain_names}
+use Rattle.fort_first.specs.Plain.{plain_name, plain_names}
 use Rattle.fort_parse.proofs.FormFirsts.{colon_parts}
 use Rattle.fort_parse.proofs.FormPlain.{unit_of, parens_of, names_tokens, name_unit_says, name_unit_is, parens_unit_says, parens_unit_obeys, names_unit_is}
 use Rattle.fort_parse.proofs.Statements.{FlatLaws}

@@ -24,7 +24,7 @@ use Rattle.fort_reading.specs.Words.{is_mark, is_range, sees}
 use Rattle.fort_reading.proofs.Taking.{not_mark, not_this, is_range_is}
 use Rattle.fort_reading.proofs.Yields.{right_true, false_right}
 use Rattle.fort_parse_types.specs.Types.{begins_type, mark_begins_type}
-use Rattle.fort_starts.specs.Beginnings.{word_begins_atom, begins_atom, begins_postfix, begins_run_part, is_prefix, begins_unit, begins_flat_part, begins_head, assigns, mark_assigns, begins_expr, begins_item_kind, begins_apart_of}
+use Rattle.fort_first.specs.Beginnings.{word_begins_atom, begins_atom, begins_postfix, begins_run_part, is_prefix, begins_unit, begins_flat_part, begins_head, assigns, mark_assigns, begins_expr, begins_item_kind, begins_apart_of}
 use Rattle.fort_parse.proofs.Firsts.{expr_begins}
 use Rattle.fort_parse.proofs.Stops.{word_ends_expr}
 use Rattle.fort_parse.proofs.Statements.{flat_stops, expr_stops}

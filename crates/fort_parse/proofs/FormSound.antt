@@ -43,12 +43,12 @@ use Rattle.fort_reading.proofs.Laws.{Only, only_read, only_failed, only_then, on
 use Rattle.fort_reading.proofs.Taking.{only_mark, only_word, only_name, only_colon, only_equals, only_initial}
 use Rattle.fort_reading.proofs.Yields.{Yields, YieldsAll, YieldsMaybe, both, left_true, not_true, true_right, only_list}
 use Rattle.fort_parse_types.proofs.Sound.{sound_type_tree}
-use Rattle.fort_starts.specs.declared.plain.PlainNames.{PlainNames}
-use Rattle.fort_starts.specs.Beginnings.{begins_atom, begins_head, begins_item, begins_item_kind, begins_case_clause, begins_type_clause, begins_else, begins_apart_of, begins_unit}
+use Rattle.fort_first.specs.declared.plain.PlainNames.{PlainNames}
+use Rattle.fort_first.specs.Beginnings.{begins_atom, begins_head, begins_item, begins_item_kind, begins_case_clause, begins_type_clause, begins_else, begins_apart_of, begins_unit}
 use Rattle.fort_parse_types.specs.Types.{begins_type}
 use Rattle.fort_parse.specs.Flats.{operand}
-use Rattle.fort_starts.specs.Plain.{plain_name, plain_names}
-use Rattle.fort_starts.specs.Endings.{semicolon_run}
+use Rattle.fort_first.specs.Plain.{plain_name, plain_names}
+use Rattle.fort_first.specs.Endings.{semicolon_run}
 use Rattle.fort_parse.specs.Blocks.{is_ended, last_ended, some_of, sees_second, initialised, variable_from, var_item, names_from, flat_item, by_names, by_name, declared, item_from, head_item, item, block_item, block, case_clause, case_list, case_clauses, type_clause, type_clause_list, type_clauses, else_from, second_else, else_clause, also_block, also_blocks, elif, elifs, else_block, catch_from, catch, no_finally, finally, next_generator, next_generators}
 use Rattle.fort_parse.specs.Runs.{do_form, if_rest, if_form, while_form, for_rest, for_form, case_rest, case_form, typecase_rest, typecase_form, try_form, word_form, form_for, delimited}
 use Rattle.fort_parse.proofs.FormDeclares.{Ahead, ahead_of, ahead_more, head_declares_not, declares}

@@ -33,7 +33,7 @@ use Rattle.fort_reading.proofs.Laws.{Gets, reads, ends, gets_then, gets_accept}
 use Rattle.fort_reading.proofs.Taking.{gets_mark, gets_word, gets_power, gets_tight_mark, gets_tight_name, gets_tight_called, is_mark_at}
 use Rattle.fort_reading.proofs.Yields.{left_true, right_true, true_right, false_right, is_not, not_true, all_after}
 use Rattle.fort_parse_types.proofs.Complete.{complete_type_tree, type_stops, type_stops_at}
-use Rattle.fort_starts.specs.Beginnings.{begins_atom, begins_postfix, begins_run_part, is_next_tight}
+use Rattle.fort_first.specs.Beginnings.{begins_atom, begins_postfix, begins_run_part, is_next_tight}
 use Rattle.fort_parse.specs.Runs.{literal_of, parens, fill_value, fill_size, array_fill, form_atom, do_atom, atom_for, atom, subscript, tight_atom, method_call, dotted, postfix, run_part, run_parts, run_level}
 use Rattle.fort_parse.proofs.Statements.{allowing, RunLaws, FlatLaws, FormLaws}
 use Rattle.fort_parse.proofs.Firsts.{atom_begins, atom_not_postfix}

@@ -32,7 +32,7 @@ use Rattle.fort_reading.proofs.Laws.{Only, only_read, only_failed, only_then, on
 use Rattle.fort_reading.proofs.Taking.{only_mark, only_word, only_power, only_tight_mark, only_tight_name, only_tight_called}
 use Rattle.fort_reading.proofs.Yields.{both, left_true, false_right, all_after}
 use Rattle.fort_parse_types.proofs.Sound.{sound_type_tree}
-use Rattle.fort_starts.specs.Beginnings.{begins_atom, begins_postfix, begins_run_part, is_next_tight}
+use Rattle.fort_first.specs.Beginnings.{begins_atom, begins_postfix, begins_run_part, is_next_tight}
 use Rattle.fort_parse.specs.Runs.{word_literal, literal_in, literal_of, parens, fill_value, fill_size, array_fill, form_atom, do_atom, word_atom, mark_atom, atom_for, atom, subscript, tight_atom, method_call, dotted, mark_postfix, postfix_for, postfix, run_part, run_parts, run_level}
 use Rattle.fort_parse.proofs.Statements.{allowing, YieldsUnit, FlatLaws, FormLaws}
 use Rattle.fort_parse.proofs.Firsts.{atom_begins}

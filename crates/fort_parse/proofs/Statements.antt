@@ -27,7 +27,7 @@ use Rattle.fort_reading.specs.Parser.{Row, Eater, next_of}
 use Rattle.fort_reading.specs.Words.{sees}
 use Rattle.fort_reading.proofs.Laws.{Only, Gets}
 use Rattle.fort_reading.proofs.Yields.{Yields, YieldsMaybe}
-use Rattle.fort_starts.specs.Beginnings.{begins_atom, begins_run_part, begins_flat_part, begins_head, assigns}
+use Rattle.fort_first.specs.Beginnings.{begins_atom, begins_run_part, begins_flat_part, begins_head, assigns}
 use Rattle.fort_parse.specs.Flats.{operand, flat, generator, head, opened, expr_from, expr, maybe_list}
 use Rattle.fort_parse.specs.Blocks.{variable_from}
 use Rattle.fort_parse.specs.Runs.{delimited}

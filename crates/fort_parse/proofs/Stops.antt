@@ -12,7 +12,7 @@ use Rattle.fort_tree.specs.Tokens.{marked, word, is_empty, is_line}
 use Rattle.fort_tree.specs.Flats.{assign_token}
 use Rattle.fort_reading.specs.Words.{sees}
 use Rattle.fort_reading.proofs.Yields.{both, left_true, right_true, false_right, is_not}
-use Rattle.fort_starts.specs.Beginnings.{word_begins_atom, mark_begins_atom, begins_atom, mark_begins_postfix, begins_postfix, begins_run_part, is_infix_kind, begins_flat_part, mark_assigns, assigns}
+use Rattle.fort_first.specs.Beginnings.{word_begins_atom, mark_begins_atom, begins_atom, mark_begins_postfix, begins_postfix, begins_run_part, is_infix_kind, begins_flat_part, mark_assigns, assigns}
 use Rattle.fort_parse.proofs.Statements.{allowing, flat_stops, expr_stops}
 
 pub stops_run : (lines blocks : Bool) (next : Option Token) → flat_stops lines blocks next ≡ true → begins_run_part blocks next ≡ false

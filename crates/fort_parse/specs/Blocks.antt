@@ -25,10 +25,10 @@ use Rattle.fort_tree.specs.Tokens.{Spellings}
 use Rattle.fort_reading.specs.Parser.{Parser, Eater, pure, wrong, ◌>>=◌, fork, fork_eater, token, accept, ◌>>|◌, chain, many, same_budget}
 use Rattle.fort_reading.specs.Words.{is_mark, is_word, is_range, is_eq, spot_if, name_of, initial_of, sees}
 use Rattle.fort_parse_types.specs.Types.{type_tree}
-use Rattle.fort_starts.specs.declared.plain.PlainNames.{PlainNames}
-use Rattle.fort_starts.specs.Beginnings.{begins_head, begins_item, begins_case_clause, begins_type_clause, begins_else}
-use Rattle.fort_starts.specs.Endings.{semicolon}
-use Rattle.fort_starts.specs.Plain.{plain_name, plain_names}
+use Rattle.fort_first.specs.declared.plain.PlainNames.{PlainNames}
+use Rattle.fort_first.specs.Beginnings.{begins_head, begins_item, begins_case_clause, begins_type_clause, begins_else}
+use Rattle.fort_first.specs.Endings.{semicolon}
+use Rattle.fort_first.specs.Plain.{plain_name, plain_names}
 use Rattle.fort_parse.specs.Flats.{operand, flat, generator, head, opened, expr_from, expr}
 
 -- whether there is a `;`

@@ -29,7 +29,7 @@ use Rattle.fort_tree.specs.Tokens.{Spellings}
 use Rattle.fort_reading.specs.Parser.{Parser, Eater, pure, ◌>>=◌, fork, fork_eater, token, accept, choose, no_eater, ◌>>|◌, many}
 use Rattle.fort_reading.specs.Words.{is_mark, is_word, spot_if, name_of, sign_of, prefix_of, assign_of, big_of, sees}
 use Rattle.fort_parse_types.specs.Types.{maybe_parameters}
-use Rattle.fort_starts.specs.Beginnings.{is_prefix, is_infix_kind, begins_flat_part, begins_head, assigns}
+use Rattle.fort_first.specs.Beginnings.{is_prefix, is_infix_kind, begins_flat_part, begins_head, assigns}
 
 module _ (names : Spellings) {n : ℕ} (run : Bool → Eater Run n) where
   unfoldable pub prefixed : Bool → Eater Operand n

@@ -32,7 +32,7 @@ use Rattle.fort_reading.specs.Parser.{Parser, Eater, pure, wrong, ◌>>=◌, for
 use Rattle.fort_reading.specs.Words.{is_mark, is_word, is_eq, is_power, spot_of, spot_if, tight, name_of, called_of, sees, sees_tight}
 use Rattle.fort_parse_types.specs.Types.{type_tree}
 use Rattle.fort_tree.specs.Said.{is_there}
-use Rattle.fort_starts.specs.Beginnings.{begins_postfix, begins_run_part, is_next_tight}
+use Rattle.fort_first.specs.Beginnings.{begins_postfix, begins_run_part, is_next_tight}
 use Rattle.fort_parse.specs.Flats.{flat, generator, expr, maybe_list}
 use Rattle.fort_parse.specs.Flats as flats
 use Rattle.fort_parse.specs.Blocks.{last_ended, block, case_clauses, type_clauses, else_clause, also_blocks, elifs, else_block, catch, finally, next_generators}

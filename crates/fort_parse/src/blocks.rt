@@ -9,11 +9,11 @@ ghost use Rattle.fort_parse.specs.Nests.{Nests};
 
 use crate::grammar::Grammar;
 use fort_base::{Boxed, Bytes, List};
-use fort_reading::{Cursor, Fault, add};
-use fort_starts::{
+use fort_first::{
     PlainNames, begins_case_clause, begins_else, begins_item, begins_type_clause, plain_name,
     plain_names, sees_head, semicolon,
 };
+use fort_reading::{Cursor, Fault, add};
 use fort_token::{Mark, Reserved};
 use fort_tree::{
     Also, Block, BlockItem, CaseClause, Catch, Elif, ElseBlock, ElseClause, Expr, Finally, Item,

@@ -7,8 +7,8 @@ ghost use Rattle.fort_parse.specs.Nests.{Nests};
 
 use crate::grammar::Grammar;
 use fort_base::{Boxed, Bytes, List};
+use fort_first::{begins_flat_part, sees_assign, sees_head, sees_infix, sees_prefix};
 use fort_reading::{Cursor, Fault, add};
-use fort_starts::{begins_flat_part, sees_assign, sees_head, sees_infix, sees_prefix};
 use fort_token::{Kind, Mark, Reserved};
 use fort_tree::{
     AssignSign, Big, Expr, ExprList, Flat, FlatPart, Generator, Head, Name, NextExpr, Operand, Run,

@@ -8,8 +8,8 @@ ghost use Rattle.fort_parse.specs.Nests.{Nests};
 use crate::blocks::{case_ended, type_ended};
 use crate::grammar::Grammar;
 use fort_base::{Boxed, Bytes, List};
+use fort_first::{begins_run_part, is_next_tight, sees_arguments, sees_postfix};
 use fort_reading::{Cursor, Fault, add, spot_of};
-use fort_starts::{begins_run_part, is_next_tight, sees_arguments, sees_postfix};
 use fort_token::{Kind, Mark, Reserved, Token};
 use fort_tree::{
     Atom, Block, Delimited, Expr, FillSpots, Flat, Generator, Name, NextGenerator, Postfix, Run,

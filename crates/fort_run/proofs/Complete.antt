@@ -56,7 +56,7 @@ ends_so : (file text : List ℕ) (fuel : ℕ) (reply : Reply) (p : Program) → 
 ends_so file text fuel reply p prints is tells =
     let h = subst (λ t. IsProgram t p) (same_text file text is.0 prints is.1) is.2 in
     subst (λ n. EndsSo text n reply.out reply.journal.ending) tells.is_fuel
-    (subst (λ x. EndsSo text reply.journal.fuel x reply.journal.ending) (sym tells.is_output) (greetings_end_so text p reply.journal tells.term tells.deed h tells.records))
+    (subst (λ x. EndsSo text reply.journal.fuel x reply.journal.ending) (sym tells.is_output) (greetings_end_so text p reply.journal tells.term tells.effect h tells.records))
 
 run_of : (name file text : List ℕ) (fuel : ℕ) (reply : Reply) → Prints file text → RunSays name file fuel reply → (p : Program) × (IsProgramOf file p × TellsRun p fuel reply)
 run_of name file text fuel reply prints (Runs p is tells) = (p, (is, tells))

@@ -18,7 +18,7 @@ ended_tells text fuel g k e = (
   k.is_program,
   record {
     term = k.term;
-    deed = k.deed;
+    effect = k.effect;
     records = k.records;
     is_fuel = k.is_fuel;
     is_output = k.is_output;
@@ -32,7 +32,7 @@ ran_out_tells text fuel g k n = (
   k.is_program,
   record {
     term = k.term;
-    deed = k.deed;
+    effect = k.effect;
     records = k.records;
     is_fuel = k.is_fuel;
     is_output = k.is_output;

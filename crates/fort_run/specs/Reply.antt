@@ -17,7 +17,7 @@ use Rattle.fort_core.specs.declared.journal.Ending.TheVariants.{NotRun, Complete
 use Rattle.fort_core.specs.declared.journal.Journal.{Journal}
 use Rattle.fort_core.specs.declared.program.Program.{Program}
 use Rattle.fort_core.specs.declared.term.Term.{Term}
-use Rattle.fort_machine.specs.Deeds.{Deed}
+use Rattle.fort_machine.specs.Effects.{Effect}
 use Rattle.fort_machine.specs.Journals.{Records}
 use Rattle.fort_machine.specs.Texts.{text as text_of}
 use Rattle.fort_greet.specs.Program.{IsProgram}
@@ -87,10 +87,10 @@ TellsEnding p (OutOfFuel pick) reply = (reply.status ≡ 6) × (reply.note ≡ o
 -- The reply tells a run of a program with this fuel: its journal is the run's, its output what the run printed, and status and note tell how the run ended.
 pub record TellsRun (p : Program) (fuel : ℕ) (reply : Reply) : Type 0 where
   pub term : Term
-  pub deed : Deed
-  pub records : Records p reply.journal term deed
+  pub effect : Effect
+  pub records : Records p reply.journal term effect
   pub is_fuel : reply.journal.fuel ≡ fuel
-  pub is_output : reply.out ≡ deed.output
+  pub is_output : reply.out ≡ effect.output
   pub tells : TellsEnding p reply.journal.ending reply
 
 -- What is said of a file to run with this fuel.

@@ -8,7 +8,7 @@ use Rattle.fort_base.specs.declared.ty.Ty.{Ty, out-Ty, out-roll-Ty}
 use Rattle.fort_base.specs.declared.ty.Ty.TheOpen.{Ty-F}
 use Rattle.fort_base.specs.declared.ty.Ty.TheVariants as a_type
 use Rattle.fort_base.specs.declared.ty.Ty.TheVariants.{rolls-Named}
-use Rattle.fort_types.specs.Hierarchy.{Hierarchy, stop, Sound}
+use Rattle.fort_types.specs.Hierarchy.{DeclaredTypes, stop, Sound}
 use Rattle.fort_types.specs.Types.{Below, named}
 use Rattle.fort_types.specs.Layers.{AllBelow}
 use Rattle.fort_types.specs.Table.{HasRows}
@@ -51,7 +51,7 @@ near j n b = grind arith
 same_or : (m n : ℕ) → (m ≡ n) ⊎ (m ≢ n)
 same_or m n = grind arith
 
-module _ (h : Hierarchy) (table : TypeTable) (sound : Sound h) (rows : HasRows h table)
+module _ (h : DeclaredTypes) (table : TypeTable) (sound : Sound h) (rows : HasRows h table)
     (s : MemberSet) (made : IsWellMade h s) (keeps : KeepsRules h s) (types : List Ty) (solid : AreSolid types) where
   abbrev Fits : Type 0
   Fits = Fit h table sound rows s made keeps types solid

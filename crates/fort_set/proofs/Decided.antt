@@ -5,7 +5,7 @@ use Rattle.std.proofs.lemmas.Option.{slice_get_within}
 use Rattle.fort_base.specs.declared.table.TypeTable.{TypeTable}
 use Rattle.fort_base.specs.declared.ty.Ty.{Ty, out-Ty}
 use Rattle.fort_base.specs.declared.ty.Ty.TheOpen.{Ty-F}
-use Rattle.fort_types.specs.Hierarchy.{Hierarchy, Path, stop, along, Sound}
+use Rattle.fort_types.specs.Hierarchy.{DeclaredTypes, Path, stop, along, Sound}
 use Rattle.fort_types.specs.Types.{Below}
 use Rattle.fort_types.specs.Layers.{AllBelow, BelowLayer}
 use Rattle.fort_types.specs.Table.{is_set, HasRows}
@@ -25,7 +25,7 @@ both_or (inl a) (inr n) = inr (λ w. n w.1)
 both_or (inr n) b = inr (λ w. n w.0)
 
 -- a path that begins outside the hierarchy goes nowhere
-alone : (h : Hierarchy) (i j : ℕ) → length h ≤ i → Path h i j → i ≡ j
+alone : (h : DeclaredTypes) (i j : ℕ) → length h ≤ i → Path h i j → i ≡ j
 alone h i j l stop = refl
 alone h i j l (along e p) = absurd (let m = slice_get_within h i e.0 e.1 in omega arith)
 
@@ -35,7 +35,7 @@ same_or i j = grind arith
 cases_lt : (i n : ℕ) → (i < n) ⊎ (n ≤ i)
 cases_lt i n = grind arith
 
-pub paths : (h : Hierarchy) (table : TypeTable) → HasRows h table → (i j : ℕ) → Or (Path h i j)
+pub paths : (h : DeclaredTypes) (table : TypeTable) → HasRows h table → (i j : ℕ) → Or (Path h i j)
 paths h table rows i j = elim (cases_lt i (length h)) as (λ _. Or (Path h i j)) [
   | inl l ↦ elim (cases_lt j (length h)) as (λ _. Or (Path h i j)) [
     | inl m ↦ by_bit l m (is_set table.below i j) refl
@@ -51,7 +51,7 @@ paths h table rows i j = elim (cases_lt i (length h)) as (λ _. Or (Path h i j))
     by_bit l m true e = inl ((rows.below.sets i j l m).0 e)
     by_bit l m false e = inr (λ p. let f : false ≡ true = sym e ∙ (rows.below.sets i j l m).1 p in absurd cc)
 
-module _ (h : Hierarchy) (table : TypeTable) (sound : Sound h) (rows : HasRows h table) where
+module _ (h : DeclaredTypes) (table : TypeTable) (sound : Sound h) (rows : HasRows h table) where
   -- both ways round at once, since arrows turn
   abbrev Decided : Ty → Type 0
   Decided a = (b : Ty) → Or (Below h a b) × Or (Below h b a)

@@ -1,13 +1,13 @@
 -- Above each declared type that is below two others there is a meet of the two.
 use Rattle.std.proofs.Common.{◌≡◌, ◌<◌, ◌⊎◌, inl, inr, ℕ, zero, suc, length, sym, subst, arith}
 use Rattle.fort_base.specs.declared.table.TypeTable.{TypeTable}
-use Rattle.fort_types.specs.Hierarchy.{Hierarchy, Path, stop, Sound}
+use Rattle.fort_types.specs.Hierarchy.{DeclaredTypes, Path, stop, Sound}
 use Rattle.fort_types.specs.Table.{HasRows}
 use Rattle.fort_types.proofs.Paths.{joined, both_ways, end_inside}
 use Rattle.fort_meet.specs.Meets.{IsMeet}
 use Rattle.fort_set.proofs.Decided.{both_or, paths}
 
-module _ (h : Hierarchy) (table : TypeTable) (sound : Sound h) (rows : HasRows h table) where
+module _ (h : DeclaredTypes) (table : TypeTable) (sound : Sound h) (rows : HasRows h table) where
   -- one that is highest among the numbers below a bound
   record Climbed (i j k to : ℕ) : Type 0 where
     at : ℕ

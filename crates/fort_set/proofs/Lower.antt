@@ -5,7 +5,7 @@ use Rattle.fort_base.specs.declared.ids.TypeId.{TypeId}
 use Rattle.fort_base.specs.declared.table.TypeTable.{TypeTable}
 use Rattle.fort_base.specs.declared.ty.Ty.{Ty, out-Ty}
 use Rattle.fort_base.specs.declared.ty.Ty.TheOpen.{Ty-F}
-use Rattle.fort_types.specs.Hierarchy.{Hierarchy, Path, Sound}
+use Rattle.fort_types.specs.Hierarchy.{DeclaredTypes, Path, Sound}
 use Rattle.fort_types.specs.Types.{Below, Apart, shape_of, IsNumbered, no_name, name, in_parts, in_sides, in_element}
 use Rattle.fort_types.specs.Layers.{AllBelow}
 use Rattle.fort_types.specs.Table.{HasRows}
@@ -21,10 +21,10 @@ use Rattle.fort_set.specs.Rules.{StandsAt, IsWellMade, KeepsRules}
 use Rattle.fort_set.specs.Best.{AreSolid}
 use Rattle.fort_set.proofs.Under.{UnderAll, under_all, cover}
 
-pub all_through : (h : Hierarchy) (xs ys zs : List Ty) → AllBelow h xs ys → AllBelow h ys zs → AllBelow h xs zs
+pub all_through : (h : DeclaredTypes) (xs ys zs : List Ty) → AllBelow h xs ys → AllBelow h ys zs → AllBelow h xs zs
 all_through h xs ys zs p q = (p.0 ∙ q.0, λ k x z u v. let w = partner xs ys k x u p.0 in through h x w.0 z (p.1 k x w.0 u w.1) (q.1 k w.0 z w.1 v))
 
-pub all_itself : (h : Hierarchy) (xs : List Ty) → AllBelow h xs xs
+pub all_itself : (h : DeclaredTypes) (xs : List Ty) → AllBelow h xs xs
 all_itself h xs = (refl, λ k x y u v. let e : x ≡ y = cc in subst (λ z. Below h x z) e (itself h x))
 
 -- one of two numbers is the smaller one, or they are one
@@ -38,7 +38,7 @@ named_inside n i (in_parts f q) e = absurd cc
 named_inside n i (in_sides f p q) e = absurd cc
 named_inside n i (in_element f q) e = absurd cc
 
-module _ (h : Hierarchy) (table : TypeTable) (sound : Sound h) (rows : HasRows h table)
+module _ (h : DeclaredTypes) (table : TypeTable) (sound : Sound h) (rows : HasRows h table)
     (s : MemberSet) (made : IsWellMade h s) (keeps : KeepsRules h s) (types : List Ty) (solid : AreSolid types) where
   -- a declaration of the set that is applicable
   pub record Fit : Type 0 where

@@ -6,7 +6,7 @@ use Rattle.fort_base.specs.declared.ids.TypeId.{TypeId}
 use Rattle.fort_base.specs.declared.table.TypeTable.{TypeTable}
 use Rattle.fort_base.specs.declared.ty.Ty.{Ty, out-Ty, roll-Ty, out-roll-Ty}
 use Rattle.fort_base.specs.declared.ty.Ty.TheOpen.{Ty-F}
-use Rattle.fort_types.specs.Hierarchy.{Hierarchy, Path, stop, along, Sound}
+use Rattle.fort_types.specs.Hierarchy.{DeclaredTypes, Path, stop, along, Sound}
 use Rattle.fort_types.specs.Types.{Below, nothing, any, named, tuple, array, arrow, Solid}
 use Rattle.fort_types.specs.Table.{HasRows}
 use Rattle.fort_types.proofs.ByParts.{Parts, by_parts, part_of}
@@ -23,7 +23,7 @@ is_tuple : (xs : List Ty) → out-Ty (tuple_of xs) ≡ Ty-F.Tuple xs
 unfolding tuple_of
 is_tuple xs = out-roll-Ty (Ty-F.Tuple xs)
 
-module _ (h : Hierarchy) (table : TypeTable) (sound : Sound h) (rows : HasRows h table) where
+module _ (h : DeclaredTypes) (table : TypeTable) (sound : Sound h) (rows : HasRows h table) where
   -- what is below two that aren't ordered is the hierarchy's
   in_table : (i j k : ℕ) → Path h k i → Path h k j → (Path h i j → ⊥) → k < length h
   in_table i j k stop q n = absurd (n q)

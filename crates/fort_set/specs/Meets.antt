@@ -4,12 +4,12 @@ use Rattle.std.specs.List.{AllPairs}
 use Rattle.fort_base.specs.declared.ids.TypeId.{TypeId}
 use Rattle.fort_base.specs.declared.ty.Ty.{Ty, out-Ty}
 use Rattle.fort_base.specs.declared.ty.Ty.TheOpen.{Ty-F}
-use Rattle.fort_types.specs.Hierarchy.{Hierarchy}
+use Rattle.fort_types.specs.Hierarchy.{DeclaredTypes}
 use Rattle.fort_types.specs.Types.{Below}
 use Rattle.fort_meet.specs.Meets.{IsMeet}
 
 -- A type is a meet of two types.
-pub data Meet (h : Hierarchy) : Ty → Ty → Ty → Type 0 where
+pub data Meet (h : DeclaredTypes) : Ty → Ty → Ty → Type 0 where
   -- of ordered types the smaller one
   lesser : {a b : Ty} → Below h a b → Meet h a b a
   greater : {a b : Ty} → Below h b a → Meet h a b b
@@ -21,26 +21,26 @@ pub data Meet (h : Hierarchy) : Ty → Ty → Ty → Type 0 where
       → ((k : ℕ) (x y z : Ty) → slice_get xs k ≡ Some x → slice_get ys k ≡ Some y → slice_get zs k ≡ Some z → Meet h x y z) → Meet h a b m
 
 -- Two types have no meet.
-abbrev pub HasNone : Hierarchy → Ty → Ty → Type 0
+abbrev pub HasNone : DeclaredTypes → Ty → Ty → Type 0
 HasNone h a b = (m : Ty) → Meet h a b m → ⊥
 
 -- Two types are arrows neither of which is below the other, or tuples of one length with such parts at one place.
-pub data ArrowsClash (h : Hierarchy) : Ty → Ty → Type 0 where
+pub data ArrowsClash (h : DeclaredTypes) : Ty → Ty → Type 0 where
   arrows : {a b p q r s : Ty} → out-Ty a ≡ Ty-F.Arrow p q → out-Ty b ≡ Ty-F.Arrow r s → (Below h a b → ⊥) → (Below h b a → ⊥) → ArrowsClash h a b
   inner : {a b x y : Ty} {xs ys : List Ty} (k : ℕ) → out-Ty a ≡ Ty-F.Tuple xs → out-Ty b ≡ Ty-F.Tuple ys → length xs ≡ length ys
       → slice_get xs k ≡ Some x → slice_get ys k ≡ Some y → ArrowsClash h x y → ArrowsClash h a b
 
 -- A list of types is a choice of one meet for each position of two lists.
-abbrev pub IsChoice : Hierarchy → List Ty → List Ty → List Ty → Type 0
+abbrev pub IsChoice : DeclaredTypes → List Ty → List Ty → List Ty → Type 0
 IsChoice h xs ys ms = (length xs ≡ length ms) × ((k : ℕ) (x y m : Ty) → slice_get xs k ≡ Some x → slice_get ys k ≡ Some y → slice_get ms k ≡ Some m → Meet h x y m)
 
 -- A list has exactly the meets of two types, each once.
-pub record HasMeets (h : Hierarchy) (a b : Ty) (list : List Ty) : Type 0 where
+pub record HasMeets (h : DeclaredTypes) (a b : Ty) (list : List Ty) : Type 0 where
   pub exactly : (m : Ty) → Contains list m ↔ Meet h a b m
   pub once : AllPairs (λ (x y : Ty). x ≢ y) list
 
 -- For each position of two lists there is the list of its meets.
-pub record HaveMeets (h : Hierarchy) (xs ys : List Ty) (lists : List (List Ty)) : Type 0 where
+pub record HaveMeets (h : DeclaredTypes) (xs ys : List Ty) (lists : List (List Ty)) : Type 0 where
   pub long : length lists ≡ length xs
   pub each_has : (k : ℕ) (x y : Ty) (list : List Ty) → slice_get xs k ≡ Some x → slice_get ys k ≡ Some y → slice_get lists k ≡ Some list → HasMeets h x y list
 
@@ -50,5 +50,5 @@ choices_of [] = 1
 choices_of (list ∷ lists) = length list * choices_of lists
 
 -- There are more than 4,096 choices of one meet for each position.
-abbrev pub AreTooMany : Hierarchy → List Ty → List Ty → Type 0
+abbrev pub AreTooMany : DeclaredTypes → List Ty → List Ty → Type 0
 AreTooMany h xs ys = (lists : List (List Ty)) × HaveMeets h xs ys lists × (4096 < choices_of lists)

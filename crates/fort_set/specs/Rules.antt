@@ -3,7 +3,7 @@ use Rattle.std.specs.Prelude.{◌≡◌, ◌<◌, ℕ, true, length, slice_get, 
 use Rattle.fort_base.specs.declared.ids.TypeId.{TypeId}
 use Rattle.fort_base.specs.declared.ty.Ty.{Ty, out-Ty}
 use Rattle.fort_base.specs.declared.ty.Ty.TheOpen.{Ty-F}
-use Rattle.fort_types.specs.Hierarchy.{Hierarchy}
+use Rattle.fort_types.specs.Hierarchy.{DeclaredTypes}
 use Rattle.fort_types.specs.Types.{IsNumbered}
 use Rattle.fort_set.specs.declared.member.Member.{Member}
 use Rattle.fort_set.specs.declared.member.MemberKind.TheVariants as a_kind
@@ -20,7 +20,7 @@ abbrev pub HasNamed : Member → ℕ → TypeId → Type 0
 HasNamed d at t = (x : Ty) × (slice_get d.parameters at ≡ Some x) × (out-Ty x ≡ Ty-F.Named t)
 
 -- What a set of a component's members is, whatever its declarations say.
-pub record IsWellMade (h : Hierarchy) (s : MemberSet) : Type 0 where
+pub record IsWellMade (h : DeclaredTypes) (s : MemberSet) : Type 0 where
   -- all its declarations have one number of parameters
   pub width : (i j : ℕ) (p q : Member) → StandsAt s i p → StandsAt s j q → length p.parameters ≡ length q.parameters
   -- a dotted method's first parameter is a declared type, its receiver
@@ -34,7 +34,7 @@ pub record IsWellMade (h : Hierarchy) (s : MemberSet) : Type 0 where
   pub results : (i : ℕ) (d : Member) → StandsAt s i d → IsNumbered (length h) d.result
 
 -- A set keeps the overload rules.
-pub record KeepsRules (h : Hierarchy) (s : MemberSet) : Type 0 where
+pub record KeepsRules (h : DeclaredTypes) (s : MemberSet) : Type 0 where
   -- each two declarations pass
   pub pairs : (i j : ℕ) (p q : Member) → StandsAt s i p → StandsAt s j q → i < j → Passes h s p q
   -- each abstract declaration is covered for each object below its type

@@ -3,7 +3,7 @@ use Rattle.std.proofs.Common.{◌≡◌, ℕ, zero, suc, ◌-◌, ◌<◌, List,
 use Rattle.std.proofs.lemmas.Option.{none-some, same_Some}
 use Rattle.fort_base.specs.declared.ids.Loc.{Loc}
 use Rattle.fort_core.specs.declared.value.Value.{Value}
-use Rattle.fort_machine.specs.Deeds.{Store}
+use Rattle.fort_machine.specs.Effects.{Store}
 use Rattle.fort_machine.specs.Journals.{value_in}
 use Rattle.fort_machine.specs.Plain.{put}
 

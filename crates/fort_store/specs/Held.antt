@@ -2,7 +2,7 @@
 use Rattle.std.specs.Prelude.{ℕ, Option, Some, None, nat_eq}
 use Rattle.indexmap.specs.IndexMap.{get, spare}
 use Rattle.fort_core.specs.declared.value.Value.{Value}
-use Rattle.fort_machine.specs.Deeds as machine
+use Rattle.fort_machine.specs.Effects as machine
 use Rattle.fort_store.specs.declared.store.Store.{Store}
 
 -- The machine's store that a map keeps: at each location, by its number, the value that the map has for it, or none.

@@ -9,7 +9,7 @@ use Rattle.fort_core.specs.declared.term.Term.TheVariants.{outs-Group, outs-Call
 use Rattle.fort_core.specs.declared.term.Term.TheOpen.{Term-F}
 use Rattle.fort_core.specs.declared.value.Value.{Value, Tuple}
 use Rattle.fort_machine.specs.Texts.{depth, deepest}
-use Rattle.fort_machine.specs.Deeds.{printed}
+use Rattle.fort_machine.specs.Effects.{printed}
 use Rattle.fort_machine.specs.Ends.{open_yet, standing, throw_of, group}
 use Rattle.fort_machine.specs.Frames.{Frame, in_group, in_call, in_throw, on, plug}
 use Rattle.fort_machine.specs.Acts.{Act, stuck, calls, Together, at_values, leftmost, some_open, standing_together, by_together, throws_object, throwing, single}

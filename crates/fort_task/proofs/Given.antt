@@ -12,7 +12,7 @@ use Rattle.fort_core.specs.declared.term.Term as term
 use Rattle.fort_core.specs.declared.term.Term.TheOpen.{Value-F}
 use Rattle.fort_core.specs.declared.value.Value.{Value, Small, Large, out-Value}
 use Rattle.fort_machine.specs.Numbers.{within, is_within, number, too_large, bits_of}
-use Rattle.fort_machine.specs.Primitives.{Kind, Answer, gives, throws, prints, nothing, two_small, two_large, one_value, as_value}
+use Rattle.fort_machine.specs.Primitives.{ValueKind, Answer, gives, throws, prints, nothing, two_small, two_large, one_value, as_value}
 use Rattle.fort_machine.specs.Ends.{throw_of}
 use Rattle.fort_machine.specs.Acts.{Act, stuck, turns, enters, becomes, unit, single, object_of, throws_object, throwing}
 use Rattle.fort_machine.specs.Forms.{binding}
@@ -105,10 +105,10 @@ not_within_large (negsuc n) f = go (nat_lt n (2 ^ 63)) refl
     go false e = refl
 
 -- values that are two numbers, or aren't
-pub two_small_else : (f : ℤ → ℤ → Answer) (ks : List Kind) → ((a b : ℤ) → ks ≡ Value-F.Small a ∷ Value-F.Small b ∷ [] → ⊥) → two_small f ks ≡ nothing
+pub two_small_else : (f : ℤ → ℤ → Answer) (ks : List ValueKind) → ((a b : ℤ) → ks ≡ Value-F.Small a ∷ Value-F.Small b ∷ [] → ⊥) → two_small f ks ≡ nothing
 two_small_else f (Value-F.Small a ∷ Value-F.Small b ∷ []) n = absurd (n a b refl)
 two_small_else f _ n = refl
 
-pub two_large_else : (f : ℤ → ℤ → Answer) (ks : List Kind) → ((a b : ℤ) → ks ≡ Value-F.Large a ∷ Value-F.Large b ∷ [] → ⊥) → two_large f ks ≡ nothing
+pub two_large_else : (f : ℤ → ℤ → Answer) (ks : List ValueKind) → ((a b : ℤ) → ks ≡ Value-F.Large a ∷ Value-F.Large b ∷ [] → ⊥) → two_large f ks ≡ nothing
 two_large_else f (Value-F.Large a ∷ Value-F.Large b ∷ []) n = absurd (n a b refl)
 two_large_else f _ n = refl

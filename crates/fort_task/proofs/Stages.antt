@@ -12,14 +12,14 @@ use Rattle.fort_core.specs.declared.term.Term.TheVariants.{outs-Atomic, outs-Asl
 use Rattle.fort_core.specs.declared.term.Term.TheOpen.{Term-F}
 use Rattle.fort_core.specs.declared.value.Value.{Value}
 use Rattle.fort_core.specs.declared.value.Closure.{Closure}
-use Rattle.fort_machine.specs.Deeds.{Store, Deed, idle, printed, both, afterwards}
+use Rattle.fort_machine.specs.Effects.{Store, Effect, idle, printed, both, afterwards}
 use Rattle.fort_machine.specs.Ends.{open_yet, standing, throw_of}
 use Rattle.fort_machine.specs.Frames.{Frame, in_group, in_call, in_operand, in_let, in_then, in_throw, on, plug, road}
 use Rattle.fort_machine.specs.Acts.{unit}
 use Rattle.fort_machine.specs.Attempts.{Form, fresh, slept, Ended, goes}
 use Rattle.fort_machine.specs.Runs.{Runs, none, step, stop, attempt, path_to, location}
 use Rattle.fort_machine.specs.Journals.{opening_store, IsRun, PassesFuel, Ends}
-use Rattle.fort_machine.proofs.Deeds.{both_idle}
+use Rattle.fort_machine.proofs.WholeEffects.{both_idle}
 use Rattle.fort_machine.proofs.Runs.{append}
 use Rattle.fort_machine.proofs.Places.{on_layer, out_on, plug_open, ready_open}
 use Rattle.fort_machine.proofs.Ready.{form_ready}
@@ -56,7 +56,7 @@ stage_after p picks t output spent m r h = record {
 -- the next step passes the fuel
 pub passes : (p : Program) (fuel : ℕ) (t : Term) (output : List ℕ) (spent : ℕ) (m : Move) → Moves p t m → fuel < spent + m.cost → PassesFuel p fuel t (printed output spent) (pick_at m.path)
 passes p fuel t output spent m h lt = record {
-  deed = printed m.output m.cost;
+  effect = printed m.output m.cost;
   is_next = inl (goes m.term, one_pick p (opening_store p) t m h);
   bounded = λ l v e. absurd cc;
   passes = lt;
@@ -94,7 +94,7 @@ one_rest : (x y : Pick) (rest : List Pick) → x ∷ [] ≡ y ∷ rest → rest 
 one_rest x y rest e = cc
 
 -- where no thread has a step no pick is legal
-no_pick : (p : Program) (s : Store) (t : Term) → is_built t ≡ true → Still p t → (pick : Pick) (r : Ended) (d : Deed) → Runs p false true s (pick ∷ []) t r d → ⊥
+no_pick : (p : Program) (s : Store) (t : Term) → is_built t ≡ true → Still p t → (pick : Pick) (r : Ended) (d : Effect) → Runs p false true s (pick ∷ []) t r d → ⊥
 no_pick p s t h still pick r d (none a b c) = absurd cc
 no_pick p s t h still pick r d (step {a = a} {b = b} {d1 = d1} {loc = loc} fs e q l f k w) = still fs a b loc d1 q l
 no_pick p s t h still pick r d (stop fs i e q acts g w) = absurd cc
@@ -104,7 +104,7 @@ pub is_stuck : (p : Program) (s : Store) (t : Term) → is_built t ≡ true → 
 is_stuck p s t h still e = record { not_completed = e.0; not_thrown = e.1; no_pick = no_pick p s t h still }
 
 -- the end of a run, as the journal has it
-pub ends_so : (p : Program) (fuel : ℕ) (t : Term) (d : Deed) (e : Ending) → IsEnd t (Some e) → Ends p fuel t d e
+pub ends_so : (p : Program) (fuel : ℕ) (t : Term) (d : Effect) (e : Ending) → IsEnd t (Some e) → Ends p fuel t d e
 ends_so p fuel t d NotRun h = absurd h
 ends_so p fuel t d Completed h = h
 ends_so p fuel t d (Uncaught v) h = h
@@ -124,7 +124,7 @@ pub ends_out : (p : Program) (stage : Stage) (m : Move) (fuel : ℕ) → IsStage
     → Walks p fuel (record { journal = record { fuel = fuel; picks = stage.picks; ending = OutOfFuel (pick_at m.path) }; output = stage.output; stuck = None })
 ends_out p stage m fuel s le h lt = record {
   term = stage.term;
-  deed = printed stage.output stage.spent;
+  effect = printed stage.output stage.spent;
   is_run = s.is_run;
   within_fuel = le;
   is_fuel = refl;
@@ -137,7 +137,7 @@ pub ends_stuck : (p : Program) (stage : Stage) (fuel : ℕ) (o : Option Ending) 
     → Walks p fuel (record { journal = record { fuel = fuel; picks = stage.picks; ending = NotRun }; output = stage.output; stuck = Some stage.term })
 ends_stuck p stage fuel o s le still e n = record {
   term = stage.term;
-  deed = printed stage.output stage.spent;
+  effect = printed stage.output stage.spent;
   is_run = s.is_run;
   within_fuel = le;
   is_fuel = refl;
@@ -150,7 +150,7 @@ pub ends_run : (p : Program) (stage : Stage) (fuel : ℕ) (o : Option Ending) (e
     → Walks p fuel (record { journal = record { fuel = fuel; picks = stage.picks; ending = e }; output = stage.output; stuck = None })
 ends_run p stage fuel o e s le h n = record {
   term = stage.term;
-  deed = printed stage.output stage.spent;
+  effect = printed stage.output stage.spent;
   is_run = s.is_run;
   within_fuel = le;
   is_fuel = refl;

@@ -9,7 +9,7 @@ use Rattle.fort_core.specs.declared.term.Term as term
 use Rattle.fort_core.specs.declared.term.Term.TheVariants.{outs-Value, outs-Variable, outs-Throw, rolls-Throw, Variable}
 use Rattle.fort_core.specs.declared.term.Term.TheOpen.{Term-F}
 use Rattle.fort_core.specs.declared.value.Value.{Value}
-use Rattle.fort_machine.specs.Deeds.{Deed, printed}
+use Rattle.fort_machine.specs.Effects.{Effect, printed}
 use Rattle.fort_machine.specs.Ends.{Standing, at_value, at_throw, open_yet, standing, throw_of}
 use Rattle.fort_machine.specs.Frames.{Frame, in_throw, on, plug, road}
 use Rattle.fort_machine.specs.Acts.{Act, stuck, calls, becomes, by_standing, after}
@@ -40,7 +40,7 @@ pub next_by : (p : Program) (t : Term) (found : Option Move) → Owns p t found 
 next_by p t None o parts = still_by p t o parts
 next_by p t (Some m) o parts = own_moves p t m o
 
-no_act : (p : Program) (t : Term) (x : Act) → act p t ≡ x → ((set : SetId) (vs : List Value) → x ≡ calls set vs → ⊥) → Gives p x None → (loc : ℕ) (b : Term) (d : Deed) → Local p false loc t b d → ⊥
+no_act : (p : Program) (t : Term) (x : Act) → act p t ≡ x → ((set : SetId) (vs : List Value) → x ≡ calls set vs → ⊥) → Gives p x None → (loc : ℕ) (b : Term) (d : Effect) → Local p false loc t b d → ⊥
 no_act p t x e n g loc b d (steps y (by_itself q) k) = g loc b d (subst (λ z. Does p false loc z b d) (sym q ∙ e) k)
 no_act p t x e n g loc b d (steps y (by_call q h i) k) = absurd (n _ _ (sym e ∙ q))
 
@@ -55,7 +55,7 @@ same_call p set set' vs vs' d decl e h =
     let v : vs ≡ vs' = cc in
     (subst (λ x. Dispatches p x vs d decl) (sym s) (subst (λ x. Dispatches p set' x d decl) (sym v) h), v)
 
-no_call : (p : Program) (t : Term) (set : SetId) (vs : List Value) → act p t ≡ calls set vs → CallGives p set vs None → (loc : ℕ) (b : Term) (d : Deed) → Local p false loc t b d → ⊥
+no_call : (p : Program) (t : Term) (set : SetId) (vs : List Value) → act p t ≡ calls set vs → CallGives p set vs None → (loc : ℕ) (b : Term) (d : Effect) → Local p false loc t b d → ⊥
 no_call p t set vs e g loc b d (steps y (by_itself q) k) = absurd (subst (λ z. Does p false loc z b d) (sym q ∙ e) k)
 no_call p t set vs e g loc b d (steps y (by_call {set = set'} {values = vs'} {d = n} {decl = decl} q h i) k) =
     let s = same_call p set set' vs vs' n decl (sym e ∙ q) h in

@@ -6,7 +6,7 @@ use Rattle.fort_base.specs.declared.ids.DeclId.{DeclId}
 use Rattle.fort_core.specs.declared.program.Program.{Program}
 use Rattle.fort_core.specs.declared.term.Term.{Term}
 use Rattle.fort_core.specs.declared.value.Value.{Value}
-use Rattle.fort_machine.specs.Deeds.{Deed, printed}
+use Rattle.fort_machine.specs.Effects.{Effect, printed}
 use Rattle.fort_machine.specs.Frames.{Frame, plug, road}
 use Rattle.fort_machine.specs.Acts.{Act}
 use Rattle.fort_machine.specs.Calls.{Dispatches, by_body}
@@ -29,7 +29,7 @@ whole m t = record { path = m.path; term = t; output = m.output; cost = m.cost }
 
 -- No thread of a term has a step.
 abbrev pub Still : Program → Term → Type 0
-Still p t = (fs : List Frame) (a b : Term) (loc : ℕ) (d : Deed) → t ≡ plug fs a → Local p false loc a b d → ⊥
+Still p t = (fs : List Frame) (a b : Term) (loc : ℕ) (d : Effect) → t ≡ plug fs a → Local p false loc a b d → ⊥
 
 -- A thread of a term steps, makes no location, and does what the move says.
 pub record Moves (p : Program) (t : Term) (m : Move) : Type 0 where
@@ -69,7 +69,7 @@ NextPart p ts (Some m) = PartMoves p ts m
 
 -- What an act comes to, that makes no location: a step of the form itself, or none.
 abbrev pub Gives : Program → Act → Option Move → Type 0
-Gives p x None = (loc : ℕ) (b : Term) (d : Deed) → Does p false loc x b d → ⊥
+Gives p x None = (loc : ℕ) (b : Term) (d : Effect) → Does p false loc x b d → ⊥
 Gives p x (Some m) = (m.path ≡ []) × Does p false 0 x m.term (printed m.output m.cost) × IsTrue (is_built m.term) × (0 < m.cost)
 
 -- What a call of values comes to: what the declaration does that it runs, where it runs one.
@@ -79,5 +79,5 @@ CallGives p set vs (Some m) = (d : DeclId) × ((decl : CoreDecl) × Dispatches p
 
 -- What a form itself comes to.
 abbrev pub Owns : Program → Term → Option Move → Type 0
-Owns p t None = (loc : ℕ) (b : Term) (d : Deed) → Local p false loc t b d → ⊥
+Owns p t None = (loc : ℕ) (b : Term) (d : Effect) → Local p false loc t b d → ⊥
 Owns p t (Some m) = (m.path ≡ []) × Local p false 0 t m.term (printed m.output m.cost) × IsTrue (is_built m.term) × (0 < m.cost)

@@ -12,7 +12,7 @@ use Rattle.fort_core.specs.declared.program.Program.{Program}
 use Rattle.fort_core.specs.declared.term.Term.{Term}
 use Rattle.fort_core.specs.declared.term.Term as term
 use Rattle.fort_core.specs.declared.value.Value.{Value}
-use Rattle.fort_machine.specs.Deeds.{Store, Deed, afterwards}
+use Rattle.fort_machine.specs.Effects.{Store, Effect, afterwards}
 use Rattle.fort_machine.specs.Ends.{throw_of}
 use Rattle.fort_machine.specs.Acts.{unit}
 use Rattle.fort_machine.specs.Attempts.{Ended}
@@ -41,19 +41,19 @@ pub record IsBuiltProgram (p : Program) : Type 0 where
 pub record IsStuck (p : Program) (s : Store) (t : Term) : Type 0 where
   pub not_completed : t ≢ term.Value unit
   pub not_thrown : (v : Value) → t ≢ throw_of v
-  pub no_pick : (pick : Pick) (r : Ended) (d : Deed) → Runs p false true s (pick ∷ []) t r d → ⊥
+  pub no_pick : (pick : Pick) (r : Ended) (d : Effect) → Runs p false true s (pick ∷ []) t r d → ⊥
 
 -- How a walk that came to a term ends: as the journal says, within its fuel or out of it; or stuck there, and then the journal says that there was no run.
-abbrev pub EndsWalk : Program → ℕ → Term → Deed → Ending → Option Term → Type 0
+abbrev pub EndsWalk : Program → ℕ → Term → Effect → Ending → Option Term → Type 0
 EndsWalk p fuel t d ending None = Ends p fuel t d ending
 EndsWalk p fuel t d ending (Some u) = (u ≡ t) × (ending ≡ NotRun) × IsStuck p (afterwards d (opening_store p)) t
 
 -- A walk answers a run of the program within its fuel, what the run prints, and how it ends.
 pub record Walks (p : Program) (fuel : ℕ) (w : Walked) : Type 0 where
   pub term : Term
-  pub deed : Deed
-  pub is_run : IsRun p w.journal.picks term deed
-  pub within_fuel : deed.cost ≤ fuel
+  pub effect : Effect
+  pub is_run : IsRun p w.journal.picks term effect
+  pub within_fuel : effect.cost ≤ fuel
   pub is_fuel : w.journal.fuel ≡ fuel
-  pub is_output : w.output ≡ deed.output
-  pub ends : EndsWalk p fuel term deed w.journal.ending w.stuck
+  pub is_output : w.output ≡ effect.output
+  pub ends : EndsWalk p fuel term effect w.journal.ending w.stuck

@@ -6,7 +6,7 @@ use Rattle.fort_core.specs.declared.program.Program.{Program}
 use Rattle.fort_core.specs.declared.term.Term.{Term}
 use Rattle.fort_core.specs.declared.term.Term as term
 use Rattle.fort_core.specs.declared.value.Value.{Value}
-use Rattle.fort_machine.specs.Deeds.{printed}
+use Rattle.fort_machine.specs.Effects.{printed}
 use Rattle.fort_machine.specs.Ends.{throw_of}
 use Rattle.fort_machine.specs.Acts.{unit}
 use Rattle.fort_machine.specs.Journals.{IsRun}

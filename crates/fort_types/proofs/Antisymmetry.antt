@@ -3,7 +3,7 @@ use Rattle.std.proofs.Common.{◌≡◌, ℕ, suc, List, [], ◌∷◌, length, 
 use Rattle.std.specs.List.{slice_get}
 use Rattle.fort_base.specs.declared.ids.TypeId.{TypeId}
 use Rattle.fort_base.specs.declared.ty.Ty.{Ty, out-Ty}
-use Rattle.fort_types.specs.Hierarchy.{Hierarchy, Path, Sound}
+use Rattle.fort_types.specs.Hierarchy.{DeclaredTypes, Path, Sound}
 use Rattle.fort_types.specs.Types.{Below, nothing, any, named, tuple, array, arrow}
 use Rattle.fort_types.proofs.Paths.{both_ways}
 use Rattle.fort_types.proofs.ByParts.{Parts, by_parts, part_of, sides_of, same_layers}
@@ -16,7 +16,7 @@ same_lists (x ∷ xs) (y ∷ ys) n e =
     let r : x ≡ y = e 0 x y refl refl in
     let s : xs ≡ ys = same_lists xs ys (omega arith) (λ k u v p q. e (suc k) u v p q) in cc
 
-module _ (h : Hierarchy) (sound : Sound h) where
+module _ (h : DeclaredTypes) (sound : Sound h) where
   abbrev Same : Ty → Type 0
   Same a = (b : Ty) → Below h a b → Below h b a → a ≡ b
 

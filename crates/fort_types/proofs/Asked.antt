@@ -4,7 +4,7 @@ use Rattle.std.specs.List.{slice_get}
 use Rattle.fort_base.specs.declared.table.TypeTable.{TypeTable}
 use Rattle.fort_base.specs.declared.ty.Ty.{Ty, out-Ty, map-Ty, fold_out-Ty}
 use Rattle.fort_base.specs.declared.ty.Ty.TheOpen.{Ty-F}
-use Rattle.fort_types.specs.Hierarchy.{Hierarchy, Sound}
+use Rattle.fort_types.specs.Hierarchy.{DeclaredTypes, Sound}
 use Rattle.fort_types.specs.Types.{Below, declared, parts, function, elements, shape_of, IsNumbered, no_name, name, in_parts, in_sides, in_element}
 use Rattle.fort_types.specs.Layers.{Along, BelowLayer}
 use Rattle.fort_types.specs.Table.{HasRows}
@@ -70,7 +70,7 @@ turned R xs ys = (λ w. (sym w.0, λ k x y e f. w.1 k y x f e), λ w. (sym w.0, 
 through : (A B C : Type 0) → A ↔ B → B ↔ C → A ↔ C
 through A B C p q = (λ a. q.0 (p.0 a), λ c. p.1 (q.1 c))
 
-module _ (h : Hierarchy) (table : TypeTable) (sound : Sound h) (rows : HasRows h table) where
+module _ (h : DeclaredTypes) (table : TypeTable) (sound : Sound h) (rows : HasRows h table) where
   -- what is known of a type, both ways round
   abbrev Asked : Ty → Type 0
   Asked a = (b : Ty) → IsNumbered (length h) a → IsNumbered (length h) b → (IsTrue (relation table.below a true b) ↔ Below h a b) × (IsTrue (relation table.below a false b) ↔ Below h b a)
@@ -128,6 +128,6 @@ module _ (h : Hierarchy) (table : TypeTable) (sound : Sound h) (rows : HasRows h
         (λ t. below_of_layers h b a (w.1.0 (sym (ap (λ (f : Relation). f false b) e) ∙ t)), λ r. ap (λ (f : Relation). f false b) e ∙ w.1.1 (layers_of_below h r)),
       )
 
-pub relation_below : (h : Hierarchy) (table : TypeTable) → Sound h → HasRows h table → (a b : Ty) → IsNumbered (length h) a → IsNumbered (length h) b
+pub relation_below : (h : DeclaredTypes) (table : TypeTable) → Sound h → HasRows h table → (a b : Ty) → IsNumbered (length h) a → IsNumbered (length h) b
     → (IsTrue (relation table.below a true b) ↔ Below h a b) × (IsTrue (relation table.below a false b) ↔ Below h b a)
 relation_below h table sound rows a b = by_parts (Asked h table sound rows) (asked h table sound rows) a b

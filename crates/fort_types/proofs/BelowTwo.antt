@@ -4,7 +4,7 @@ use Rattle.std.specs.List.{slice_get}
 use Rattle.fort_base.specs.declared.ids.TypeId.{TypeId}
 use Rattle.fort_base.specs.declared.ty.Ty.{Ty, out-Ty}
 use Rattle.fort_base.specs.declared.ty.Ty.TheOpen.{Ty-F}
-use Rattle.fort_types.specs.Hierarchy.{Hierarchy, Path, Sound}
+use Rattle.fort_types.specs.Hierarchy.{DeclaredTypes, Path, Sound}
 use Rattle.fort_types.specs.Types.{Below, nothing, any, named, tuple, array, arrow, Shape, bottom, top, declared, parts, function, elements, shape, shape_of, IsLone, Apart, excluded, leaf, shapes, lengths, part, element, lower, flip, comprised, Solid, solid_one, solid_all}
 use Rattle.fort_types.proofs.Paths.{last_step, to_leaf}
 use Rattle.fort_types.proofs.Orders.{partner, itself, through, declared_as, is_declared}
@@ -17,7 +17,7 @@ pub solid_part : (t : Ty) (xs : List Ty) → Solid t → out-Ty t ≡ Ty-F.Tuple
 solid_part t xs (solid_one n m) e k x g = absurd (m (ap shape_of e))
 solid_part t xs (solid_all {xs = ys} f q) e k x g = let same : xs ≡ ys = cc in q k x (subst (λ l. slice_get l k ≡ Some x) same g)
 
-module _ (h : Hierarchy) where
+module _ (h : DeclaredTypes) where
   pub below_named : (x b : Ty) (j : TypeId) → Solid x → Below h x b → out-Ty b ≡ Ty-F.Named j → (i : TypeId) × (out-Ty x ≡ Ty-F.Named i) × Path h i.0 j.0
   below_named x b j s (nothing e) g = absurd (not_bottom x s e)
   below_named x b j s (any e) g = absurd cc

@@ -4,13 +4,13 @@ use Rattle.std.specs.List.{slice_get}
 use Rattle.fort_base.specs.declared.ids.TypeId.{TypeId}
 use Rattle.fort_base.specs.declared.ty.Ty.{Ty, out-Ty, roll-Ty, out-roll-Ty}
 use Rattle.fort_base.specs.declared.ty.Ty.TheOpen.{Ty-F}
-use Rattle.fort_types.specs.Hierarchy.{Hierarchy, Path, Trait, Lists, DeclaredApart}
+use Rattle.fort_types.specs.Hierarchy.{DeclaredTypes, Path, Trait, Lists, DeclaredApart}
 use Rattle.fort_types.specs.Hierarchy.{excluded as excluded_one, leaf as leaf_one, lower as lower_one, flip as flip_one, comprised as comprised_one}
 use Rattle.fort_types.specs.Types.{Below, nothing, any, named, tuple, array, arrow, Shape, bottom, top, declared, parts, function, elements, shape, shape_of, IsLone, Apart, excluded, leaf, shapes, lengths, part, element, lower, flip, comprised}
 use Rattle.fort_types.specs.Layers.{Differ, BelowLayer, ApartLayer}
 use Rattle.fort_types.proofs.Orders.{partner, declared_as, is_declared}
 
-module _ (h : Hierarchy) where
+module _ (h : DeclaredTypes) where
   any_layer : (x : Ty-F Ty) → BelowLayer h x Ty-F.Any
   any_layer Ty-F.Nothing = tt
   any_layer Ty-F.Any = tt
@@ -44,16 +44,16 @@ module _ (h : Hierarchy) where
   pub below_of_layers : (a b : Ty) → BelowLayer h (out-Ty a) (out-Ty b) → Below h a b
   below_of_layers a b = below_at a b (out-Ty a) (out-Ty b) refl refl
 
-differ_turned : (h : Hierarchy) (xs ys : List Ty) → Differ h xs ys → Differ h ys xs
+differ_turned : (h : DeclaredTypes) (xs ys : List Ty) → Differ h xs ys → Differ h ys xs
 differ_turned h xs ys (inl n) = inl (λ e. n (sym e))
 differ_turned h xs ys (inr w) = inr (sym w.0, (w.1.0, w.1.2, w.1.1, w.1.4, w.1.3, flip w.1.5))
 
-differ_lower : (h : Hierarchy) (xs ys zs : List Ty) → length xs ≡ length ys → ((k : ℕ) (x y : Ty) → slice_get xs k ≡ Some x → slice_get ys k ≡ Some y → Below h x y) → Differ h ys zs → Differ h xs zs
+differ_lower : (h : DeclaredTypes) (xs ys zs : List Ty) → length xs ≡ length ys → ((k : ℕ) (x y : Ty) → slice_get xs k ≡ Some x → slice_get ys k ≡ Some y → Below h x y) → Differ h ys zs → Differ h xs zs
 differ_lower h xs ys zs n q (inl m) = inl (λ e. m (sym n ∙ e))
 differ_lower h xs ys zs n q (inr w) = let x = partner ys xs w.1.0 w.1.1 w.1.3 (sym n) in
     inr (n ∙ w.0, (w.1.0, x.0, w.1.2, x.1, w.1.4, lower (q w.1.0 x.0 w.1.1 x.1 w.1.3) w.1.5))
 
-turned : (h : Hierarchy) (x y : Ty-F Ty) → ApartLayer h x y → ApartLayer h y x
+turned : (h : DeclaredTypes) (x y : Ty-F Ty) → ApartLayer h x y → ApartLayer h y x
 turned h Ty-F.Any y w = absurd w
 turned h x Ty-F.Any w = absurd w
 turned h (Ty-F.Named i) (Ty-F.Named j) w = flip_one w
@@ -62,33 +62,33 @@ turned h (Ty-F.Arrow p q) (Ty-F.Arrow r s) w = absurd w
 turned h (Ty-F.Array u) (Ty-F.Array v) w = λ e. w (sym e)
 turned h x y w = tt
 
-lower_bottom : (h : Hierarchy) (x y : Ty-F Ty) → ApartLayer h x y → ApartLayer h Ty-F.Nothing y
+lower_bottom : (h : DeclaredTypes) (x y : Ty-F Ty) → ApartLayer h x y → ApartLayer h Ty-F.Nothing y
 lower_bottom h Ty-F.Any y w = absurd w
 lower_bottom h x Ty-F.Any w = absurd w
 lower_bottom h x y w = tt
 
-lower_named : (h : Hierarchy) (i j : TypeId) → Path h i.0 j.0 → (y : Ty-F Ty) → ApartLayer h (Ty-F.Named j) y → ApartLayer h (Ty-F.Named i) y
+lower_named : (h : DeclaredTypes) (i j : TypeId) → Path h i.0 j.0 → (y : Ty-F Ty) → ApartLayer h (Ty-F.Named j) y → ApartLayer h (Ty-F.Named i) y
 lower_named h i j p Ty-F.Any w = absurd w
 lower_named h i j p (Ty-F.Named k) w = lower_one p w
 lower_named h i j p y w = tt
 
-lower_tuple : (h : Hierarchy) (xs ys : List Ty) → length xs ≡ length ys → ((k : ℕ) (x y : Ty) → slice_get xs k ≡ Some x → slice_get ys k ≡ Some y → Below h x y) → (y : Ty-F Ty) → ApartLayer h (Ty-F.Tuple ys) y → ApartLayer h (Ty-F.Tuple xs) y
+lower_tuple : (h : DeclaredTypes) (xs ys : List Ty) → length xs ≡ length ys → ((k : ℕ) (x y : Ty) → slice_get xs k ≡ Some x → slice_get ys k ≡ Some y → Below h x y) → (y : Ty-F Ty) → ApartLayer h (Ty-F.Tuple ys) y → ApartLayer h (Ty-F.Tuple xs) y
 lower_tuple h xs ys n q Ty-F.Any w = absurd w
 lower_tuple h xs ys n q (Ty-F.Tuple zs) w = differ_lower h xs ys zs n q w
 lower_tuple h xs ys n q y w = tt
 
-lower_arrow : (h : Hierarchy) (p q r s : Ty) → (y : Ty-F Ty) → ApartLayer h (Ty-F.Arrow r s) y → ApartLayer h (Ty-F.Arrow p q) y
+lower_arrow : (h : DeclaredTypes) (p q r s : Ty) → (y : Ty-F Ty) → ApartLayer h (Ty-F.Arrow r s) y → ApartLayer h (Ty-F.Arrow p q) y
 lower_arrow h p q r s Ty-F.Any w = absurd w
 lower_arrow h p q r s (Ty-F.Arrow t u) w = absurd w
 lower_arrow h p q r s y w = tt
 
-abbrev At : Hierarchy → Ty-F Ty → Ty-F Ty → Type 0
+abbrev At : DeclaredTypes → Ty-F Ty → Ty-F Ty → Type 0
 At h y x = ApartLayer h x y
 
-any_never : (h : Hierarchy) (y : Ty-F Ty) → ApartLayer h Ty-F.Any y → ⊥
+any_never : (h : DeclaredTypes) (y : Ty-F Ty) → ApartLayer h Ty-F.Any y → ⊥
 any_never h y w = w
 
-lower_layer : (h : Hierarchy) (a c : Ty) → Below h a c → (y : Ty-F Ty) → ApartLayer h (out-Ty c) y → ApartLayer h (out-Ty a) y
+lower_layer : (h : DeclaredTypes) (a c : Ty) → Below h a c → (y : Ty-F Ty) → ApartLayer h (out-Ty c) y → ApartLayer h (out-Ty a) y
 lower_layer h a c (nothing e) y w = subst (At h y) (sym e) (lower_bottom h (out-Ty c) y w)
 lower_layer h a c (any e) y w = absurd (any_never h y (subst (At h y) e w))
 lower_layer h a c (named {i = i} {j = j} e f p) y w = subst (At h y) (sym e) (lower_named h i j p y (subst (At h y) f w))
@@ -96,13 +96,13 @@ lower_layer h a c (tuple {xs = xs} {ys = ys} e f n q) y w = subst (At h y) (sym 
 lower_layer h a c (array e f) y w = subst (At h y) (f ∙ sym e) w
 lower_layer h a c (arrow {p = p} {q = q} {r = r} {s = s} e f l m) y w = subst (At h y) (sym e) (lower_arrow h p q r s y (subst (At h y) f w))
 
-listed_layer : (h : Hierarchy) (i : TypeId) (u : ℕ) → Trait h i.0 → Lists h i.0 u → (y : Ty-F Ty)
+listed_layer : (h : DeclaredTypes) (i : TypeId) (u : ℕ) → Trait h i.0 → Lists h i.0 u → (y : Ty-F Ty)
     → ((v : ℕ) → Lists h i.0 v → ApartLayer h (Ty-F.Named (record { 0 = v })) y) → ApartLayer h (Ty-F.Named i) y
 listed_layer h i u t l Ty-F.Any k = k u l
 listed_layer h i u t l (Ty-F.Named j) k = comprised_one u t l k
 listed_layer h i u t l y k = tt
 
-module _ (h : Hierarchy) where
+module _ (h : DeclaredTypes) where
   two : (a b : Ty) (x y : Ty-F Ty) → out-Ty a ≡ x → out-Ty b ≡ y → ApartLayer h x y → ApartLayer h (out-Ty a) (out-Ty b)
   two a b x y e f w = subst (λ z. ApartLayer h z (out-Ty b)) (sym e) (subst (λ z. ApartLayer h x z) (sym f) w)
 

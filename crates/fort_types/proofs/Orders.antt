@@ -5,7 +5,7 @@ use Rattle.std.proofs.lemmas.Option.{slice_get_within, slice_get-get_or}
 use Rattle.fort_base.specs.declared.ids.TypeId.{TypeId}
 use Rattle.fort_base.specs.declared.ty.Ty.{Ty, out-Ty, roll-Ty, out-roll-Ty}
 use Rattle.fort_base.specs.declared.ty.Ty.TheOpen.{Ty-F}
-use Rattle.fort_types.specs.Hierarchy.{Hierarchy, Path, stop}
+use Rattle.fort_types.specs.Hierarchy.{DeclaredTypes, Path, stop}
 use Rattle.fort_types.specs.Types.{Below, nothing, any, named, tuple, array, arrow}
 use Rattle.fort_types.proofs.Paths.{joined}
 use Rattle.fort_types.proofs.ByParts.{Parts, by_parts, part_of, sides_of}
@@ -22,7 +22,7 @@ pub is_declared : (u : ℕ) → out-Ty (declared_as u) ≡ Ty-F.Named (record { 
 unfolding declared_as
 is_declared u = out-roll-Ty (Ty-F.Named (record { 0 = u }))
 
-module _ (h : Hierarchy) where
+module _ (h : DeclaredTypes) where
   abbrev Itself : Ty → Type 0
   Itself t = Below h t t
 

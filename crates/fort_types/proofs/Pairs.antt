@@ -2,9 +2,9 @@
 use Rattle.std.proofs.Common.{◌≡◌, ◌<◌, ◌⊎◌, inl, inr, ◌↔◌, ℕ, zero, suc, Bool, IsTrue, List, [], ◌∷◌, length, get_or, slice_index, refl, sym, ap, ◌∙◌, subst, arith, Some}
 use Rattle.std.specs.List.{slice_get, Contains}
 use Rattle.std.proofs.lemmas.Option.{slice_get-get_or}
-use Rattle.fort_types.specs.declared.hierarchy.Declared.{Declared}
-use Rattle.fort_types.specs.declared.hierarchy.Kind.TheVariants as a_kind
-use Rattle.fort_types.specs.Hierarchy.{Hierarchy}
+use Rattle.fort_types.specs.declared.hierarchy.DeclaredType.{DeclaredType}
+use Rattle.fort_types.specs.declared.hierarchy.TypeKind.TheVariants as a_kind
+use Rattle.fort_types.specs.Hierarchy.{DeclaredTypes}
 use Rattle.fort_types.specs.Square.{Bits, Bit, Sized, AnyBit}
 use Rattle.fort_types.specs.Rounds.{Excluding, LeafApart, ListApart, Parts, by_turn, by_exclusion, by_leaf, by_above, by_list}
 use Rattle.fort_types.proofs.Bits.{bit_inside}
@@ -26,10 +26,10 @@ index_of xs x w = get_or_any xs w.0 x w.1 ∙ w.2
     get_or_any (x ∷ xs) (suc k) d l = get_or_any xs k d (omega arith)
 
 -- the five tests of a pair
-abbrev Tests : Hierarchy → Bits → ℕ → ℕ → Declared → Type 0
+abbrev Tests : DeclaredTypes → Bits → ℕ → ℕ → DeclaredType → Type 0
 Tests h rows a b d = Bit rows b a ⊎ (Excluding h d b ⊎ (LeafApart h d a b ⊎ (AnyBit rows d.extends b ⊎ ListApart d rows b)))
 
-parts_by : (h : Hierarchy) (rows : Bits) (a b : ℕ) (d : Declared) → Sized (length h) rows → slice_get h a ≡ Some d → Tests h rows a b d ↔ Parts h rows a b
+parts_by : (h : DeclaredTypes) (rows : Bits) (a b : ℕ) (d : DeclaredType) → Sized (length h) rows → slice_get h a ≡ Some d → Tests h rows a b d ↔ Parts h rows a b
 parts_by h rows a b d sized e = (there, back)
   where
     there : Tests h rows a b d → Parts h rows a b
@@ -40,41 +40,41 @@ parts_by h rows a b d sized e = (there, back)
         (d, e, contains_index d.extends f.0 f.1, let l = bit_inside rows (slice_index d.extends f.0) b f.2 in let m = sized.high in omega arith) f.2
     there (inr (inr (inr (inr f)))) = by_list (slice_index d.comprises 0) (d, e, f.0) (d, e, contains_index d.comprises 0 f.1) (λ v w. listed v w)
       where
-        listed : (v : ℕ) → (n : Declared) × (slice_get h a ≡ Some n) × Contains n.comprises v → Bit rows v b
-        listed v w = let g : w.0 ≡ d = cc in let c : Contains d.comprises v = subst (λ (z : Declared). Contains z.comprises v) g w.2 in
+        listed : (v : ℕ) → (n : DeclaredType) × (slice_get h a ≡ Some n) × Contains n.comprises v → Bit rows v b
+        listed v w = let g : w.0 ≡ d = cc in let c : Contains d.comprises v = subst (λ (z : DeclaredType). Contains z.comprises v) g w.2 in
             subst (λ z. Bit rows z b) (index_of d.comprises v c) (f.2 c.0 c.1)
 
     back : Parts h rows a b → Tests h rows a b d
     back (by_turn f) = inl f
     back (by_exclusion s t f) = let g : s.0 ≡ d = cc in let k : f.0 ≡ d = cc in
-        inr (inl (subst (λ (z : Declared). z.kind ≡ a_kind.Trait) g s.2, t, subst (λ (z : Declared). Contains z.excludes b) k f.2))
-    back (by_leaf s m n) = let g : s.0 ≡ d = cc in inr (inr (inl (subst (λ (z : Declared). z.kind ≡ a_kind.Trait → ⊥) g s.2, m, n)))
-    back (by_above c f g) = let k : f.0 ≡ d = cc in let w : Contains d.extends c = subst (λ (z : Declared). Contains z.extends c) k f.2 in
+        inr (inl (subst (λ (z : DeclaredType). z.kind ≡ a_kind.Trait) g s.2, t, subst (λ (z : DeclaredType). Contains z.excludes b) k f.2))
+    back (by_leaf s m n) = let g : s.0 ≡ d = cc in inr (inr (inl (subst (λ (z : DeclaredType). z.kind ≡ a_kind.Trait → ⊥) g s.2, m, n)))
+    back (by_above c f g) = let k : f.0 ≡ d = cc in let w : Contains d.extends c = subst (λ (z : DeclaredType). Contains z.extends c) k f.2 in
         inr (inr (inr (inl (w.0, w.1, subst (λ z. Bit rows z b) (sym (index_of d.extends c w)) g))))
     back (by_list u t f g) = let k : t.0 ≡ d = cc in let m : f.0 ≡ d = cc in
-        let w : Contains d.comprises u = subst (λ (z : Declared). Contains z.comprises u) m f.2 in
+        let w : Contains d.comprises u = subst (λ (z : DeclaredType). Contains z.comprises u) m f.2 in
         inr (inr (inr (inr (
-          subst (λ (z : Declared). z.kind ≡ a_kind.Trait) k t.2,
+          subst (λ (z : DeclaredType). z.kind ≡ a_kind.Trait) k t.2,
           let l = w.1 in omega arith,
           λ i l. g (slice_index d.comprises i) (d, e, contains_index d.comprises i l),
         ))))
 
-pub stands : (h : Hierarchy) (a : ℕ) (d : Declared) → a < length h → d ≡ get_or h a d → slice_get h a ≡ Some d
+pub stands : (h : DeclaredTypes) (a : ℕ) (d : DeclaredType) → a < length h → d ≡ get_or h a d → slice_get h a ≡ Some d
 stands h a d l e = slice_get-get_or h a d l ∙ ap Some (sym e)
 
-pub turn_found : (h : Hierarchy) (rows : Bits) (a b : ℕ) → Bit rows b a → Parts h rows a b
+pub turn_found : (h : DeclaredTypes) (rows : Bits) (a b : ℕ) → Bit rows b a → Parts h rows a b
 turn_found h rows a b e = by_turn e
 
-pub exclusion_found : (h : Hierarchy) (rows : Bits) (a b : ℕ) (d : Declared) → Sized (length h) rows → slice_get h a ≡ Some d → Excluding h d b → Parts h rows a b
+pub exclusion_found : (h : DeclaredTypes) (rows : Bits) (a b : ℕ) (d : DeclaredType) → Sized (length h) rows → slice_get h a ≡ Some d → Excluding h d b → Parts h rows a b
 exclusion_found h rows a b d s e w = (parts_by h rows a b d s e).0 (inr (inl w))
 
-pub leaf_found : (h : Hierarchy) (rows : Bits) (a b : ℕ) (d : Declared) → Sized (length h) rows → slice_get h a ≡ Some d → LeafApart h d a b → Parts h rows a b
+pub leaf_found : (h : DeclaredTypes) (rows : Bits) (a b : ℕ) (d : DeclaredType) → Sized (length h) rows → slice_get h a ≡ Some d → LeafApart h d a b → Parts h rows a b
 leaf_found h rows a b d s e w = (parts_by h rows a b d s e).0 (inr (inr (inl w)))
 
-pub any_found : (h : Hierarchy) (rows : Bits) (a b : ℕ) (d : Declared) (xs : List ℕ) → Sized (length h) rows → slice_get h a ≡ Some d → xs ≡ d.extends → AnyBit rows xs b → Parts h rows a b
+pub any_found : (h : DeclaredTypes) (rows : Bits) (a b : ℕ) (d : DeclaredType) (xs : List ℕ) → Sized (length h) rows → slice_get h a ≡ Some d → xs ≡ d.extends → AnyBit rows xs b → Parts h rows a b
 any_found h rows a b d xs s e f w = (parts_by h rows a b d s e).0 (inr (inr (inr (inl (subst (λ l. AnyBit rows l b) f w)))))
 
-pub list_found : (h : Hierarchy) (rows : Bits) (a b : ℕ) (d : Declared) (xs : List ℕ) (r : Bool) → Sized (length h) rows → slice_get h a ≡ Some d → xs ≡ d.extends
+pub list_found : (h : DeclaredTypes) (rows : Bits) (a b : ℕ) (d : DeclaredType) (xs : List ℕ) (r : Bool) → Sized (length h) rows → slice_get h a ≡ Some d → xs ≡ d.extends
     → (Bit rows b a → ⊥) → (Excluding h d b → ⊥) → (LeafApart h d a b → ⊥) → (AnyBit rows xs b → ⊥) → (IsTrue r ↔ ListApart d rows b) → IsTrue r ↔ Parts h rows a b
 list_found h rows a b d xs r s e f n m o p w = (
   λ t. (parts_by h rows a b d s e).0 (inr (inr (inr (inr (w.0 t))))),

@@ -4,8 +4,8 @@ use Rattle.std.specs.List.{slice_get, slice_set, Contains}
 use Rattle.std.proofs.lemmas.Option.{slice_get_within, slice_get-get_or}
 use Rattle.std.proofs.lemmas.List.Sums.{sum_by-cons}
 use Rattle.std.proofs.lemmas.List.Elements.{Contains-push, Contains-push_cases, Contains-append_left}
-use Rattle.fort_types.specs.declared.hierarchy.Declared.{Declared}
-use Rattle.fort_types.specs.Hierarchy.{Hierarchy, Path, stop, along}
+use Rattle.fort_types.specs.declared.hierarchy.DeclaredType.{DeclaredType}
+use Rattle.fort_types.specs.Hierarchy.{DeclaredTypes, Path, stop, along}
 use Rattle.fort_types.specs.Table.{is_set, IsExact}
 use Rattle.fort_types.specs.Square.{open_bit, falses, blank_row}
 use Rattle.fort_types.specs.Supertypes.{mark, IsMarked, Reaches, known, fresh, ReachesEach, Found, IsRow, AreRows}
@@ -146,7 +146,7 @@ one_reached xs n b row mid new found some more e r (fresh k f p q) = record {
     here = subst (λ l. IsMarked l b) (sym p) (marked_here mid b k)
 
 -- at the start the type itself is marked
-pub found_first : (h : Hierarchy) (a : ℕ) (row : List Bool) (found : List ℕ) → a < length h → row ≡ slice_set (blank_row (length h)) a true → found ≡ a ∷ [] → Found h a row found 0
+pub found_first : (h : DeclaredTypes) (a : ℕ) (row : List Bool) (found : List ℕ) → a < length h → row ≡ slice_set (blank_row (length h)) a true → found ≡ a ∷ [] → Found h a row found 0
 found_first h a row found l e f = record {
   long = ap length e ∙ marked_long (blank_row (length h)) a ∙ length-same (length h) false;
   start = start;
@@ -163,10 +163,10 @@ found_first h a row found l e f = record {
     is_a j m = elim (marked_source (blank_row (length h)) a j (subst (λ z. IsMarked z j) e m)) as (λ _. a ≡ j) [ inl u ↦ absurd (unmarked (length h) j u) | inr u ↦ u ]
 
 -- the numbers of the list are the hierarchy's
-pub found_inside : (h : Hierarchy) (a : ℕ) (row : List Bool) (found : List ℕ) (done k c : ℕ) → Found h a row found done → slice_get found k ≡ Some c → c < length h
+pub found_inside : (h : DeclaredTypes) (a : ℕ) (row : List Bool) (found : List ℕ) (done k c : ℕ) → Found h a row found done → slice_get found k ≡ Some c → c < length h
 found_inside h a row found done k c f e = let l = marked_inside row c (f.marked c (contains_at found k c e)) in let m = f.long in omega arith
 
-pub index_inside : (h : Hierarchy) (a : ℕ) (row : List Bool) (found list : List ℕ) (done : ℕ) → Found h a row found done → list ≡ found → done < length found → get_or list done 0 < length h
+pub index_inside : (h : DeclaredTypes) (a : ℕ) (row : List Bool) (found list : List ℕ) (done : ℕ) → Found h a row found done → list ≡ found → done < length found → get_or list done 0 < length h
 index_inside h a row found list done f e l = found_inside h a row found done done (get_or list done 0) f
     (slice_get-get_or found done 0 l ∙ ap (λ (z : List ℕ). let y : Option ℕ = Some (get_or z done 0) in y) (sym e))
 
@@ -174,7 +174,7 @@ pub next_read : (found list : List ℕ) (done : ℕ) → list ≡ found → done
 next_read found list done e l = slice_get-get_or found done 0 l ∙ ap (λ (z : List ℕ). let y : Option ℕ = Some (get_or z done 0) in y) (sym e)
 
 -- the next of the list has been looked at
-pub found_more : (h : Hierarchy) (a at done : ℕ) (d : Declared) (xs : List ℕ) (row new : List Bool) (found more : List ℕ) → Found h a row found done → slice_get found done ≡ Some at
+pub found_more : (h : DeclaredTypes) (a at done : ℕ) (d : DeclaredType) (xs : List ℕ) (row new : List Bool) (found more : List ℕ) → Found h a row found done → slice_get found done ≡ Some at
     → slice_get h at ≡ Some d → xs ≡ d.extends → ReachesEach xs (length xs) row new found more → Found h a new more (done + 1)
 found_more h a at done d xs row new found more f e g q r = record {
   long = r.long ∙ f.long;
@@ -191,7 +191,7 @@ found_more h a at done d xs row new found more f e g q r = record {
     | inl u ↦ (let w = place_of found c (listed_before k c m u) in r.kept b (f.closed k c b u (before k c m u) x))
     | inr u ↦ (let s : slice_get more k ≡ slice_get more done = ap (slice_get more) u in let t : slice_get more done ≡ Some at = r.front done at e in
         let v : at ≡ c = cc in let y : slice_get h c ≡ Some d = subst (λ z. slice_get h z ≡ Some d) v g in let z : x.0 ≡ d = cc in
-        let i : Contains xs b = subst (λ l. Contains l b) (sym q) (subst (λ (n : Declared). Contains n.extends b) z x.2) in
+        let i : Contains xs b = subst (λ l. Contains l b) (sym q) (subst (λ (n : DeclaredType). Contains n.extends b) z x.2) in
         let w = place_of xs b i in r.each w.0 b (slice_get_within xs w.0 b w.1) w.1 (let n = f.long in let o = x.3 in omega arith))
   ];
 }
@@ -207,7 +207,7 @@ found_more h a at done d xs row new found more f e g q r = record {
     listed_before k c m l = contains_at found k c (before k c m l)
 
 -- once the whole list has been looked at, the row is that of the type
-pub found_all : (h : Hierarchy) (a : ℕ) (row : List Bool) (found : List ℕ) (done : ℕ) → Found h a row found done → length found ≤ done → IsRow (Path h a) (length h) row
+pub found_all : (h : DeclaredTypes) (a : ℕ) (row : List Bool) (found : List ℕ) (done : ℕ) → Found h a row found done → length found ≤ done → IsRow (Path h a) (length h) row
 found_all h a row found done f n = record { long = f.long; marks = λ j l. (λ m. f.sound j m, λ p. reached a f.start j p) }
   where
     reached : (c : ℕ) → IsMarked row c → (j : ℕ) → Path h c j → IsMarked row j
@@ -216,7 +216,7 @@ found_all h a row found done f n = record { long = f.long; marks = λ j l. (λ m
         let l = slice_get_within found w.0 c w.1 in reached b (f.closed w.0 c b (omega arith) w.1 x) j p
 
 -- one row more
-pub one_row : (h : Hierarchy) (rows : List (List Bool)) (row : List Bool) (a : ℕ) → length rows ≡ a → AreRows h rows → IsRow (Path h a) (length h) row → AreRows h (rows ++ row ∷ [])
+pub one_row : (h : DeclaredTypes) (rows : List (List Bool)) (row : List Bool) (a : ℕ) → length rows ≡ a → AreRows h rows → IsRow (Path h a) (length h) row → AreRows h (rows ++ row ∷ [])
 one_row h rows row a n r e = record {
   each = λ i x g. elim (last rows row i x g) as (λ _. IsRow (Path h i) (length h) x) [
     | inl u ↦ r.each i x u
@@ -231,11 +231,11 @@ one_row h rows row a n r e = record {
     last (z ∷ xs) y (suc k) x e = elim (last xs y k x e) as (λ _. (slice_get xs k ≡ Some x) ⊎ ((suc k ≡ suc (length xs)) × (x ≡ y)))
         [ inl u ↦ inl u | inr u ↦ inr (ap suc u.0, u.1) ]
 
-pub no_rows : (h : Hierarchy) → AreRows h []
+pub no_rows : (h : DeclaredTypes) → AreRows h []
 no_rows h = record { each = λ i row e. absurd cc }
 
 -- all rows
-pub all_rows : (h : Hierarchy) (rows : List (List Bool)) → length rows ≡ length h → AreRows h rows → IsExact (Path h) (length h) rows
+pub all_rows : (h : DeclaredTypes) (rows : List (List Bool)) → length rows ≡ length h → AreRows h rows → IsExact (Path h) (length h) rows
 all_rows h rows n r = record {
   high = n;
   wide = λ i row e. (r.each i row e).long;

@@ -1,6 +1,6 @@
 -- The chapter "Types": what the code has found so far on the way up from a type, as a row of marks and the list of what is marked.
 use Rattle.std.specs.Prelude.{◌≡◌, ◌<◌, ◌+◌, ◌↔◌, ◌⊎◌, ℕ, Bool, true, false, IsTrue, List, [], ◌∷◌, ◌++◌, length, slice_get, slice_set, Some, unwrap_or, Contains}
-use Rattle.fort_types.specs.Hierarchy.{Hierarchy, Extends, Path}
+use Rattle.fort_types.specs.Hierarchy.{DeclaredTypes, Extends, Path}
 use Rattle.fort_types.specs.Square.{falses}
 
 -- The mark at a place of a row, and none past its end.
@@ -27,7 +27,7 @@ pub record ReachesEach (xs : List ℕ) (n : ℕ) (row new : List Bool) (found mo
   pub marked : (b : ℕ) → Contains more b → Contains found b ⊎ IsMarked new b
 
 -- What is found on the way up from type `a`, where the first `done` of the list have been looked at.
-pub record Found (h : Hierarchy) (a : ℕ) (row : List Bool) (found : List ℕ) (done : ℕ) : Type 0 where
+pub record Found (h : DeclaredTypes) (a : ℕ) (row : List Bool) (found : List ℕ) (done : ℕ) : Type 0 where
   pub long : length row ≡ length h
   pub start : IsMarked row a
   pub sound : (j : ℕ) → IsMarked row j → Path h a j
@@ -41,5 +41,5 @@ pub record IsRow (R : ℕ → Type 0) (n : ℕ) (row : List Bool) : Type 0 where
   pub marks : (j : ℕ) → j < n → IsMarked row j ↔ R j
 
 -- The rows are those of the first types.
-pub record AreRows (h : Hierarchy) (rows : List (List Bool)) : Type 0 where
+pub record AreRows (h : DeclaredTypes) (rows : List (List Bool)) : Type 0 where
   pub each : (i : ℕ) (row : List Bool) → slice_get rows i ≡ Some row → IsRow (Path h i) (length h) row

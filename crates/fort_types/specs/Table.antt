@@ -1,7 +1,7 @@
 -- The chapter "Types": the two rows of each declared type. The code keeps them as lists of bits.
 use Rattle.std.specs.Prelude.{◌≡◌, ◌<◌, ◌↔◌, ℕ, Bool, false, IsTrue, List, length, slice_get, Some, unwrap_or, option_and_then}
 use Rattle.fort_base.specs.declared.table.TypeTable.{TypeTable}
-use Rattle.fort_types.specs.Hierarchy.{Hierarchy, Path, DeclaredApart}
+use Rattle.fort_types.specs.Hierarchy.{DeclaredTypes, Path, DeclaredApart}
 
 -- Whether a row has its place set; past the rows and past their ends no place is.
 abbrev pub is_set : List (List Bool) → ℕ → ℕ → Bool
@@ -14,6 +14,6 @@ pub record IsExact (R : ℕ → ℕ → Type 0) (n : ℕ) (rows : List (List Boo
   pub sets : (i j : ℕ) → i < n → j < n → IsTrue (is_set rows i j) ↔ R i j
 
 -- The table has the rows of this hierarchy.
-pub record HasRows (h : Hierarchy) (table : TypeTable) : Type 0 where
+pub record HasRows (h : DeclaredTypes) (table : TypeTable) : Type 0 where
   pub below : IsExact (Path h) (length h) table.below
   pub apart : IsExact (DeclaredApart h) (length h) table.apart

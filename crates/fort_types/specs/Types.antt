@@ -3,10 +3,10 @@ use Rattle.std.specs.Prelude.{◌≡◌, ◌≢◌, ℕ, ◌<◌, List, length, 
 use Rattle.fort_base.specs.declared.ids.TypeId.{TypeId}
 use Rattle.fort_base.specs.declared.ty.Ty.{Ty, out-Ty}
 use Rattle.fort_base.specs.declared.ty.Ty.TheOpen.{Ty-F}
-use Rattle.fort_types.specs.Hierarchy.{Hierarchy, Path, Trait, Leaf, Excludes, Lists}
+use Rattle.fort_types.specs.Hierarchy.{DeclaredTypes, Path, Trait, Leaf, Excludes, Lists}
 
 -- One type is below another.
-pub data Below (h : Hierarchy) : Ty → Ty → Type 0 where
+pub data Below (h : DeclaredTypes) : Ty → Ty → Type 0 where
   nothing : {a b : Ty} → out-Ty a ≡ Ty-F.Nothing → Below h a b
   any : {a b : Ty} → out-Ty b ≡ Ty-F.Any → Below h a b
   named : {a b : Ty} {i j : TypeId} → out-Ty a ≡ Ty-F.Named i → out-Ty b ≡ Ty-F.Named j → Path h i.0 j.0 → Below h a b
@@ -38,7 +38,7 @@ IsLone elements = Unit {0}
 IsLone _ = ⊥
 
 -- Two types are apart: the least symmetric relation with these rules.
-pub data Apart (h : Hierarchy) : Ty → Ty → Type 0 where
+pub data Apart (h : DeclaredTypes) : Ty → Ty → Type 0 where
   -- two traits one of which excludes the other
   excluded : {a b : Ty} {i j : TypeId} → out-Ty a ≡ Ty-F.Named i → out-Ty b ≡ Ty-F.Named j
       → Trait h i.0 → Trait h j.0 → Excludes h i.0 j.0 → Apart h a b

@@ -6,7 +6,7 @@ ghost use Rattle.fort_types.specs.Table.{IsExact, HasRows};
 ghost use Rattle.fort_types.specs.Square.{unset};
 ghost use Rattle.fort_types.specs.Rounds.{Holds, Progress, ClosedAt, ClosedIn, ClosedTo};
 
-use crate::hierarchy::Declared;
+use crate::hierarchy::DeclaredType;
 use crate::parting::parted;
 use crate::square::Square;
 use crate::supertypes::supertypes;
@@ -16,7 +16,7 @@ use std::alloc::Global;
 /// The table of the declared types, each of whose numbers is its place in the list: a type is below another exactly where a path of `extends` leads there, and apart from another exactly where the rules say so.
 ///
 /// Any list will do: what makes a hierarchy an accepted one can be read off its table. Where memory is wanting there is no table.
-pub fn rows(alloc: Global, hierarchy: &[Declared]) -> Result<TypeTable, Memory>
+pub fn rows(alloc: Global, hierarchy: &[DeclaredType]) -> Result<TypeTable, Memory>
     ensures { IfOk result (HasRows hierarchy.now) }
 {
     let below = supertypes(alloc, hierarchy)?;
@@ -27,7 +27,7 @@ pub fn rows(alloc: Global, hierarchy: &[Declared]) -> Result<TypeTable, Memory>
 /// The rows of apart.
 fn aparts(
     alloc: Global,
-    types: &[Declared],
+    types: &[DeclaredType],
     below: &List<List<bool>>,
 ) -> Result<List<List<bool>>, Memory>
     requires { IsExact (Path types.now) (length types.now) below.now }
@@ -52,7 +52,7 @@ fn by_height(alloc: Global, below: &List<List<bool>>) -> Result<Vec<(usize, usiz
 
 /// Adds bits, and says whether some may be missing.
 fn grown(
-    types: &[Declared],
+    types: &[DeclaredType],
     below: &List<List<bool>>,
     order: &[(usize, usize)],
     rows: &mut Square,
@@ -68,7 +68,12 @@ fn grown(
 }
 
 /// Adds bits from the top of the hierarchy down, for what is inherited, and from the bottom up, for what is listed.
-fn sweep(types: &[Declared], below: &List<List<bool>>, order: &[(usize, usize)], rows: &mut Square)
+fn sweep(
+    types: &[DeclaredType],
+    below: &List<List<bool>>,
+    order: &[(usize, usize)],
+    rows: &mut Square,
+)
     requires below { IsExact (Path types.now) (length types.now) below.now }
     requires holds { Holds types.now rows.old }
     ensures holds { Holds types.now rows.new }
@@ -84,7 +89,7 @@ fn sweep(types: &[Declared], below: &List<List<bool>>, order: &[(usize, usize)],
 }
 
 /// Adds bits to a row, where there is such a row.
-fn grow_known(types: &[Declared], below: &List<List<bool>>, rows: &mut Square, a: usize)
+fn grow_known(types: &[DeclaredType], below: &List<List<bool>>, rows: &mut Square, a: usize)
     requires below { IsExact (Path types.now) (length types.now) below.now }
     requires holds { Holds types.now rows.old }
     ensures holds { Holds types.now rows.new }
@@ -97,7 +102,7 @@ fn grow_known(types: &[Declared], below: &List<List<bool>>, rows: &mut Square, a
 
 /// Adds bits to each row, and says whether it added any.
 #[tactic(auto, using(crate::proofs::Closure::round_step, crate::proofs::Closure::no_step))]
-fn round(types: &[Declared], below: &List<List<bool>>, rows: &mut Square) -> bool
+fn round(types: &[DeclaredType], below: &List<List<bool>>, rows: &mut Square) -> bool
     requires below { IsExact (Path types.now) (length types.now) below.now }
     requires holds { Holds types.now rows.old }
     ensures holds { Holds types.now rows.new }
@@ -112,7 +117,7 @@ fn round(types: &[Declared], below: &List<List<bool>>, rows: &mut Square) -> boo
 
 /// Adds bits to a row, and says whether it added any.
 #[tactic(auto, using(crate::proofs::Closure::row_step, crate::proofs::Closure::no_step))]
-fn grow_row(types: &[Declared], below: &List<List<bool>>, rows: &mut Square, a: usize) -> bool
+fn grow_row(types: &[DeclaredType], below: &List<List<bool>>, rows: &mut Square, a: usize) -> bool
     requires below { IsExact (Path types.now) (length types.now) below.now }
     requires holds { Holds types.now rows.old }
     requires inside { a < length types.now }
@@ -129,7 +134,7 @@ fn grow_row(types: &[Declared], below: &List<List<bool>>, rows: &mut Square, a: 
 /// Sets a bit where one use of the rules asks for it, and says whether it wasn't set before.
 #[tactic(auto, using(crate::proofs::Closure::no_step, crate::proofs::Closure::one_step))]
 fn grow_at(
-    types: &[Declared],
+    types: &[DeclaredType],
     below: &List<List<bool>>,
     rows: &mut Square,
     a: usize,

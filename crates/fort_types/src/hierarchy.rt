@@ -1,12 +1,12 @@
-//! Declared types, as a component writes them.
+//! DeclaredType types, as a component writes them.
 ghost use Rattle.std.specs.Prelude.{◌≡◌, ◌↔◌, IsTrue};
-ghost use Rattle.fort_types.specs.declared.hierarchy.Kind.TheVariants as a_kind;
+ghost use Rattle.fort_types.specs.declared.hierarchy.TypeKind.TheVariants as a_kind;
 
 use fort_base::List;
 
 /// What a declared type is.
 #[derive(Clone, Copy, Debug, PartialEq, Eq)]
-pub enum Kind {
+pub enum TypeKind {
     /// `trait`, and the built-in `Object` and `Exception`.
     Trait,
     /// `object`, and the built-in exceptions.
@@ -19,8 +19,8 @@ pub enum Kind {
 ///
 /// A number past the hierarchy's end names no type and counts for nothing.
 #[derive(Drop)]
-pub struct Declared {
-    pub kind: Kind,
+pub struct DeclaredType {
+    pub kind: TypeKind,
     /// `extends { .. }`
     pub extends: List<usize>,
     /// `excludes { .. }`
@@ -29,14 +29,14 @@ pub struct Declared {
     pub comprises: List<usize>,
 }
 
-impl Kind {
+impl TypeKind {
     /// Whether other types may extend the type.
     pub fn is_trait(self) -> bool
         ensures { IsTrue result ↔ (self ≡ a_kind.Trait) }
     {
         match self {
-            Kind::Trait => true,
-            Kind::Object | Kind::Leaf => false,
+            TypeKind::Trait => true,
+            TypeKind::Object | TypeKind::Leaf => false,
         }
     }
 }

@@ -10,7 +10,7 @@ mod supertypes;
 mod terms;
 
 pub use closing::rows;
-pub use hierarchy::{Declared, Kind};
+pub use hierarchy::{DeclaredType, TypeKind};
 pub use laws::{apart_is_symmetric, below_is_an_order, no_type_below_two, relation_is_below};
 pub use square::set_at;
 pub use terms::{apart, below};

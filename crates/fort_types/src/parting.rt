@@ -5,14 +5,14 @@ ghost use Rattle.fort_types.specs.Table.{IsExact};
 ghost use Rattle.fort_types.specs.Square.{Sized};
 ghost use Rattle.fort_types.specs.Rounds.{Parts, ListApart, LeafApart, Excluding};
 
-use crate::hierarchy::Declared;
+use crate::hierarchy::DeclaredType;
 use crate::square::{Square, set_at};
 use fort_base::List;
 
 /// Whether some rule makes two types apart, where those are apart whose bits are set.
 #[tactic(auto, using(crate::proofs::Pairs::turn_found, crate::proofs::Pairs::exclusion_found, crate::proofs::Pairs::leaf_found, crate::proofs::Pairs::any_found, crate::proofs::Pairs::list_found))]
 pub fn parted(
-    types: &[Declared],
+    types: &[DeclaredType],
     below: &List<List<bool>>,
     rows: &Square,
     a: usize,
@@ -41,7 +41,7 @@ pub fn parted(
 }
 
 /// Whether a trait excludes a trait.
-fn excluding(types: &[Declared], declared: &Declared, b: usize) -> bool
+fn excluding(types: &[DeclaredType], declared: &DeclaredType, b: usize) -> bool
     ensures { IsTrue result ↔ Excluding types.now declared.now b }
 {
     match types.get(b) {
@@ -54,9 +54,9 @@ fn excluding(types: &[Declared], declared: &Declared, b: usize) -> bool
 
 /// Whether an object or leaf and another type have neither below the other.
 fn leaf_apart(
-    types: &[Declared],
+    types: &[DeclaredType],
     below: &List<List<bool>>,
-    declared: &Declared,
+    declared: &DeclaredType,
     a: usize,
     b: usize,
 ) -> bool
@@ -69,7 +69,7 @@ fn leaf_apart(
 }
 
 /// Whether a trait has a list, and each type in it has its bit set.
-fn list_apart(rows: &Square, declared: &Declared, b: usize) -> bool
+fn list_apart(rows: &Square, declared: &DeclaredType, b: usize) -> bool
     ensures { IsTrue result ↔ ListApart declared.now rows.now b }
 {
     declared.kind.is_trait()

@@ -6,13 +6,13 @@ ghost use Rattle.fort_types.specs.Hierarchy.{Path};
 ghost use Rattle.fort_types.specs.Table.{IsExact};
 ghost use Rattle.fort_types.specs.Supertypes.{mark, Reaches, ReachesEach, IsRow};
 
-use crate::hierarchy::Declared;
+use crate::hierarchy::DeclaredType;
 use crate::square::blank;
 use fort_base::{List, Memory};
 use std::alloc::Global;
 
 /// The rows of below, exactly the paths of `extends`.
-pub fn supertypes(alloc: Global, types: &[Declared]) -> Result<List<List<bool>>, Memory>
+pub fn supertypes(alloc: Global, types: &[DeclaredType]) -> Result<List<List<bool>>, Memory>
     ensures { IfOk result (IsExact (Path types.now) (length types.now)) }
 {
     let mut rows = List::new(alloc);
@@ -24,7 +24,7 @@ pub fn supertypes(alloc: Global, types: &[Declared]) -> Result<List<List<bool>>,
 
 /// The row of one type. What is marked stands in a list once, and the list is walked until nothing new is found.
 #[tactic(auto, using(crate::proofs::Upwards::index_inside))]
-fn row_of(alloc: Global, types: &[Declared], a: usize) -> Result<List<bool>, Memory>
+fn row_of(alloc: Global, types: &[DeclaredType], a: usize) -> Result<List<bool>, Memory>
     requires { a < length types.now }
     ensures { IfOk result (IsRow (Path types.now a) (length types.now)) }
 {

@@ -19,7 +19,8 @@ use Rattle.fort_core.specs.declared.value.Value.{Value, out-Value}
 use Rattle.fort_types.specs.Relation.{Relation, named_below, below_at, relation}
 use Rattle.fort_machine.specs.Types.{all_below, type_of}
 use Rattle.fort_machine.specs.Cells.{untouched, made}
-use Rattle.fort_machine.specs.Deeds.{Deed, paid, reading, writing, making}
+use Rattle.fort_machine.specs.Effects.{Effect, paid, reading, writing, making}
+use Rattle.fort_machine.specs.Ends.{at_value, standing, has_stepped}
 use Rattle.fort_machine.specs.Acts.{asks, sets, makes, calls, becomes, unit, by_standing, after_all, with_first, at_values, by_together}
 use Rattle.fort_machine.specs.Forms.{act_at, act, choosing, writing_at}
 use Rattle.fort_machine.specs.Substitution.{located}
@@ -86,10 +87,10 @@ module _ (p : Program) where
   chooses inner v a b c e = steps (becomes c)
       (by_itself (ap (act_at p) (outs-If (term.Value v) a b) ∙ ap (λ st. by_standing st (λ w. choosing (out-Value w) a b)) (standing-Value v) ∙ e)) (refl, refl, refl)
 
-  pub ends_both : (inner : Bool) (v w : Value) → Local p inner 0 (Also (term.Value v ∷ term.Value w ∷ [])) (term.Value unit) (paid 1)
-  ends_both inner v w = steps (becomes (term.Value unit))
-      (by_itself (ap (act_at p) (outs-Also (term.Value v ∷ term.Value w ∷ []))
-      ∙ (λ i. by_together (with_first (standing-Value v i) (with_first (standing-Value w i) (at_values []))) (λ vs. becomes (term.Value unit)))))
+  pub ends_both : (inner : Bool) (a b : Term) (v w : Value) → standing a ≡ at_value v → standing b ≡ at_value w → Local p inner 0 (Also (a ∷ b ∷ [])) (term.Value unit) (paid 1)
+  ends_both inner a b v w ea eb = steps (becomes (term.Value unit))
+      (by_itself (ap (act_at p) (outs-Also (a ∷ b ∷ []))
+      ∙ (λ i. by_together (with_first (ea i) (has_stepped a) (with_first (eb i) (has_stepped b) (at_values []))) (λ vs. becomes (term.Value unit)))))
       (refl, refl, refl)
 
 -- declared types, by the rows
@@ -99,7 +100,7 @@ named_in_rows rows n m = ap (λ t. relation rows t true (Named m)) (sym (rolls-N
     ∙ ap (below_at rows (Ty-F.Named n) true) (outs-Named m)
 
 -- what makes the location 9 alone stays in bounds
-pub nine_in_bounds : (d : Deed) → ((l : ℕ) → (9 == l) ≡ false → d.cells l ≡ untouched) → MakesWithinBounds d
+pub nine_in_bounds : (d : Effect) → ((l : ℕ) → (9 == l) ≡ false → d.cells l ≡ untouched) → MakesWithinBounds d
 nine_in_bounds d h l v e = go (9 == l) refl
   where
     go : (b : Bool) → (9 == l) ≡ b → l < 2 ^ 64

@@ -11,8 +11,8 @@ use Rattle.fort_core.specs.declared.term.Term.TheOpen.{Value-F}
 use Rattle.fort_core.specs.declared.value.Value.{Value, fold-roll-Value}
 use Rattle.fort_core.specs.declared.value.Value.TheVariants.{rolls-Object}
 use Rattle.fort_machine.specs.Types.{type_at, type_of, has_type, domain_of, below}
-use Rattle.fort_machine.specs.Deeds.{Store, Deed, idle, paid, writing, making, both, FitsAll, afterwards, completing}
-use Rattle.fort_machine.specs.Deeds as deeds
+use Rattle.fort_machine.specs.Effects.{Store, Effect, idle, paid, writing, making, both, FitsAll, afterwards, completing}
+use Rattle.fort_machine.specs.Effects as effects
 use Rattle.fort_machine.specs.Ends.{throw_of}
 use Rattle.fort_machine.specs.Frames.{in_then, in_try}
 use Rattle.fort_machine.specs.Acts.{becomes, enters, unit}
@@ -75,41 +75,41 @@ catches = steps (becomes (term.Value unit))
     (refl, refl, refl)
 
 -- the inner attempt
-abbrev inner_deed : Deed
-inner_deed = both (writing 9 (number 5)) (both (paid 1) idle)
+abbrev inner_effect : Effect
+inner_effect = both (writing 9 (number 5)) (both (paid 1) idle)
 
-inner_run : (s : Store) (v : Value) → s 9 ≡ Some v → Runs failing true true s inner_picks (inner_body nine) (goes (throw_of exception)) inner_deed
-inner_run s v e = step (in_then (throw_of exception) ∷ []) refl refl (writes failing true 9 (number 5)) ((writes_plainly 9 (number 5) s).0.1 (v, e))
-    (step [] refl refl (goes_on failing true unit (throw_of exception)) (λ l. tt) (none refl refl refl) refl) refl
+inner_run : (s : Store) (v : Value) → s 9 ≡ Some v → Runs failing true true s inner_picks (inner_body nine) (goes (throw_of exception)) inner_effect
+inner_run s v e = step (in_then (throw_of exception) ∷ []) refl refl refl (writes failing true 9 (number 5)) ((writes_plainly 9 (number 5) s).0.1 (v, e))
+    (step [] refl refl refl (goes_on failing true unit (throw_of exception)) (λ l. tt) (none refl refl refl) refl) refl
 
 pub inner_fails : InnerFails
 inner_fails s v e = (
-  deeds.failing inner_deed,
-  attempt_is_one_pick failing true true mode.Atomic [] s inner_picks (inner nine) (throw_of exception) (inner_body nine) (goes (throw_of exception)) inner_deed (deeds.failing inner_deed)
-      (fresh refl) (bare_inner nine) (inl (awake s mode.Atomic (inner_body nine))) (inner_run s v e) (failed exception refl refl refl),
+  effects.failing inner_effect,
+  attempt_is_one_pick failing true true mode.Atomic [] s inner_picks (inner nine) (throw_of exception) (inner_body nine) (goes (throw_of exception)) inner_effect (effects.failing inner_effect)
+      refl (fresh refl) (bare_inner nine) (inl (awake s mode.Atomic (inner_body nine))) (inner_run s v e) (failed exception refl refl refl),
   refl,
   refl,
   e,
 )
 
 -- the outer attempt
-abbrev outer_deed : Deed
-outer_deed = both (writing 9 (number 1)) (both (paid 1) (both (deeds.failing inner_deed) (both (paid 1) idle)))
+abbrev outer_effect : Effect
+outer_effect = both (writing 9 (number 1)) (both (paid 1) (both (effects.failing inner_effect) (both (paid 1) idle)))
 
-outer_run : (s : Store) (v : Value) → s 9 ≡ Some v → Runs failing true true s (outer_picks inner_picks) (outer_body nine) (goes (term.Value unit)) outer_deed
+outer_run : (s : Store) (v : Value) → s 9 ≡ Some v → Runs failing true true s (outer_picks inner_picks) (outer_body nine) (goes (term.Value unit)) outer_effect
 outer_run s v e =
     let s1 : Store = afterwards (writing 9 (number 1)) s in
     let s2 : Store = afterwards (paid 1) s1 in
-    step (in_then (catching nine) ∷ []) refl refl (writes failing true 9 (number 1)) ((writes_plainly 9 (number 1) s).0.1 (v, e))
-    (step [] refl refl (goes_on failing true unit (catching nine)) (λ l. tt)
-    (attempt (in_try 1 clauses None ∷ []) refl refl (fresh refl) (bare_inner nine) (inl (awake s2 mode.Atomic (inner_body nine))) (inner_run s2 (number 1) refl) (failed exception refl refl refl)
-    (step [] refl refl catches (λ l. tt) (none refl refl refl) refl) refl) refl) refl
+    step (in_then (catching nine) ∷ []) refl refl refl (writes failing true 9 (number 1)) ((writes_plainly 9 (number 1) s).0.1 (v, e))
+    (step [] refl refl refl (goes_on failing true unit (catching nine)) (λ l. tt)
+    (attempt (in_try 1 clauses None ∷ []) refl refl refl (fresh refl) (bare_inner nine) (inl (awake s2 mode.Atomic (inner_body nine))) (inner_run s2 (number 1) refl) (failed exception refl refl refl)
+    (step [] refl refl refl catches (λ l. tt) (none refl refl refl) refl) refl) refl) refl
 
 pub outer_completes : OuterCompletes
 outer_completes s v e = (
-  completing outer_deed,
-  attempt_is_one_pick failing false true mode.Atomic [] s (outer_picks inner_picks) (outer nine) (term.Value unit) (outer_body nine) (goes (term.Value unit)) outer_deed (completing outer_deed)
-      (fresh refl) (bare_outer nine) (inl (awake s mode.Atomic (outer_body nine))) (outer_run s v e) (completed unit refl refl refl),
+  completing outer_effect,
+  attempt_is_one_pick failing false true mode.Atomic [] s (outer_picks inner_picks) (outer nine) (term.Value unit) (outer_body nine) (goes (term.Value unit)) outer_effect (completing outer_effect)
+      refl (fresh refl) (bare_outer nine) (inl (awake s mode.Atomic (outer_body nine))) (outer_run s v e) (completed unit refl refl refl),
   refl,
   refl,
   refl,
@@ -131,8 +131,8 @@ nine_is_free n h = let e : n ≡ 0 = omega arith in ap (λ k. store_then (9 + k)
 pub nine_made : FitsAll (making 9 (number 0 ∷ []) 1) store_then
 nine_made = (makes_plainly 9 (number 0 ∷ []) 1 store_then).0.1 nine_is_free
 
-abbrev done : Deed
-done = both (paid 1) (both (making 9 (number 0 ∷ []) 1) (both (completing outer_deed) idle))
+abbrev done : Effect
+done = both (paid 1) (both (making 9 (number 0 ∷ []) 1) (both (completing outer_effect) idle))
 
 within_bounds : MakesWithinBounds done
 within_bounds = nine_in_bounds done (λ l q. rw q)
@@ -142,8 +142,8 @@ recovers = (
   done,
   record {
     is_run = record {
-      runs = step [] refl refl first_step (λ l. tt) (step [] refl refl second_step nine_made
-          (attempt [] refl refl (fresh refl) (bare_outer nine) (inl (awake _ mode.Atomic (outer_body nine))) (outer_run _ (number 0) refl) (completed unit refl refl refl)
+      runs = step [] refl refl refl first_step (λ l. tt) (step [] refl refl refl second_step nine_made
+          (attempt [] refl refl refl (fresh refl) (bare_outer nine) (inl (awake _ mode.Atomic (outer_body nine))) (outer_run _ (number 0) refl) (completed unit refl refl refl)
           (none refl refl refl) refl) refl) refl;
       bounded = within_bounds;
     };

@@ -11,7 +11,7 @@ use Rattle.fort_core.specs.declared.term.Term.TheOpen.{Term-F}
 use Rattle.fort_core.specs.declared.value.Value.{Value}
 use Rattle.fort_core.specs.declared.value.Closure.{Closure}
 use Rattle.fort_machine.specs.Substitution.{with_value, substituted, at_location, with_location, closure_now, located}
-use Rattle.fort_machine.specs.Deeds.{Store}
+use Rattle.fort_machine.specs.Effects.{Store}
 use Rattle.fort_machine.specs.Marked.{dozes_at, dozes, Bare}
 use Rattle.fort_machine.specs.Attempts.{Sleeps}
 

@@ -4,11 +4,11 @@ use Rattle.fort_core.specs.declared.term.Term.{Term, Call, out-Term}
 use Rattle.fort_core.specs.declared.term.Term as term
 use Rattle.fort_core.specs.declared.term.Term.TheVariants.{outs-Call}
 use Rattle.fort_core.specs.declared.term.Term.TheOpen.{Term-F}
-use Rattle.fort_machine.specs.Deeds.{paid}
+use Rattle.fort_machine.specs.Effects.{paid}
 use Rattle.fort_machine.specs.Ends.{at_value, open_yet, standing}
 use Rattle.fort_machine.specs.Acts.{enters, calls}
 use Rattle.fort_machine.specs.Forms.{act_at, act}
-use Rattle.fort_machine.specs.Frames.{Frame, in_call, in_throw, plug, part_number, road}
+use Rattle.fort_machine.specs.Frames.{Frame, in_call, in_throw, plug, part_number, road, passed}
 use Rattle.fort_machine.specs.Steps.{by_call, Local, steps}
 use Rattle.fort_machine.specs.Attempts.{Ready}
 use Rattle.fort_machine.specs.Worked.{set, decl, letter, printing, run_decl, hello}
@@ -37,9 +37,9 @@ sole_argument a in_throw x ns e q = absurd cc
 sole_argument a _ x ns e q = absurd cc
 
 -- an argument at a value is no thread
-finished : (gs : List Frame) (a : Term) → printing ≡ plug gs a → 0 ∷ [] ≡ road gs → Ready a → ⊥
-finished [] a e q r = cc
-finished (f ∷ gs) a e q r =
+finished : (gs : List Frame) (a : Term) → printing ≡ plug gs a → 0 ∷ [] ≡ road gs → Ready a → passed gs a ≡ false → ⊥
+finished [] a e q r n = cc
+finished (f ∷ gs) a e q r n =
     let o = plug_open gs a (ready_open a r) in
     let h = sole_argument (term.Value letter) f (plug gs a) (road gs) (sym (outs-Call (set 1) _) ∙ ap out-Term e ∙ out_on f (plug gs a) o) q in
     let z : at_value letter ≡ open_yet = sym (standing-Value letter) ∙ ap standing (sym h) ∙ o in cc

@@ -9,3 +9,4 @@ pub mod FailingRun
 pub mod LeftOut
 pub mod SleepingRun
 pub mod Waiting
+pub mod PassingRun

@@ -1,5 +1,5 @@
 -- The run that overflows.
-use Rattle.std.proofs.Common.{◌≡◌, ℕ, Bool, true, false, ◌&&◌, ◌||◌, List, [], ◌∷◌, ◌++◌, map, refl, ap, sym, ◌∙◌, arith}
+use Rattle.std.proofs.Common.{◌≡◌, ℕ, Bool, true, false, ◌&&◌, ◌||◌, List, [], ◌∷◌, ◌++◌, map, refl, ap, sym, ◌∙◌, arith, ◌⊎◌, inl, inr}
 use Rattle.std.specs.Prelude.{pos, ◌+ℤ◌, ℤ}
 use Rattle.fort_base.specs.declared.ty.Ty.{Ty, Arrow, out-Ty, fold-roll-Ty}
 use Rattle.fort_base.specs.declared.ty.Ty.TheVariants.{Named, outs-Named, rolls-Named}
@@ -13,19 +13,19 @@ use Rattle.fort_core.specs.declared.value.Value.TheVariants.{rolls-Small, outs-S
 use Rattle.fort_types.specs.Relation.{Relation, below_at, relation}
 use Rattle.fort_machine.specs.Types.{all_below, type_at, type_of, domain_of}
 use Rattle.fort_machine.specs.Numbers.{number}
-use Rattle.fort_machine.specs.Primitives.{Kind, small}
-use Rattle.fort_machine.specs.Deeds.{Deed, idle, paid, both}
-use Rattle.fort_machine.specs.Ends.{open_yet, standing_at, standing, throw_of}
+use Rattle.fort_machine.specs.Primitives.{ValueKind, small}
+use Rattle.fort_machine.specs.Effects.{Effect, idle, paid, both}
+use Rattle.fort_machine.specs.Ends.{open_yet, standing_at, standing, throw_of, Finished, stepped, has_stepped}
 use Rattle.fort_machine.specs.Acts.{enters, calls, becomes, at_values, with_first, by_together}
 use Rattle.fort_machine.specs.Forms.{act_at, act}
 use Rattle.fort_machine.specs.Calls.{by_answer}
 use Rattle.fort_machine.specs.Marked.{dozes_at, dozes, Bare}
-use Rattle.fort_machine.specs.Frames.{Frame, in_call, in_throw, plug, part_number, road}
+use Rattle.fort_machine.specs.Frames.{Frame, in_call, in_throw, plug, part_number, road, passes, passed}
 use Rattle.fort_machine.specs.Steps.{by_call, by_itself, Local, steps}
 use Rattle.fort_machine.specs.Attempts.{Ready}
 use Rattle.fort_machine.specs.Runs.{none, step}
 use Rattle.fort_machine.specs.Worked.{type, set, decl}
-use Rattle.fort_machine.proofs.Standing.{standing-throw, not_finished}
+use Rattle.fort_machine.proofs.Standing.{standing_stepped_throw, not_finished}
 use Rattle.fort_machine.proofs.Places.{on_layer, out_on, plug_open, ready_open}
 use Rattle.fort_worked.specs.Overflow.{sum, printing_sum, run_decl, plus_decl, overflow, overflowing, Overflows, SumIsPartZero}
 use Rattle.fort_worked.proofs.Picked.{value_bare, after_value, runs_the_one, goes_on, none_begins}
@@ -77,17 +77,17 @@ operand_kinds = λ j. outs-Small (pos 2147483647) j ∷ outs-Small (pos 1) j ∷
 second_step : Local overflowing false 0 sum (throw_of overflow) (paid 1)
 second_step = steps (becomes (throw_of overflow))
     (by_call calls_plus (runs_the_one overflowing 2 (decl 2) plus_decl operands refl refl operands_fit)
-    (ap (λ (ks : List Kind). by_answer overflowing (small overflowing (λ a b. number (a +ℤ b)) ks)) operand_kinds))
+    (ap (λ (ks : List ValueKind). by_answer overflowing (small overflowing (λ a b. number (a +ℤ b)) ks)) operand_kinds))
     (refl, refl, refl)
 
 -- the call of `println` is thrown
-third_step : Local overflowing false 0 (Call (set 1) (throw_of overflow ∷ [])) (throw_of overflow) (paid 1)
+third_step : Local overflowing false 0 (Call (set 1) (stepped (throw_of overflow) ∷ [])) (throw_of overflow) (paid 1)
 third_step = steps (becomes (throw_of overflow))
-    (by_itself (ap (act_at overflowing) (outs-Call (set 1) _) ∙ ap (λ st. by_together (with_first st (at_values [])) (calls (set 1))) (standing-throw overflow)))
+    (by_itself (ap (act_at overflowing) (outs-Call (set 1) _) ∙ ap (λ st. by_together (with_first st (has_stepped (stepped (throw_of overflow))) (at_values [])) (calls (set 1))) (standing_stepped_throw overflow)))
     (refl, refl, refl)
 
 -- what all three do
-abbrev done : Deed
+abbrev done : Effect
 done = both (paid 1) (both (paid 1) (both (paid 1) idle))
 
 abbrev at_sum : List Frame
@@ -98,7 +98,7 @@ overflows = (
   done,
   record {
     is_run = record {
-      runs = step [] refl refl first_step (λ l. tt) (step at_sum refl refl second_step (λ l. tt) (step [] refl refl third_step (λ l. tt) (none refl refl refl) refl) refl) refl;
+      runs = step [] refl refl refl first_step (λ l. tt) (step at_sum refl refl refl second_step (λ l. tt) (step [] refl refl refl third_step (λ l. tt) (none refl refl refl) refl) refl) refl;
       bounded = λ l v e. absurd cc;
     };
     within_fuel = omega arith;
@@ -117,9 +117,13 @@ call_has_parts arguments (in_call other before behind) x ns e q = cc
 call_has_parts arguments in_throw x ns e q = cc
 call_has_parts arguments _ x ns e q = cc
 
-waits : (gs : List Frame) (a : Term) → printing_sum ≡ plug gs a → [] ≡ road gs → Ready a → ⊥
-waits [] a e q r = not_finished sum sum_open (r.no_part (in_call (set 1) [] []) sum (sym e))
-waits (f ∷ gs) a e q r =
+waits : (gs : List Frame) (a : Term) → printing_sum ≡ plug gs a → [] ≡ road gs → Ready a → passed gs a ≡ false → ⊥
+waits [] a e q r n = go (r.no_part (in_call (set 1) [] []) sum (sym e))
+  where
+    go : Finished sum ⊎ (passes (in_call (set 1) [] []) sum ≡ true) → ⊥
+    go (inl h) = not_finished sum sum_open h
+    go (inr h) = cc
+waits (f ∷ gs) a e q r n =
     call_has_parts (sum ∷ []) f (plug gs a) (road gs) (sym (outs-Call (set 1) _) ∙ ap out-Term e ∙ out_on f (plug gs a) (plug_open gs a (ready_open a r))) q
 
 pub sum_is_part_zero : SumIsPartZero

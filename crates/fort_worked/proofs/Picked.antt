@@ -1,5 +1,5 @@
 -- The pick that a run begins with, and what it leaves to the picks behind it.
-use Rattle.std.proofs.Common.{◌≡◌, ℕ, zero, suc, ◌<◌, Bool, true, false, List, [], ◌∷◌, map, Some, refl, ap, sym, ◌∙◌, subst, arith}
+use Rattle.std.proofs.Common.{◌≡◌, ℕ, zero, suc, ◌<◌, Bool, true, false, ◌&&◌, ◌||◌, List, [], ◌∷◌, map, Some, refl, ap, sym, ◌∙◌, subst, arith}
 use Rattle.std.specs.Prelude.{slice_get, IsTrue, Contains}
 use Rattle.std.specs.List.{slice_index_or}
 use Rattle.fort_base.specs.declared.ids.DeclId.{DeclId}
@@ -16,8 +16,9 @@ use Rattle.fort_core.specs.declared.value.Value.{Value}
 use Rattle.fort_machine.specs.Types.{all_below, type_of}
 use Rattle.fort_machine.specs.Acts.{Act, by_standing, after}
 use Rattle.fort_machine.specs.Marked.{dozes_at, dozes}
-use Rattle.fort_machine.specs.Deeds.{Store, Deed, FitsAll, afterwards}
-use Rattle.fort_machine.specs.Frames.{Frame, plug, road}
+use Rattle.fort_machine.specs.Effects.{Store, Effect, FitsAll, afterwards}
+use Rattle.fort_machine.specs.Ends.{is_still, is_thrown}
+use Rattle.fort_machine.specs.Frames.{Frame, in_block, plug, road, passed, trodden}
 use Rattle.fort_machine.specs.Calls.{IsApplicable, Dispatches}
 use Rattle.fort_machine.specs.Steps.{Local}
 use Rattle.fort_machine.specs.Attempts.{Ready, Ended}
@@ -65,18 +66,19 @@ record Begins (p : Program) (fs : List Frame) (rest : List Pick) (s : Store) (t 
   pub frames : List Frame
   pub part : Term
   pub next : Term
-  pub did : Deed
-  pub later : Deed
+  pub did : Effect
+  pub later : Effect
   pub is_term : t ≡ plug frames part
   pub is_road : road fs ≡ road frames
+  pub reached : passed frames part ≡ false
   pub steps : Local p false 0 part next did
   pub fits : FitsAll did s
-  pub runs : Runs p false true (afterwards did s) rest (plug frames next) r later
+  pub runs : Runs p false true (afterwards did s) rest (plug (trodden frames) next) r later
 
 module _ (p : Program) (fs : List Frame) (rest : List Pick) (s : Store) (t : Term) (r : Ended) where
-  begins : (picks : List Pick) (d : Deed) → picks ≡ Step (path_to fs) (location 0) ∷ rest → Runs p false true s picks t r d → Begins p fs rest s t r
+  begins : (picks : List Pick) (d : Effect) → picks ≡ Step (path_to fs) (location 0) ∷ rest → Runs p false true s picks t r d → Begins p fs rest s t r
   begins picks d e (none q w x) = absurd cc
-  begins picks d e (step {rest = rest'} {a = a} {b = b} {d1 = d1} {d2 = d2} {loc = loc} gs q h l f k w) =
+  begins picks d e (step {rest = rest'} {a = a} {b = b} {d1 = d1} {d2 = d2} {loc = loc} gs q h n l f k w) =
       let i = same_steps fs gs 0 loc rest rest' (sym e ∙ q) in
       record {
         frames = gs;
@@ -86,26 +88,34 @@ module _ (p : Program) (fs : List Frame) (rest : List Pick) (s : Store) (t : Ter
         later = d2;
         is_term = h;
         is_road = i.0;
+        reached = n;
         fits = f;
         steps = subst (λ x. Local p false x a b d1) (sym i.1) l;
-        runs = subst (λ x. Runs p false true (afterwards d1 s) x (plug gs b) r d2) (sym i.2) k;
+        runs = subst (λ x. Runs p false true (afterwards d1 s) x (plug (trodden gs) b) r d2) (sym i.2) k;
       }
-  begins picks d e (stop gs i q h x y w) = absurd cc
-  begins picks d e (attempt {within = within} {rest = rest'} gs q h l bare m k close k2 w) = absurd (mixed fs gs 0 within rest rest' (sym e ∙ q))
+  begins picks d e (stop gs i q h n x y w) = absurd cc
+  begins picks d e (attempt {within = within} {rest = rest'} gs q h n l bare m k close k2 w) = absurd (mixed fs gs 0 within rest rest' (sym e ∙ q))
 
 -- where a thread may step, a run that picks it goes on behind that step
-pub goes_on : (p : Program) (fs : List Frame) (rest : List Pick) (s : Store) (a b : Term) (r : Ended) (d d1 : Deed) → Local p false 0 a b d1 → FitsAll d1 s
-    → Runs p false true s (Step (path_to fs) (location 0) ∷ rest) (plug fs a) r d → (d2 : Deed) × Runs p false true (afterwards d1 s) rest (plug fs b) r d2
+pub goes_on : (p : Program) (fs : List Frame) (rest : List Pick) (s : Store) (a b : Term) (r : Ended) (d d1 : Effect) → Local p false 0 a b d1 → FitsAll d1 s
+    → Runs p false true s (Step (path_to fs) (location 0) ∷ rest) (plug fs a) r d → (d2 : Effect) × Runs p false true (afterwards d1 s) rest (plug (trodden fs) b) r d2
 goes_on p fs rest s a b r d d1 l f k =
     let g = begins p fs rest s (plug fs a) r (Step (path_to fs) (location 0) ∷ rest) d refl k in
     let one = one_place fs g.frames a g.part g.is_term g.is_road (local_ready p false 0 a b d1 l) (local_ready p false 0 g.part g.next g.did g.steps) in
     let other : Local p false 0 a g.next g.did = subst (λ x. Local p false 0 x g.next g.did) (sym one.1) g.steps in
     let did = one_step p false 0 s a b g.next d1 g.did l other f g.fits in
-    (g.later, subst (λ x. Runs p false true (afterwards d1 s) rest x r g.later) (λ j. plug (sym one.0 j) (sym did.0 j)) (subst (λ x. Runs p false true (afterwards x s) rest (plug g.frames g.next) r g.later) (sym did.1) g.runs))
+    (g.later, subst (λ x. Runs p false true (afterwards d1 s) rest x r g.later) (λ j. plug (trodden (sym one.0 j)) (sym did.0 j)) (subst (λ x. Runs p false true (afterwards x s) rest (plug (trodden g.frames) g.next) r g.later) (sym did.1) g.runs))
 
 -- where no thread of that path is ready, no run picks it
-pub none_begins : (p : Program) (fs : List Frame) (rest : List Pick) (s : Store) (t : Term) (r : Ended) (d : Deed)
-    → ((gs : List Frame) (a : Term) → t ≡ plug gs a → road fs ≡ road gs → Ready a → ⊥) → Runs p false true s (Step (path_to fs) (location 0) ∷ rest) t r d → ⊥
+pub none_begins : (p : Program) (fs : List Frame) (rest : List Pick) (s : Store) (t : Term) (r : Ended) (d : Effect)
+    → ((gs : List Frame) (a : Term) → t ≡ plug gs a → road fs ≡ road gs → Ready a → passed gs a ≡ false → ⊥) → Runs p false true s (Step (path_to fs) (location 0) ∷ rest) t r d → ⊥
 none_begins p fs rest s t r d n k =
     let g = begins p fs rest s t r (Step (path_to fs) (location 0) ∷ rest) d refl k in
-    n g.frames g.part g.is_term g.is_road (local_ready p false 0 g.part g.next g.did g.steps)
+    n g.frames g.part g.is_term g.is_road (local_ready p false 0 g.part g.next g.did g.steps) g.reached
+
+-- beside one block that is no throw no block is passed over
+pub left_reached : (b a : Term) (fs : List Frame) → is_thrown b ≡ false → passed fs a ≡ false → passed (in_block [] (b ∷ []) ∷ fs) a ≡ false
+left_reached b a fs t n = λ i. ((t i || false) && is_still (plug fs a)) || n i
+
+pub right_reached : (b a : Term) (fs : List Frame) → is_thrown b ≡ false → passed fs a ≡ false → passed (in_block (b ∷ []) [] ∷ fs) a ≡ false
+right_reached b a fs t n = λ i. ((t i || false) && is_still (plug fs a)) || n i

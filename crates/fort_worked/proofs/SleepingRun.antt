@@ -8,7 +8,7 @@ use Rattle.fort_core.specs.declared.program.CoreBody.TheVariants as body
 use Rattle.fort_core.specs.declared.primitive.Primitive.TheVariants.{EqualSmall}
 use Rattle.fort_core.specs.declared.term.Term.{Term, Call, Operator, Write, If, Also, Atomic, Asleep}
 use Rattle.fort_core.specs.declared.term.Term as term
-use Rattle.fort_core.specs.declared.term.Term.TheVariants.{Read}
+use Rattle.fort_core.specs.declared.term.Term.TheVariants.{Read, outs-Atomic, outs-Asleep}
 use Rattle.fort_core.specs.declared.term.Term.TheOpen.{Value-F}
 use Rattle.fort_core.specs.declared.value.Value.{Value, Truth, out-Value, fold-roll-Value}
 use Rattle.fort_core.specs.declared.value.Value.TheVariants.{outs-Small, outs-Truth, rolls-Small}
@@ -16,8 +16,9 @@ use Rattle.fort_types.specs.Relation.{relation}
 use Rattle.fort_machine.specs.Types.{type_at, type_of, domain_of, all_below}
 use Rattle.fort_machine.specs.Primitives.{small_test}
 use Rattle.fort_machine.specs.Cells.{untouched, found}
-use Rattle.fort_machine.specs.Deeds.{Store, Deed, idle, paid, reading, writing, making, both, FitsAll, afterwards, completing, aborting}
-use Rattle.fort_machine.specs.Frames.{in_block, in_test, in_operand}
+use Rattle.fort_machine.specs.Effects.{Store, Effect, idle, paid, reading, writing, making, both, FitsAll, afterwards, completing, aborting}
+use Rattle.fort_machine.specs.Ends.{standing_at, throws_by, stepped}
+use Rattle.fort_machine.specs.Frames.{in_block, in_test, in_operand, in_stepped, passed}
 use Rattle.fort_machine.specs.Acts.{becomes, enters, unit}
 use Rattle.fort_machine.specs.Substitution.{located}
 use Rattle.fort_machine.specs.Forms.{choosing}
@@ -33,6 +34,8 @@ use Rattle.fort_worked.specs.Pieces.{number, number_type, plain_decl, written, n
 use Rattle.fort_worked.specs.Sleeping.{test, waiting_body, setting_body, setting, blocks, sleeping_body, equal_decl, abort_decl, sleeping, up_to_sleep, marks, one_asleep, FallsAsleep, Wakes}
 use Rattle.fort_worked.proofs.Forms.{bare-Value, bare-Call, bare-Operator, bare-Mutable, bare-Read, bare-Write, bare-If, bare-Also, bare-Atomic, awake, located-Value, located-Call, located-Operator, located-Read, located-Write, located-If, located-Also, located-Atomic}
 use Rattle.fort_worked.proofs.Acting.{dispatches, calls_none, calls_two, makes_one, reads, writes, chooses, ends_both, named_in_rows, nine_in_bounds}
+use Rattle.fort_machine.proofs.Standing.{standing_stepped, stepped_stays_open}
+use Rattle.fort_worked.proofs.Picked.{left_reached, right_reached}
 use Rattle.fort_worked.proofs.Inverted.{asleep_one}
 
 -- no form sleeps before the run
@@ -83,44 +86,44 @@ chosen : (b : Bool) → choosing (out-Value (Truth b)) (Call (set 2) []) (term.V
 chosen b = ap (λ k. choosing k (Call (set 2) []) (term.Value unit)) (outs-Truth b)
 
 -- the aborted attempt
-abbrev pub abort_deed : Deed
-abort_deed = both (reading 9 (number 0)) (both (paid 1) (both (paid 1) (paid 1)))
+abbrev pub abort_effect : Effect
+abort_effect = both (reading 9 (number 0)) (both (paid 1) (both (paid 1) (paid 1)))
 
-pub abort_run : (s : Store) → s 9 ≡ Some (number 0) → Runs sleeping true true s (onward ∷ onward ∷ onward ∷ onward ∷ []) (waiting_body nine) aborts abort_deed
-abort_run s e = step (in_test (Call (set 2) []) (term.Value unit) ∷ in_operand (set 1) [] (term.Value (number 0) ∷ []) ∷ []) refl refl (reads sleeping true 9 (number 0)) ((reads_plainly 9 (number 0) s).0.1 e)
-    (step (in_test (Call (set 2) []) (term.Value unit) ∷ []) refl refl (tests 0 true refl) (λ l. tt)
-    (step [] refl refl (chooses sleeping true (Truth true) (Call (set 2) []) (term.Value unit) (Call (set 2) []) (chosen true)) (λ l. tt)
-    (stop [] refl refl refl (by_call (calls_none sleeping (set 2)) (dispatches sleeping 2 (decl 2) abort_decl [] refl refl refl) refl) refl refl) refl) refl) refl
+pub abort_run : (s : Store) → s 9 ≡ Some (number 0) → Runs sleeping true true s (onward ∷ onward ∷ onward ∷ onward ∷ []) (waiting_body nine) aborts abort_effect
+abort_run s e = step (in_test (Call (set 2) []) (term.Value unit) ∷ in_operand (set 1) [] (term.Value (number 0) ∷ []) ∷ []) refl refl refl (reads sleeping true 9 (number 0)) ((reads_plainly 9 (number 0) s).0.1 e)
+    (step (in_test (Call (set 2) []) (term.Value unit) ∷ []) refl refl refl (tests 0 true refl) (λ l. tt)
+    (step [] refl refl refl (chooses sleeping true (Truth true) (Call (set 2) []) (term.Value unit) (Call (set 2) []) (chosen true)) (λ l. tt)
+    (stop [] refl refl refl refl (by_call (calls_none sleeping (set 2)) (dispatches sleeping 2 (decl 2) abort_decl [] refl refl refl) refl) refl refl) refl) refl) refl
 
 -- the attempt after the write
-abbrev wake_deed : Deed
-wake_deed = both (reading 9 (number 1)) (both (paid 1) (both (paid 1) idle))
+abbrev wake_effect : Effect
+wake_effect = both (reading 9 (number 1)) (both (paid 1) (both (paid 1) idle))
 
-wake_run : (s : Store) → s 9 ≡ Some (number 1) → Runs sleeping true true s (onward ∷ onward ∷ onward ∷ []) (waiting_body nine) (goes (term.Value unit)) wake_deed
-wake_run s e = step (in_test (Call (set 2) []) (term.Value unit) ∷ in_operand (set 1) [] (term.Value (number 0) ∷ []) ∷ []) refl refl (reads sleeping true 9 (number 1)) ((reads_plainly 9 (number 1) s).0.1 e)
-    (step (in_test (Call (set 2) []) (term.Value unit) ∷ []) refl refl (tests 1 false refl) (λ l. tt)
-    (step [] refl refl (chooses sleeping true (Truth false) (Call (set 2) []) (term.Value unit) (term.Value unit) (chosen false)) (λ l. tt) (none refl refl refl) refl) refl) refl
+wake_run : (s : Store) → s 9 ≡ Some (number 1) → Runs sleeping true true s (onward ∷ onward ∷ onward ∷ []) (waiting_body nine) (goes (term.Value unit)) wake_effect
+wake_run s e = step (in_test (Call (set 2) []) (term.Value unit) ∷ in_operand (set 1) [] (term.Value (number 0) ∷ []) ∷ []) refl refl refl (reads sleeping true 9 (number 1)) ((reads_plainly 9 (number 1) s).0.1 e)
+    (step (in_test (Call (set 2) []) (term.Value unit) ∷ []) refl refl refl (tests 1 false refl) (λ l. tt)
+    (step [] refl refl refl (chooses sleeping true (Truth false) (Call (set 2) []) (term.Value unit) (term.Value unit) (chosen false)) (λ l. tt) (none refl refl refl) refl) refl) refl
 
 -- the attempt that writes
-abbrev set_deed : Deed
-set_deed = both (writing 9 (number 1)) idle
+abbrev set_effect : Effect
+set_effect = both (writing 9 (number 1)) idle
 
-set_run : (s : Store) (v : Value) → s 9 ≡ Some v → Runs sleeping true true s (onward ∷ []) (setting_body nine) (goes (term.Value unit)) set_deed
-set_run s v e = step [] refl refl (writes sleeping true 9 (number 1)) ((writes_plainly 9 (number 1) s).0.1 (v, e)) (none refl refl refl) refl
+set_run : (s : Store) (v : Value) → s 9 ≡ Some v → Runs sleeping true true s (onward ∷ []) (setting_body nine) (goes (term.Value unit)) set_effect
+set_run s v e = step [] refl refl refl (writes sleeping true 9 (number 1)) ((writes_plainly 9 (number 1) s).0.1 (v, e)) (none refl refl refl) refl
 
 -- the marks are what the aborted attempt read
-were_read : (l : ℕ) (v : Value) → In l v marks → (w : Option Value) × (abort_deed.cells l ≡ found (Some v) w)
-were_read l v (inl e) = (None, subst (λ k. abort_deed.cells k ≡ found (Some v) None) (sym e.0) (ap (λ w. found (Some w) None) (sym e.1)))
+were_read : (l : ℕ) (v : Value) → In l v marks → (w : Option Value) × (abort_effect.cells l ≡ found (Some v) w)
+were_read l v (inl e) = (None, subst (λ k. abort_effect.cells k ≡ found (Some v) None) (sym e.0) (ap (λ w. found (Some w) None) (sym e.1)))
 were_read l v (inr e) = absurd e
 
-are_all : (l : ℕ) (v : Value) (w : Option Value) → abort_deed.cells l ≡ found (Some v) w → In l v marks
+are_all : (l : ℕ) (v : Value) (w : Option Value) → abort_effect.cells l ≡ found (Some v) w → In l v marks
 are_all l v w e = go (9 == l) refl
   where
     go : (b : Bool) → (9 == l) ≡ b → In l v marks
     go true q = let k : l ≡ 9 = search (rules, q) in let z : found (Some (number 0)) None ≡ found (Some v) w = rw q at e in inl (k, cc)
     go false q = let z : untouched ≡ found (Some v) w = rw q at e in absurd cc
 
-pub marks_read : AreRead marks abort_deed
+pub marks_read : AreRead marks abort_effect
 marks_read = record { were_read = were_read; are_all = are_all }
 
 -- the first two steps
@@ -136,24 +139,35 @@ store_then = afterwards (paid 1) (opening_store sleeping)
 pub nine_made : FitsAll (making 9 (number 0 ∷ []) 1) store_then
 nine_made = (makes_plainly 9 (number 0 ∷ []) 1 store_then).0.1 (λ n h. refl)
 
+-- neither block is passed over
+pub first_reached : passed (in_block [] (setting nine ∷ []) ∷ []) (Atomic mode.Atomic (waiting_body nine)) ≡ false
+first_reached = left_reached (setting nine) (Atomic mode.Atomic (waiting_body nine)) [] (ap (λ y. throws_by (standing_at y)) (outs-Atomic mode.Atomic (setting_body nine))) refl
+
+pub second_reached : passed (in_block (stepped (Asleep marks (waiting_body nine)) ∷ []) [] ∷ []) (setting nine) ≡ false
+second_reached = right_reached (stepped (Asleep marks (waiting_body nine))) (setting nine) []
+    (ap throws_by (stepped_stays_open (Asleep marks (waiting_body nine)) (ap standing_at (outs-Asleep marks (waiting_body nine))))) refl
+
+third_reached : passed (in_block [] (stepped (term.Value unit) ∷ []) ∷ in_stepped ∷ []) (Asleep marks (waiting_body nine)) ≡ false
+third_reached = left_reached (stepped (term.Value unit)) (Asleep marks (waiting_body nine)) (in_stepped ∷ []) (ap throws_by (standing_stepped unit)) refl
+
 -- up to the sleep
-abbrev pub asleep_deed : Deed
-asleep_deed = both (paid 1) (both (making 9 (number 0 ∷ []) 1) (both (aborting abort_deed) idle))
+abbrev pub asleep_effect : Effect
+asleep_effect = both (paid 1) (both (making 9 (number 0 ∷ []) 1) (both (aborting abort_effect) idle))
 
-asleep_bounds : MakesWithinBounds asleep_deed
-asleep_bounds = nine_in_bounds asleep_deed (λ l q. rw q)
+asleep_bounds : MakesWithinBounds asleep_effect
+asleep_bounds = nine_in_bounds asleep_effect (λ l q. rw q)
 
-pub asleep_run : IsRun sleeping (up_to_sleep []) one_asleep asleep_deed
+pub asleep_run : IsRun sleeping (up_to_sleep []) one_asleep asleep_effect
 asleep_run = record {
-  runs = step [] refl refl first_step (λ l. tt) (step [] refl refl second_step nine_made
-      (attempt (in_block [] (setting nine ∷ []) ∷ []) refl refl (fresh refl) (bare_waiting nine) (inl (awake _ mode.Atomic (waiting_body nine))) (abort_run _ refl)
+  runs = step [] refl refl refl first_step (λ l. tt) (step [] refl refl refl second_step nine_made
+      (attempt (in_block [] (setting nine ∷ []) ∷ []) refl refl first_reached (fresh refl) (bare_waiting nine) (inl (awake _ mode.Atomic (waiting_body nine))) (abort_run _ refl)
       (fell_asleep marks refl refl marks_read (tt, tt) refl refl)
       (none refl refl refl) refl) refl) refl;
   bounded = asleep_bounds;
 }
 
 pub falls_asleep : FallsAsleep
-falls_asleep = (asleep_deed, asleep_run, refl, refl, refl)
+falls_asleep = (asleep_effect, asleep_run, refl, refl, refl)
 
 -- the write wakes the form
 numbers_differ : Some (number 1) ≡ Some (number 0) → ⊥
@@ -166,8 +180,8 @@ wakes_up s e k =
     let q = asleep_one marks k.marks (waiting_body nine) k.body k.is_asleep in
     numbers_differ (sym e ∙ k.unchanged 9 (number 0) (subst (In 9 (number 0)) q.0 (inl (refl, refl))))
 
-abbrev done : Deed
-done = both (paid 1) (both (making 9 (number 0 ∷ []) 1) (both (aborting abort_deed) (both (completing set_deed) (both (completing wake_deed) (both (paid 1) idle)))))
+abbrev done : Effect
+done = both (paid 1) (both (making 9 (number 0 ∷ []) 1) (both (aborting abort_effect) (both (completing set_effect) (both (completing wake_effect) (both (paid 1) idle)))))
 
 within_bounds : MakesWithinBounds done
 within_bounds = nine_in_bounds done (λ l q. rw q)
@@ -177,14 +191,14 @@ wakes = (
   done,
   record {
     is_run = record {
-      runs = step [] refl refl first_step (λ l. tt) (step [] refl refl second_step nine_made
-          (attempt (in_block [] (setting nine ∷ []) ∷ []) refl refl (fresh refl) (bare_waiting nine) (inl (awake _ mode.Atomic (waiting_body nine))) (abort_run _ refl)
+      runs = step [] refl refl refl first_step (λ l. tt) (step [] refl refl refl second_step nine_made
+          (attempt (in_block [] (setting nine ∷ []) ∷ []) refl refl first_reached (fresh refl) (bare_waiting nine) (inl (awake _ mode.Atomic (waiting_body nine))) (abort_run _ refl)
           (fell_asleep marks refl refl marks_read (tt, tt) refl refl)
-          (attempt (in_block (Asleep marks (waiting_body nine) ∷ []) [] ∷ []) refl refl (fresh refl) (bare_setting nine) (inl (awake _ mode.Atomic (setting_body nine))) (set_run _ (number 0) refl)
+          (attempt (in_block (stepped (Asleep marks (waiting_body nine)) ∷ []) [] ∷ []) refl refl second_reached (fresh refl) (bare_setting nine) (inl (awake _ mode.Atomic (setting_body nine))) (set_run _ (number 0) refl)
           (completed unit refl refl refl)
-          (attempt (in_block [] (term.Value unit ∷ []) ∷ []) refl refl (slept marks refl refl) (bare_waiting nine) (inl (wakes_up _ refl)) (wake_run _ refl)
+          (attempt (in_block [] (stepped (term.Value unit) ∷ []) ∷ in_stepped ∷ []) refl refl third_reached (slept marks refl refl) (bare_waiting nine) (inl (wakes_up _ refl)) (wake_run _ refl)
           (completed unit refl refl refl)
-          (step [] refl refl (ends_both sleeping false unit unit) (λ l. tt) (none refl refl refl) refl) refl) refl) refl) refl) refl;
+          (step [] refl refl refl (ends_both sleeping false (stepped (term.Value unit)) (stepped (term.Value unit)) unit unit (standing_stepped unit) (standing_stepped unit)) (λ l. tt) (none refl refl refl) refl) refl) refl) refl) refl) refl;
       bounded = within_bounds;
     };
     within_fuel = omega arith;

@@ -13,21 +13,21 @@ use Rattle.fort_types.specs.Relation.{Relation, below_at, relation}
 use Rattle.fort_machine.specs.Types.{all_below, type_at, type_of, domain_of}
 use Rattle.fort_machine.specs.Texts.{text_at, text}
 use Rattle.fort_machine.specs.Primitives.{prints}
-use Rattle.fort_machine.specs.Deeds.{Deed, idle, paid, printed, both}
-use Rattle.fort_machine.specs.Ends.{at_value, open_yet, standing}
+use Rattle.fort_machine.specs.Effects.{Effect, idle, paid, printed, both}
+use Rattle.fort_machine.specs.Ends.{at_value, open_yet, standing_at, standing, stepped, has_stepped, throws_by, is_thrown}
 use Rattle.fort_machine.specs.Acts.{turns, enters, becomes, calls, unit, with_first, at_values, by_together}
 use Rattle.fort_machine.specs.Forms.{act_at, act}
 use Rattle.fort_machine.specs.Calls.{by_answer}
 use Rattle.fort_machine.specs.Marked.{dozes_at, dozes, Bare}
-use Rattle.fort_machine.specs.Frames.{Frame, in_block, in_throw, plug, part_number, road}
+use Rattle.fort_machine.specs.Frames.{Frame, in_block, in_throw, plug, part_number, road, passed}
 use Rattle.fort_machine.specs.Steps.{by_call, by_itself, Local, steps}
 use Rattle.fort_machine.specs.Attempts.{Ready}
 use Rattle.fort_machine.specs.Runs.{none, step}
 use Rattle.fort_machine.specs.Worked.{type, set, decl}
-use Rattle.fort_machine.proofs.Standing.{standing-Value}
+use Rattle.fort_machine.proofs.Standing.{standing-Value, standing_stepped}
 use Rattle.fort_machine.proofs.Places.{on_layer, out_on, plug_open, ready_open}
 use Rattle.fort_worked.specs.TwoThreads.{printing, two_blocks, run_decl, print_decl, two_threads, PrintsRightFirst, PrintsLeftFirst, FinishedIsNoThread}
-use Rattle.fort_worked.proofs.Picked.{value_bare, runs_the_one, goes_on, none_begins}
+use Rattle.fort_worked.proofs.Picked.{value_bare, runs_the_one, goes_on, none_begins, left_reached, right_reached}
 
 -- a text has a type below `Any`, and is itself its text
 text_type : (s : List ℕ) → type_of two_threads (Text s) ≡ Named (type 4)
@@ -69,7 +69,7 @@ first_step = steps (enters two_blocks two_blocks) (by_call calls_run (runs_the_o
 
 -- a call of `print`
 calls_print : (s : List ℕ) → act two_threads (printing s) ≡ calls (set 1) (Text s ∷ [])
-calls_print s = ap (act_at two_threads) (outs-Call (set 1) (term.Value (Text s) ∷ [])) ∙ ap (λ st. by_together (with_first st (at_values [])) (calls (set 1))) (standing-Value (Text s))
+calls_print s = ap (act_at two_threads) (outs-Call (set 1) (term.Value (Text s) ∷ [])) ∙ ap (λ st. by_together (with_first st (has_stepped (term.Value (Text s))) (at_values [])) (calls (set 1))) (standing-Value (Text s))
 
 print_step : (s : List ℕ) → Local two_threads false 0 (printing s) (term.Value unit) (printed s (1 + length s))
 print_step s = steps (turns (term.Value unit) s (1 + length s))
@@ -77,10 +77,13 @@ print_step s = steps (turns (term.Value unit) s (1 + length s))
     (refl, refl, refl)
 
 -- the end of both blocks
-last_step : Local two_threads false 0 (Also (term.Value unit ∷ term.Value unit ∷ [])) (term.Value unit) (paid 1)
+abbrev done_block : Term
+done_block = stepped (term.Value unit)
+
+last_step : Local two_threads false 0 (Also (done_block ∷ done_block ∷ [])) (term.Value unit) (paid 1)
 last_step = steps (becomes (term.Value unit))
     (by_itself (ap (act_at two_threads) (outs-Also _)
-    ∙ (λ j. by_together (with_first (standing-Value unit j) (with_first (standing-Value unit j) (at_values []))) (λ vs. becomes (term.Value unit)))))
+    ∙ (λ j. by_together (with_first (standing_stepped unit j) (has_stepped done_block) (with_first (standing_stepped unit j) (has_stepped done_block) (at_values []))) (λ vs. becomes (term.Value unit)))))
     (refl, refl, refl)
 
 -- block 0 with what stands behind it, and block 1 with what stands before it
@@ -90,8 +93,14 @@ left behind = in_block [] (behind ∷ []) ∷ []
 abbrev right : Term → List Frame
 right before = in_block (before ∷ []) [] ∷ []
 
+printing_thrown : (s : List ℕ) → is_thrown (printing s) ≡ false
+printing_thrown s = ap (λ y. throws_by (standing_at y)) (outs-Call (set 1) (term.Value (Text s) ∷ []))
+
+done_thrown : is_thrown done_block ≡ false
+done_thrown = ap throws_by (standing_stepped unit)
+
 -- what the prints of two texts of one byte do, with the steps of the root thread
-abbrev done : ℕ → ℕ → Deed
+abbrev done : ℕ → ℕ → Effect
 done m n = both (paid 1) (both (printed (m ∷ []) 2) (both (printed (n ∷ []) 2) (both (paid 1) idle)))
 
 pub prints_right_first : PrintsRightFirst
@@ -99,10 +108,10 @@ prints_right_first = (
   done 98 97,
   record {
     is_run = record {
-      runs = step [] refl refl first_step (λ l. tt)
-          (step (right (printing (97 ∷ []))) refl refl (print_step (98 ∷ [])) (λ l. tt)
-          (step (left (term.Value unit)) refl refl (print_step (97 ∷ [])) (λ l. tt)
-          (step [] refl refl last_step (λ l. tt) (none refl refl refl) refl) refl) refl) refl;
+      runs = step [] refl refl refl first_step (λ l. tt)
+          (step (right (printing (97 ∷ []))) refl refl (right_reached (printing (97 ∷ [])) (printing (98 ∷ [])) [] (printing_thrown (97 ∷ [])) refl) (print_step (98 ∷ [])) (λ l. tt)
+          (step (left done_block) refl refl (left_reached done_block (printing (97 ∷ [])) [] done_thrown refl) (print_step (97 ∷ [])) (λ l. tt)
+          (step [] refl refl refl last_step (λ l. tt) (none refl refl refl) refl) refl) refl) refl;
       bounded = λ l v e. absurd cc;
     };
     within_fuel = omega arith;
@@ -117,10 +126,10 @@ prints_left_first = (
   done 97 98,
   record {
     is_run = record {
-      runs = step [] refl refl first_step (λ l. tt)
-          (step (left (printing (98 ∷ []))) refl refl (print_step (97 ∷ [])) (λ l. tt)
-          (step (right (term.Value unit)) refl refl (print_step (98 ∷ [])) (λ l. tt)
-          (step [] refl refl last_step (λ l. tt) (none refl refl refl) refl) refl) refl) refl;
+      runs = step [] refl refl refl first_step (λ l. tt)
+          (step (left (printing (98 ∷ []))) refl refl (left_reached (printing (98 ∷ [])) (printing (97 ∷ [])) [] (printing_thrown (98 ∷ [])) refl) (print_step (97 ∷ [])) (λ l. tt)
+          (step (right done_block) refl refl (right_reached done_block (printing (98 ∷ [])) [] done_thrown refl) (print_step (98 ∷ [])) (λ l. tt)
+          (step [] refl refl refl last_step (λ l. tt) (none refl refl refl) refl) refl) refl) refl;
       bounded = λ l v e. absurd cc;
     };
     within_fuel = omega arith;
@@ -143,12 +152,12 @@ second_block a b in_throw x ns e q = absurd cc
 second_block a b _ x ns e q = absurd cc
 
 -- a block at a value is no thread
-finished : (gs : List Frame) (a : Term) → Also (printing (97 ∷ []) ∷ term.Value unit ∷ []) ≡ plug gs a → 1 ∷ [] ≡ road gs → Ready a → ⊥
-finished [] a e q r = cc
-finished (f ∷ gs) a e q r =
+finished : (gs : List Frame) (a : Term) → Also (printing (97 ∷ []) ∷ done_block ∷ []) ≡ plug gs a → 1 ∷ [] ≡ road gs → Ready a → passed gs a ≡ false → ⊥
+finished [] a e q r n = cc
+finished (f ∷ gs) a e q r n =
     let o = plug_open gs a (ready_open a r) in
-    let h = second_block (printing (97 ∷ [])) (term.Value unit) f (plug gs a) (road gs) (sym (outs-Also _) ∙ ap out-Term e ∙ out_on f (plug gs a) o) q in
-    let z : at_value unit ≡ open_yet = sym (standing-Value unit) ∙ ap standing (sym h) ∙ o in cc
+    let h = second_block (printing (97 ∷ [])) done_block f (plug gs a) (road gs) (sym (outs-Also _) ∙ ap out-Term e ∙ out_on f (plug gs a) o) q in
+    let z : at_value unit ≡ open_yet = sym (standing_stepped unit) ∙ ap standing (sym h) ∙ o in cc
 
 pub finished_is_no_thread : FinishedIsNoThread
 finished_is_no_thread fuel ending j =

@@ -5,3 +5,4 @@ pub mod TwoThreads
 pub mod Pieces
 pub mod Failing
 pub mod Sleeping
+pub mod Passing

@@ -16,7 +16,7 @@ use Rattle.fort_core.specs.declared.program.Program.{Program}
 use Rattle.fort_core.specs.declared.term.Term.{Term, Call, Operator}
 use Rattle.fort_core.specs.declared.term.Term as term
 use Rattle.fort_core.specs.declared.value.Value.{Value, Small, Object}
-use Rattle.fort_machine.specs.Deeds.{Deed}
+use Rattle.fort_machine.specs.Effects.{Effect}
 use Rattle.fort_machine.specs.Ends.{throw_of}
 use Rattle.fort_machine.specs.Acts.{unit}
 use Rattle.fort_machine.specs.Runs.{location}
@@ -68,7 +68,7 @@ three_steps = record { fuel = 3; picks = step_at [] ∷ step_at (0 ∷ []) ∷ s
 
 -- It is a run of that program, ends at a throw of `IntegerOverflow`, prints nothing, and costs 3.
 abbrev pub Overflows : Type 0
-Overflows = (d : Deed) × Records overflowing three_steps (throw_of overflow) d × (d.output ≡ []) × (d.cost ≡ 3)
+Overflows = (d : Effect) × Records overflowing three_steps (throw_of overflow) d × (d.output ≡ []) × (d.cost ≡ 3)
 
 -- The same picks but for the second one, which is the root thread.
 abbrev pub all_at_root : List Pick

@@ -15,7 +15,8 @@ use Rattle.fort_core.specs.declared.term.Term.{Term, Call, Operator, Mutable, Wr
 use Rattle.fort_core.specs.declared.term.Term as term
 use Rattle.fort_core.specs.declared.term.Term.TheVariants.{Read}
 use Rattle.fort_machine.specs.Cells.{made}
-use Rattle.fort_machine.specs.Deeds.{Deed, afterwards}
+use Rattle.fort_machine.specs.Ends.{stepped}
+use Rattle.fort_machine.specs.Effects.{Effect, afterwards}
 use Rattle.fort_machine.specs.Acts.{unit}
 use Rattle.fort_machine.specs.Marked.{Marks}
 use Rattle.fort_machine.specs.Runs.{location}
@@ -95,15 +96,15 @@ marks = (location 9, number 0) ∷ []
 
 -- Both blocks, the first one asleep.
 abbrev pub one_asleep : Term
-one_asleep = Also (Asleep marks (waiting_body nine) ∷ setting nine ∷ [])
+one_asleep = Also (stepped (Asleep marks (waiting_body nine)) ∷ setting nine ∷ [])
 
 -- After the aborted attempt the first block sleeps with that mark; nothing was printed, it cost 7 in all, and the location 9 holds 0.
 abbrev pub FallsAsleep : Type 0
-FallsAsleep = (d : Deed) × IsRun sleeping (up_to_sleep []) one_asleep d × (d.output ≡ []) × (d.cost ≡ 7) × (d.cells 9 ≡ made (Some (number 0)))
+FallsAsleep = (d : Effect) × IsRun sleeping (up_to_sleep []) one_asleep d × (d.output ≡ []) × (d.cost ≡ 7) × (d.cells 9 ≡ made (Some (number 0)))
 
 -- The journal is a run of the program, ends at `()`, prints nothing, costs 14, and leaves 1 in the location 9.
 abbrev pub Wakes : Type 0
-Wakes = (d : Deed) × Records sleeping woken (term.Value unit) d × (d.output ≡ []) × (d.cost ≡ 14) × (d.cells 9 ≡ made (Some (number 1)))
+Wakes = (d : Effect) × Records sleeping woken (term.Value unit) d × (d.output ≡ []) × (d.cost ≡ 14) × (d.cells 9 ≡ made (Some (number 1)))
 
 -- The first block is tried again, with some inner picks.
 abbrev pub again : List Pick → Pick
@@ -111,9 +112,9 @@ again within = Attempt (thread (0 ∷ [])) within
 
 -- While the first block sleeps and the second one is awake, the first one may not be tried: a second attempt before the write is none of a run, whatever its inner picks and those behind it.
 abbrev pub SleeperWaits : Type 0
-SleeperWaits = (within more : List Pick) (t : Term) (d : Deed) → IsRun sleeping (up_to_sleep (again within ∷ more)) t d → ⊥
+SleeperWaits = (within more : List Pick) (t : Term) (d : Effect) → IsRun sleeping (up_to_sleep (again within ∷ more)) t d → ⊥
 
 -- Nor is it next where the fuel is out, not even begun.
 abbrev pub SleeperIsNotNext : Type 0
-SleeperIsNotNext = (within : List Pick) (t : Term) (d e : Deed)
+SleeperIsNotNext = (within : List Pick) (t : Term) (d e : Effect)
     → IsRun sleeping (up_to_sleep []) t d → IsNext sleeping (afterwards d (opening_store sleeping)) t (again within) e → ⊥

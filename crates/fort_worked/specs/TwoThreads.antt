@@ -12,7 +12,7 @@ use Rattle.fort_core.specs.declared.program.Program.{Program}
 use Rattle.fort_core.specs.declared.term.Term.{Term, Call, Also}
 use Rattle.fort_core.specs.declared.term.Term as term
 use Rattle.fort_core.specs.declared.value.Value.{Text}
-use Rattle.fort_machine.specs.Deeds.{Deed}
+use Rattle.fort_machine.specs.Effects.{Effect}
 use Rattle.fort_machine.specs.Acts.{unit}
 use Rattle.fort_machine.specs.Journals.{Records, IsJournal}
 use Rattle.fort_machine.specs.Worked.{set, decl, numbered}
@@ -54,7 +54,7 @@ picking first second = step_at [] ∷ step_at (first ∷ []) ∷ step_at (second
 
 -- Picks, with a fuel of 6, are a run of that program that ends at `()`, prints this text, and costs 6.
 abbrev pub Prints : List Pick → List ℕ → Type 0
-Prints picks text = (d : Deed) × Records two_threads (record { fuel = 6; picks = picks; ending = Completed }) (term.Value unit) d × (d.output ≡ text) × (d.cost ≡ 6)
+Prints picks text = (d : Effect) × Records two_threads (record { fuel = 6; picks = picks; ending = Completed }) (term.Value unit) d × (d.output ≡ text) × (d.cost ≡ 6)
 
 -- Where block 1 is picked first the program prints `ba`.
 abbrev pub PrintsRightFirst : Type 0

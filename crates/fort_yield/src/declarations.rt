@@ -13,8 +13,8 @@ use crate::put::{put_next_names, put_var};
 use crate::types::{put_maybe_parameters, put_type};
 use fort_base::{List, Memory};
 use fort_ops::Op;
-use fort_put::{put_mark, put_name, put_operator, put_semicolon, put_word};
 use fort_token::{Mark, Reserved, Token};
+use fort_token_yield::{put_mark, put_name, put_operator, put_semicolon, put_word};
 use fort_tree::{
     Comprises, Declaration, Declared, Excludes, Extends, Function, FunctionName, Names,
     NextObjectParameter, Object, ObjectParameter, ObjectParameterList, ObjectParameters, Spot,

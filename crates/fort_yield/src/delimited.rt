@@ -11,8 +11,8 @@ use crate::put::{put_next_names, put_var};
 use crate::types::put_type;
 use fort_base::{Boxed, List, Memory};
 use fort_ops::Op;
-use fort_put::{put_mark, put_name, put_operator, put_semicolon, put_word};
 use fort_token::{Mark, Reserved, Token};
+use fort_token_yield::{put_mark, put_name, put_operator, put_semicolon, put_word};
 use fort_tree::{
     Also, BlockItem, CaseClause, Catch, Delimited, Elif, ElseBlock, ElseClause, Finally, Flat,
     InitialSign, Item, NextGenerator, Spot, TypeClause, Variable,

@@ -10,8 +10,8 @@ use crate::delimited::put_delimited;
 use crate::types::{put_maybe_parameters, put_type};
 use fort_base::{Boxed, List, Memory};
 use fort_ops::Op;
-use fort_put::{put_mark, put_name, put_operator, put_token, put_word};
 use fort_token::{Kind, Mark, Reserved, Token};
+use fort_token_yield::{put_mark, put_name, put_operator, put_token, put_word};
 use fort_tree::{
     AssignSign, Atom, Big, Expr, ExprList, Flat, FlatPart, Generator, Head, NextExpr, Operand,
     Postfix, Prefix, Run, RunPart, Spot,

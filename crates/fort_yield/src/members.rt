@@ -10,8 +10,8 @@ use crate::expr::put_expr;
 use crate::types::{put_parameter, put_type};
 use fort_base::{List, Memory};
 use fort_ops::Op;
-use fort_put::{put_mark, put_name, put_operator, put_semicolon, put_word};
 use fort_token::{Mark, Reserved, Token};
+use fort_token_yield::{put_mark, put_name, put_operator, put_semicolon, put_word};
 use fort_tree::{
     Method, MethodBody, MethodParameter, MethodParameters, NextMethodParameter, ObjectEntry,
     ObjectMember, TraitEntry, TraitMember,

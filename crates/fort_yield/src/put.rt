@@ -4,8 +4,8 @@ ghost use Rattle.fort_tree.specs.Blocks.{next_names_tokens};
 ghost use Rattle.fort_yield.specs.Parts.{var_tokens};
 
 use fort_base::{List, Memory};
-use fort_put::{put_mark, put_name, put_word};
 use fort_token::{Mark, Reserved, Token};
+use fort_token_yield::{put_mark, put_name, put_word};
 use fort_tree::{NextName, Spot};
 
 pub fn put_next_names(names: &[NextName], out: &mut List<Token>) -> Result<(), Memory>

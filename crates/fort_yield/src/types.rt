@@ -5,8 +5,8 @@ ghost use Rattle.fort_tree.specs.Types.{said_type, said_simple_type, said_type_l
 
 use fort_base::{List, Memory};
 use fort_ops::Op;
-use fort_put::{put_mark, put_name, put_operator};
 use fort_token::{Mark, Token};
+use fort_token_yield::{put_mark, put_name, put_operator};
 use fort_tree::{NextParameter, NextType, Parameter, Parameters, SimpleType, TypeList, TypeTree};
 
 #[cycle(put_types)]

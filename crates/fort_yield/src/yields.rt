@@ -4,8 +4,8 @@ ghost use Rattle.fort_tree.specs.Component.{yield, export_tokens};
 
 use crate::declarations::put_declarations;
 use fort_base::{Bytes, List, Memory};
-use fort_put::{put_name, put_word};
 use fort_token::{Reserved, Token, Tokens};
+use fort_token_yield::{put_name, put_word};
 use fort_tree::{Component, Export};
 use std::alloc::Global;
 

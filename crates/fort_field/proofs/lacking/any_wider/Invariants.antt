@@ -1,9 +1,9 @@
 use Rattle.std.proofs.Common.{List}
-use Rattle.fort_types.specs.declared.hierarchy.Declared.{Declared}
+use Rattle.fort_types.specs.declared.hierarchy.DeclaredType.{DeclaredType}
 use Rattle.fort_types.specs.Table.{HasRows}
 use Rattle.fort_field.specs.Walks.{IsWiderThan}
 use Rattle.fort_field.proofs.Searches.{NoneTo}
 use Rattle.fort_field.proofs.lacking.any_wider.Given as goal
 
 abbrev pub invariant-loop-other : goal.invariant-loop-other
-invariant-loop-other l = (h : List Declared) → HasRows h l.table → NoneTo (IsWiderThan h l.field) l.own l.other-index
+invariant-loop-other l = (h : List DeclaredType) → HasRows h l.table → NoneTo (IsWiderThan h l.field) l.own l.other-index

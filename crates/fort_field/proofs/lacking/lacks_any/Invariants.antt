@@ -1,9 +1,9 @@
 use Rattle.std.proofs.Common.{List}
-use Rattle.fort_types.specs.declared.hierarchy.Declared.{Declared}
+use Rattle.fort_types.specs.declared.hierarchy.DeclaredType.{DeclaredType}
 use Rattle.fort_types.specs.Table.{HasRows}
 use Rattle.fort_field.specs.Walks.{Lacks}
 use Rattle.fort_field.proofs.Searches.{NoneTo}
 use Rattle.fort_field.proofs.lacking.lacks_any.Given as goal
 
 abbrev pub invariant-loop-field : goal.invariant-loop-field
-invariant-loop-field l = (h : List Declared) → HasRows h l.table → NoneTo (Lacks h l.must l.own) l.fields l.field-index
+invariant-loop-field l = (h : List DeclaredType) → HasRows h l.table → NoneTo (Lacks h l.must l.own) l.fields l.field-index

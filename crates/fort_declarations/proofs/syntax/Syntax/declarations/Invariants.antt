@@ -2,7 +2,7 @@ use Rattle.std.proofs.Common.{◌≡◌, ◌-◌}
 use Rattle.fort_reading.specs.Parser.{many_run}
 use Rattle.fort_reading.proofs.Loops.{with_front}
 use Rattle.fort_parse.specs.Blocks.{is_ended}
-use Rattle.fort_starts.specs.Declarations.{begins_declared}
+use Rattle.fort_first.specs.Declarations.{begins_declared}
 use Rattle.fort_declarations.specs.Declarations.{declared, declarations}
 use Rattle.fort_declarations.proofs.syntax.Syntax.declarations.Given as goal
 

@@ -3,7 +3,7 @@ use Rattle.fort_reading.specs.Parser.{next_of}
 use Rattle.fort_reading.proofs.Loops.{no_front, goes_on}
 use Rattle.fort_parse.specs.Blocks.{is_ended}
 use Rattle.fort_parse.proofs.Ended.{ended_is}
-use Rattle.fort_starts.specs.Declarations.{begins_trait_entry}
+use Rattle.fort_first.specs.Declarations.{begins_trait_entry}
 use Rattle.fort_declarations.specs.Declarations.{trait_entry, trait_entries}
 use Rattle.fort_declarations.proofs.syntax.Syntax.trait_entries.Goals as goal
 

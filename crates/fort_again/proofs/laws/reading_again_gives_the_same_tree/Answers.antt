@@ -1,5 +1,0 @@
-use Rattle.fort_again.proofs.Again.{same_tree}
-use Rattle.fort_again.proofs.laws.reading_again_gives_the_same_tree.Goals as goal
-
-pub returns : goal.returns
-returns c = same_tree

@@ -1,8 +1,0 @@
-use Rattle.fort_tree.specs.declared.declarations.ObjectEntry.{ObjectEntry}
-use Rattle.fort_mention.specs.TypeNames.{mentioned_object_member}
-use Rattle.fort_mention.proofs.Steps.{one_more}
-use Rattle.fort_mention.proofs.declarations.add_object_members.Goals as goal
-
-pub loop-entry-preserved : goal.loop-entry-preserved
-loop-entry-preserved c = one_more (λ (x : ObjectEntry). mentioned_object_member x.member) c.args.members.now c.loop-entry.entry-index c.entry-item.result c.args.names.now c.loop-entry.names _ c.loop-entry-test.true c.entry-item.is c.loop-entry.invariant
-    c.in_ok-add_object_member.ensures
