@@ -4,7 +4,10 @@
 mod boxed;
 mod ids;
 mod list;
+mod place;
 mod refusal;
+pub mod rules;
+mod shared;
 mod table;
 mod ty;
 
@@ -12,5 +15,6 @@ pub use boxed::Boxed;
 pub use ids::{BookId, DeclId, Loc, NameId, SetId, TaskId, TypeId};
 pub use list::{Bytes, List};
 pub use refusal::{CheckFault, Gap, Memory, Place, Rule};
+pub use shared::Shared;
 pub use table::TypeTable;
 pub use ty::Ty;
