@@ -31,8 +31,8 @@ pub struct CoreField {
 #[derive(Drop)]
 pub struct CoreShape {
     pub kind: CoreKind,
-    /// All its fields, inherited ones of a trait included. An object has one location for each, in this
-    /// order: its parameters, then the fields of its body.
+    /// Of an object the fields that it declares, in this order: its parameters, then the fields of its body; it has
+    /// one location for each. Of a trait all its fields, inherited ones included. Of a leaf none.
     pub fields: List<CoreField>,
 }
 
@@ -66,6 +66,10 @@ pub struct CoreDecl {
 /// The numbers of the built-in types that values and steps name.
 #[derive(Clone, Copy, Debug, PartialEq, Eq)]
 pub struct BuiltIn {
+    /// `Object`
+    pub object: TypeId,
+    /// `Exception`
+    pub exception: TypeId,
     /// `ZZ32`
     pub small: TypeId,
     /// `ZZ64`

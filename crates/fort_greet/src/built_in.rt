@@ -19,6 +19,8 @@ pub(crate) fn numbers() -> BuiltIn
     ensures { result ≡ numbered }
 {
     BuiltIn {
+        object: TypeId(0),
+        exception: TypeId(1),
         small: TypeId(2),
         large: TypeId(3),
         text: TypeId(4),

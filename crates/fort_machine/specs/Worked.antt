@@ -35,7 +35,7 @@ decl n = record { 0 = n }
 
 -- The built-in types by numbers of their own.
 abbrev pub numbered : BuiltIn
-numbered = record { small = type 2; large = type 3; text = type 4; truth = type 5; range = type 6; integer_overflow = type 7; division_by_zero = type 8; negative_exponent = type 9; index_out_of_range = type 10; negative_size = type 11; depth_exceeded = type 14; try_atomic_failure = type 15; abort_outside = type 16 }
+numbered = record { object = type 0; exception = type 1; small = type 2; large = type 3; text = type 4; truth = type 5; range = type 6; integer_overflow = type 7; division_by_zero = type 8; negative_exponent = type 9; index_out_of_range = type 10; negative_size = type 11; depth_exceeded = type 14; try_atomic_failure = type 15; abort_outside = type 16 }
 
 -- The text `a`.
 abbrev pub letter : Value

@@ -65,6 +65,8 @@ fn program(alloc: Global) -> Program {
             apart: List::new(alloc),
         },
         built_in: BuiltIn {
+            object: exception,
+            exception,
             small: exception,
             large: exception,
             text: exception,

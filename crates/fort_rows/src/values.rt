@@ -6,6 +6,8 @@ use std::alloc::Global;
 
 fn built_in() -> BuiltIn {
     BuiltIn {
+        object: TypeId(0),
+        exception: TypeId(1),
         small: TypeId(0),
         large: TypeId(1),
         text: TypeId(2),

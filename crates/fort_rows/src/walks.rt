@@ -10,6 +10,8 @@ use std::process::Abort;
 
 fn built_in() -> BuiltIn {
     BuiltIn {
+        object: TypeId(0),
+        exception: TypeId(1),
         small: TypeId(0),
         large: TypeId(1),
         text: TypeId(2),

@@ -39,6 +39,8 @@ fn program(alloc: Global, opening: List<(Loc, Value)>) -> Program {
             apart: List::new(alloc),
         },
         built_in: BuiltIn {
+            object: none,
+            exception: none,
             small: none,
             large: none,
             text: none,
