@@ -3,6 +3,7 @@
 
 mod copy;
 mod copy_parts;
+mod crosses;
 mod form;
 mod journal;
 mod node;
@@ -13,15 +14,14 @@ mod primitive;
 mod program;
 mod release;
 mod same;
-mod same_blocks;
-mod same_forms;
 mod same_parts;
 mod term;
 mod value;
 
+pub use crosses::cross_threads;
 pub use form::{Mode, Order, Slot, Span};
 pub use journal::{Ending, Journal};
-pub use node::{ClosureNode, Node, PickNode, ValueNode};
+pub use node::PickNode;
 pub use path::Path;
 pub use pick::Pick;
 pub use primitive::Primitive;
