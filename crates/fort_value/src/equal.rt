@@ -15,11 +15,13 @@ pub fn same(a: &Value, b: &Value) -> bool
         (Value::Small(x), Value::Small(y)) => *x == *y,
         (Value::Large(x), Value::Large(y)) => *x == *y,
         (Value::Truth(x), Value::Truth(y)) => *x == *y,
-        (Value::Text(x), Value::Text(y)) => x.as_slice() == y.as_slice(),
-        (Value::Tuple(xs), Value::Tuple(ys)) => all_same(xs, ys),
+        (Value::Text(x), Value::Text(y)) => x.get().as_slice() == y.get().as_slice(),
+        (Value::Tuple(xs), Value::Tuple(ys)) => all_same(xs.get(), ys.get()),
         (Value::Range(x, m), Value::Range(y, n)) => *x == *y && *m == *n,
         (Value::Object(s, x), Value::Object(t, y)) => s.0 == t.0 && x.0 == y.0,
-        (Value::Array(s, x, m), Value::Array(t, y, n)) => alike(s, t) && x.0 == y.0 && *m == *n,
+        (Value::Array(s, x, m), Value::Array(t, y, n)) => {
+            alike(s.get(), t.get()) && x.0 == y.0 && *m == *n
+        }
         _ => false,
     }
 }

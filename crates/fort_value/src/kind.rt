@@ -23,11 +23,11 @@ pub fn type_of(alloc: Global, program: &Program, value: &Value) -> Result<Ty, Me
         Value::Large(_) => Ok(Ty::Named(program.built_in.large)),
         Value::Truth(_) => Ok(Ty::Named(program.built_in.truth)),
         Value::Text(_) => Ok(Ty::Named(program.built_in.text)),
-        Value::Tuple(parts) => Ok(Ty::Tuple(types_of(alloc, program, parts)?)),
+        Value::Tuple(parts) => Ok(Ty::Tuple(types_of(alloc, program, parts.get())?)),
         Value::Range(_, _) => Ok(Ty::Named(program.built_in.range)),
         Value::Object(ty, _) => Ok(Ty::Named(*ty)),
-        Value::Array(element, _, _) => array_of(alloc, element),
-        Value::Function(closure) => arrow_of(alloc, closure),
+        Value::Array(element, _, _) => array_of(alloc, element.get()),
+        Value::Function(closure) => arrow_of(alloc, closure.get()),
     }
 }
 
@@ -51,8 +51,8 @@ fn array_of(alloc: Global, element: &Ty) -> Result<Ty, Memory>
 fn arrow_of(alloc: Global, closure: &Closure) -> Result<Ty, Memory>
     ensures { IfOk result (λ ty. ty ≡ Ty.Arrow (domain_of closure.now.parameters) closure.now.result) }
 {
-    let domain = Boxed::new(alloc, domain(alloc, &closure.parameters)?)?;
-    Ok(Ty::Arrow(domain, Boxed::new(alloc, closure.result.copy(alloc)?)?))
+    let domain = Boxed::new(alloc, domain(alloc, closure.parameters.get())?)?;
+    Ok(Ty::Arrow(domain, Boxed::new(alloc, closure.result.get().copy(alloc)?)?))
 }
 
 // What a function takes.
@@ -86,11 +86,11 @@ pub fn has_type(program: &Program, value: &Value, ty: &Ty) -> bool
         Value::Large(_) => declared_has(program, program.built_in.large, ty),
         Value::Truth(_) => declared_has(program, program.built_in.truth, ty),
         Value::Text(_) => declared_has(program, program.built_in.text, ty),
-        Value::Tuple(parts) => tuple_has(program, parts, ty),
+        Value::Tuple(parts) => tuple_has(program, parts.get(), ty),
         Value::Range(_, _) => declared_has(program, program.built_in.range, ty),
         Value::Object(id, _) => declared_has(program, *id, ty),
-        Value::Array(element, _, _) => array_has(program, element, ty),
-        Value::Function(closure) => function_has(program, closure, ty),
+        Value::Array(element, _, _) => array_has(program, element.get(), ty),
+        Value::Function(closure) => function_has(program, closure.get(), ty),
     }
 }
 
@@ -152,8 +152,8 @@ fn function_has(program: &Program, closure: &Closure, ty: &Ty) -> bool
     match ty {
         Ty::Any => true,
         Ty::Arrow(from, to) => {
-            takes(program, &closure.parameters, from.get())
-                && related(&program.types.below, true, &closure.result, to.get())
+            takes(program, closure.parameters.get(), from.get())
+                && related(&program.types.below, true, closure.result.get(), to.get())
         }
         _ => false,
     }
