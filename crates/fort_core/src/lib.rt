@@ -3,6 +3,7 @@
 
 mod copy;
 mod copy_parts;
+mod crosses;
 mod form;
 mod journal;
 mod node;
@@ -17,6 +18,7 @@ mod same_parts;
 mod term;
 mod value;
 
+pub use crosses::cross_threads;
 pub use form::{Mode, Order, Slot, Span};
 pub use journal::{Ending, Journal};
 pub use node::PickNode;

@@ -2,7 +2,5 @@
 #![tactic(auto)]
 
 mod division;
-#[cfg(test)]
-mod tests;
 
 pub use division::halves;

@@ -1,5 +1,5 @@
 -- How the runs of a greeting end.
-use Rattle.std.proofs.Common.{◌≡◌, ℕ, ◌+◌, ◌<◌, ◌≤◌, true, false, List, [], ◌∷◌, ◌++◌, length, Option, Some, None, refl, ap, sym, ◌∙◌, subst, arith, length-append}
+use Rattle.std.proofs.Common.{◌≡◌, ℕ, ◌+◌, ◌<◌, ◌≤◌, true, false, List, [], ◌∷◌, ◌++◌, length, Option, Some, None, refl, ap, sym, ◌∙◌, subst, arith, inl, length-append}
 use Rattle.fort_core.specs.declared.journal.Ending.{Ending}
 use Rattle.fort_core.specs.declared.journal.Ending.TheVariants.{NotRun, Completed, Uncaught, OutOfFuel}
 use Rattle.fort_core.specs.declared.pick.Pick.{Pick, Step}
@@ -10,14 +10,13 @@ use Rattle.fort_core.specs.declared.value.Value.{Text}
 use Rattle.fort_machine.specs.Effects.{Store, Effect, idle, paid, printed, both, afterwards}
 use Rattle.fort_machine.specs.Acts.{unit, enters, turns}
 use Rattle.fort_machine.specs.Attempts.{goes}
-use Rattle.fort_machine.specs.Runs.{Runs, none, step, path_to, location}
-use Rattle.fort_machine.specs.Journals.{Ends, PassesFuel, IsNext, opening_store}
+use Rattle.fort_machine.specs.Runs.{Runs, none, step}
+use Rattle.fort_machine.specs.Journals.{Ends, PassesFuel, IsNext, MakesWithinBounds, opening_store}
 use Rattle.fort_machine.specs.Worked.{set, decl, println_decl}
 use Rattle.fort_machine.proofs.Standing.{value_not_throw}
-use Rattle.fort_task.specs.Programs.{IsStuck, EndsWalk, Walks}
-use Rattle.fort_task.specs.declared.walking.Walked.{Walked}
 use Rattle.fort_greet.specs.Program.{IsProgram, printing, run_decl}
-use Rattle.fort_greet.specs.Runs.{cost, EndsSo, completes, runs_out, GreetingsEndSo, Greets}
+use Rattle.fort_greet.specs.Runs.{cost, EndsSo, completes, runs_out, GreetingsEndSo, root_step, halted, finished, Greets}
+use Rattle.fort_greet.specs.declared.greeted.Greeted.{Greeted}
 use Rattle.fort_greet.proofs.Steps.{line_of, line_cost, starting, calls_run, run_dispatched, run_enters, first_step, calls_println, println_dispatched, println_turns, second_step}
 use Rattle.fort_greet.proofs.OneWay.{OneWay, call_alone, no_open_part, value_not_open, call_plain, call_does, call_not_value, call_not_throw, ended, goes_on, next_is, value_ends, value_has_no_next}
 
@@ -33,6 +32,10 @@ pub data Came (said : List ℕ) (t : Term) (d : Effect) : Type 0 where
 
 same_term : (t u : Term) → goes t ≡ goes u → t ≡ u
 same_term t u e = cc
+
+nothing_behind : (xs : List ℕ) → xs ++ [] ≡ xs
+nothing_behind [] = refl
+nothing_behind (y ∷ ys) = ap (λ zs. y ∷ zs) (nothing_behind ys)
 
 length_line : (said : List ℕ) → length (line_of said) ≡ length said + 1
 length_line said = length-append said (10 ∷ [])
@@ -102,10 +105,6 @@ module _ (said : List ℕ) (p : Program) (h : IsProgram said p) where
       let spent : d.cost ≡ 1 + (1 + length (line_of said) + 0) = ap (λ (y : Effect). y.cost) x in
       let long = length_line said in
       completes (omega (arith, within, spent, long)) (ap (λ (y : Effect). y.output) x ∙ nothing_behind (line_of said)) refl
-    where
-      nothing_behind : (xs : List ℕ) → xs ++ [] ≡ xs
-      nothing_behind [] = refl
-      nothing_behind (y ∷ ys) = ap (λ zs. y ∷ zs) (nothing_behind ys)
   ends_so fuel t d (Uncaught v) (at_first q x) within e = absurd (call_not_throw (set 1) [] v (sym q ∙ e))
   ends_so fuel t d (Uncaught v) (at_printing q x) within e = absurd (call_not_throw (set 0) (term.Value (Text said) ∷ []) v (sym q ∙ e))
   ends_so fuel t d (Uncaught v) (at_end q x) within e = absurd (value_not_throw unit v (sym q ∙ e))
@@ -114,44 +113,68 @@ module _ (said : List ℕ) (p : Program) (h : IsProgram said p) where
   ends_so fuel t d (OutOfFuel pick) (at_end q x) within e =
       absurd (value_has_no_next p (afterwards d (opening_store p)) unit pick e.effect (subst (λ y. IsNext p (afterwards d (opening_store p)) y pick e.effect) q e.is_next))
 
-  -- nowhere does it stick
-  never_stuck : (s : Store) (t : Term) (d : Effect) → Came said t d → IsStuck p s t → ⊥
-  never_stuck s t d (at_first q x) k =
-      k.no_pick (Step (path_to []) (location 0)) (goes (printing said)) (both (paid 1) idle)
-      (subst (λ y. Runs p false true s (Step (path_to []) (location 0) ∷ []) y (goes (printing said)) (both (paid 1) idle)) (sym q)
-      (step [] refl refl (first_step said p h) (λ l. tt) (none refl refl refl) refl))
-  never_stuck s t d (at_printing q x) k =
-      k.no_pick (Step (path_to []) (location 0)) (goes (term.Value unit)) (both (printed (line_of said) (line_cost said)) idle)
-      (subst (λ y. Runs p false true s (Step (path_to []) (location 0) ∷ []) y (goes (term.Value unit)) (both (printed (line_of said) (line_cost said)) idle)) (sym q)
-      (step [] refl refl (second_step said p h) (λ l. tt) (none refl refl refl) refl))
-  never_stuck s t d (at_end q x) k = k.not_completed q
-
   -- where a run of the program has come
   came_from_first : (picks : List Pick) (t : Term) (d : Effect) → Runs p false true (opening_store p) picks p.first (goes t) d → Came said t d
   came_from_first picks t d r = came (opening_store p) picks t d (subst (λ x. Runs p false true (opening_store p) picks x (goes t) d) h.first r)
 
-  not_stuck : (fuel : ℕ) (t : Term) (d : Effect) (ending : Ending) (o : Option Term) → Came said t d → EndsWalk p fuel t d ending o → Ends p fuel t d ending
-  not_stuck fuel t d ending None c e = e
-  not_stuck fuel t d ending (Some u) c e = absurd (never_stuck (afterwards d (opening_store p)) t d c e.2)
+  -- a run that the code answers
+  greets_by : (fuel : ℕ) (g : Greeted) (t : Term) (d : Effect) → Runs p false true (opening_store p) g.journal.picks p.first (goes t) d → MakesWithinBounds d
+      → d.cost ≤ fuel → g.journal.fuel ≡ fuel → g.output ≡ d.output → Ends p fuel t d g.journal.ending → Greets said fuel g
+  greets_by fuel g t d r bounded within same out e = record {
+    program = p;
+    is_program = h;
+    term = t;
+    effect = d;
+    records = record {
+      is_run = record { runs = r; bounded = bounded };
+      within_fuel = subst (λ n. d.cost ≤ n) (sym same) within;
+      ends = subst (λ n. Ends p n t d g.journal.ending) (sym same) e;
+    };
+    is_fuel = same;
+    is_output = out;
+    ends = subst (λ o. EndsSo said fuel o g.journal.ending) (sym out) (ends_so fuel t d g.journal.ending (came_from_first g.journal.picks t d r) within e);
+  }
 
-  -- what the walk answers
-  pub walk_greets : (fuel : ℕ) (w : Walked) → Walks p fuel w → Greets said fuel (record { journal = w.journal; output = w.output })
-  walk_greets fuel w k =
-      let c = came_from_first w.journal.picks k.term k.effect k.is_run.runs in
-      let e = not_stuck fuel k.term k.effect w.journal.ending w.stuck c k.ends in record {
-        program = p;
-        is_program = h;
-        term = k.term;
-        effect = k.effect;
-        records = record {
-          is_run = k.is_run;
-          within_fuel = subst (λ n. k.effect.cost ≤ n) (sym k.is_fuel) k.within_fuel;
-          ends = subst (λ n. Ends p n k.term k.effect w.journal.ending) (sym k.is_fuel) e;
-        };
-        is_fuel = k.is_fuel;
-        is_output = k.is_output;
-        ends = subst (λ o. EndsSo said fuel o w.journal.ending) (sym k.is_output) (ends_so fuel k.term k.effect w.journal.ending c k.within_fuel e);
-      }
+  -- the two steps, in any store
+  one_step : (s : Store) → Runs p false true s (root_step ∷ []) starting (goes (printing said)) (both (paid 1) idle)
+  one_step s = step [] refl refl refl (first_step said p h) (λ l. tt) (none refl refl refl) refl
+
+  last_step : (s : Store) → Runs p false true s (root_step ∷ []) (printing said) (goes (term.Value unit)) (both (printed (line_of said) (line_cost said)) idle)
+  last_step s = step [] refl refl refl (second_step said p h) (λ l. tt) (none refl refl refl) refl
+
+  both_steps : (s : Store) → Runs p false true s (root_step ∷ root_step ∷ []) starting (goes (term.Value unit)) (all_done said)
+  both_steps s = step [] refl refl refl (first_step said p h) (λ l. tt) (last_step (afterwards (paid 1) s)) refl
+
+  from_first : (picks : List Pick) (t : Term) (d : Effect) → Runs p false true (opening_store p) picks starting (goes t) d → Runs p false true (opening_store p) picks p.first (goes t) d
+  from_first picks t d r = subst (λ x. Runs p false true (opening_store p) picks x (goes t) d) (sym h.first) r
+
+  -- without fuel
+  pub greets_none : (fuel : ℕ) → fuel ≡ 0 → Greets said fuel (halted fuel [])
+  greets_none fuel z = greets_by fuel (halted fuel []) starting idle (from_first [] starting idle (none refl refl refl)) (λ l v e. absurd cc) (omega arith) refl refl (record {
+    effect = both (paid 1) idle;
+    is_next = inl (goes (printing said), one_step (afterwards idle (opening_store p)));
+    bounded = λ l v e. absurd cc;
+    passes = omega (arith, z);
+  })
+
+  -- with fuel for the call of `run` alone
+  pub greets_one : (fuel : ℕ) → 0 < fuel → fuel < cost said → Greets said fuel (halted fuel (root_step ∷ []))
+  greets_one fuel some short =
+      let long = length_line said in
+      greets_by fuel (halted fuel (root_step ∷ [])) (printing said) (both (paid 1) idle) (from_first (root_step ∷ []) (printing said) (both (paid 1) idle) (one_step (opening_store p)))
+      (λ l v e. absurd cc) (omega (arith, some)) refl refl (record {
+    effect = both (printed (line_of said) (line_cost said)) idle;
+    is_next = inl (goes (term.Value unit), last_step (afterwards (both (paid 1) idle) (opening_store p)));
+    bounded = λ l v e. absurd cc;
+    passes = omega (arith, short, long);
+  })
+
+  -- with fuel for both
+  pub greets_both : (fuel : ℕ) (output : List ℕ) → cost said ≤ fuel → output ≡ line_of said → Greets said fuel (finished fuel (root_step ∷ root_step ∷ []) output)
+  greets_both fuel output enough o =
+      let long = length_line said in
+      greets_by fuel (finished fuel (root_step ∷ root_step ∷ []) output) (term.Value unit) (all_done said) (from_first (root_step ∷ root_step ∷ []) (term.Value unit) (all_done said) (both_steps (opening_store p)))
+      (λ l v e. absurd cc) (omega (arith, enough, long)) refl (o ∙ sym (nothing_behind (line_of said))) refl
 
 pub greetings_end_so : GreetingsEndSo
 greetings_end_so said p j t d h r = ends_so said p h j.fuel t d j.ending (came_from_first said p h j.picks t d r.is_run.runs) r.within_fuel r.ends

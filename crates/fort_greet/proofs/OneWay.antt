@@ -14,7 +14,7 @@ use Rattle.fort_core.specs.declared.term.Term.TheOpen.{Term-F}
 use Rattle.fort_core.specs.declared.value.Value.{Value}
 use Rattle.fort_machine.specs.Effects.{Store, Effect, idle, both, afterwards}
 use Rattle.fort_machine.specs.Ends.{at_value, open_yet, standing, throw_of}
-use Rattle.fort_machine.specs.Frames.{Frame, in_call, in_throw, plug}
+use Rattle.fort_machine.specs.Frames.{Frame, in_call, in_throw, plug, trodden}
 use Rattle.fort_machine.specs.Acts.{Act, calls}
 use Rattle.fort_machine.specs.Forms.{act}
 use Rattle.fort_machine.specs.Calls.{Dispatches, by_body}
@@ -25,7 +25,6 @@ use Rattle.fort_machine.specs.Journals.{IsNext}
 use Rattle.fort_machine.proofs.Standing.{standing-Value}
 use Rattle.fort_machine.proofs.Places.{on_layer, out_on, plug_open, ready_open}
 use Rattle.fort_machine.proofs.Ready.{local_ready, form_ready}
-use Rattle.fort_task.proofs.Still.{value_still}
 
 -- A term has no thread but itself, is no atomic form, and steps to this term alone, doing this.
 pub record OneWay (p : Program) (t b : Term) (d : Effect) : Type 0 where
@@ -94,15 +93,15 @@ module _ (p : Program) (s : Store) where
   -- a run of no picks
   pub ended : (t : Term) (r : Ended) (d : Effect) → Runs p false true s [] t r d → (r ≡ goes t) × (d ≡ idle)
   ended t r d (none q x y) = (x, y)
-  ended t r d (step fs q te l fit more de) = absurd cc
-  ended t r d (stop fs i q te h re de) = absurd cc
-  ended t r d (attempt fs q te f bare may run closes more de) = absurd cc
+  ended t r d (step fs q te on_way l fit more de) = absurd cc
+  ended t r d (stop fs i q te on_way h re de) = absurd cc
+  ended t r d (attempt fs q te on_way f bare may run closes more de) = absurd cc
 
   -- a run from a term that steps in one way
   pub goes_on : (t b : Term) (e : Effect) → OneWay p t b e → (pick : Pick) (rest : List Pick) (r : Ended) (d : Effect) → Runs p false true s (pick ∷ rest) t r d
       → (d2 : Effect) × (Runs p false true (afterwards e s) rest b r d2 × (d ≡ both e d2))
   goes_on t b e w pick rest r d (none q x y) = absurd cc
-  goes_on t b e w pick rest r d (step {rest = left} {a = a} {b = c} {d1 = d1} {d2 = d2} {loc = loc} fs q te l fit more de) =
+  goes_on t b e w pick rest r d (step {rest = left} {a = a} {b = c} {d1 = d1} {d2 = d2} {loc = loc} fs q te on_way l fit more de) =
       let o = w.alone fs a te (local_ready p false loc a c d1 l) in
       let here : t ≡ a = te ∙ ap (λ x. plug x a) o in
       let z = w.way loc c d1 (subst (λ x. Local p false loc x c d1) (sym here) l) in
@@ -110,23 +109,23 @@ module _ (p : Program) (s : Store) where
         d2,
         (
           subst (λ x. Runs p false true (afterwards x s) rest b r d2) z.1
-              (subst (λ x. Runs p false true (afterwards d1 s) rest x r d2) (ap (λ x. plug x c) o ∙ z.0)
-              (subst (λ x. Runs p false true (afterwards d1 s) x (plug fs c) r d2) same more)),
+              (subst (λ x. Runs p false true (afterwards d1 s) rest x r d2) (ap (λ x. plug (trodden x) c) o ∙ z.0)
+              (subst (λ x. Runs p false true (afterwards d1 s) x (plug (trodden fs) c) r d2) same more)),
           de ∙ ap (λ x. both x d2) z.1,
         ),
       )
-  goes_on t b e w pick rest r d (stop fs i q te h re de) = absurd cc
-  goes_on t b e w pick rest r d (attempt {m = m} {a = a} {body = body} fs q te f bare may run closes more de) =
+  goes_on t b e w pick rest r d (stop fs i q te on_way h re de) = absurd cc
+  goes_on t b e w pick rest r d (attempt {m = m} {a = a} {body = body} fs q te on_way f bare may run closes more de) =
       let o = w.alone fs a te (form_ready a m body f) in
       let here : t ≡ a = te ∙ ap (λ x. plug x a) o in
       absurd (w.plain m body (subst (λ x. Form x m body) (sym here) f))
 
   not_begun : (t b : Term) (e : Effect) → OneWay p t b e → (pick : Pick) (d : Effect) → Begun p true s pick t d → ⊥
-  not_begun t b e w pick d (so_far {m = m} {a = a} {body = body} fs q te f bare may run de) =
+  not_begun t b e w pick d (so_far {m = m} {a = a} {body = body} fs q te on_way f bare may run de) =
       let o = w.alone fs a te (form_ready a m body f) in
       let here : t ≡ a = te ∙ ap (λ x. plug x a) o in
       w.plain m body (subst (λ x. Form x m body) (sym here) f)
-  not_begun t b e w pick d (inside {m = m} {a = a} {body = body} fs q te f bare may run more de) =
+  not_begun t b e w pick d (inside {m = m} {a = a} {body = body} fs q te on_way f bare may run more de) =
       let o = w.alone fs a te (form_ready a m body f) in
       let here : t ≡ a = te ∙ ap (λ x. plug x a) o in
       w.plain m body (subst (λ x. Form x m body) (sym here) f)
@@ -138,22 +137,22 @@ module _ (p : Program) (s : Store) where
     where
       ended_after : (u : Term) (o : Ended) (d2 : Effect) → Runs p false true (afterwards e s) [] u o d2 → d2 ≡ idle
       ended_after u o d2 (none q x y) = y
-      ended_after u o d2 (step fs q te l fit more de) = absurd cc
-      ended_after u o d2 (stop fs i q te h re de) = absurd cc
-      ended_after u o d2 (attempt fs q te f bare may run closes more de) = absurd cc
+      ended_after u o d2 (step fs q te on_way l fit more de) = absurd cc
+      ended_after u o d2 (stop fs i q te on_way h re de) = absurd cc
+      ended_after u o d2 (attempt fs q te on_way f bare may run closes more de) = absurd cc
   next_is t b e w pick d (inr begun) = absurd (not_begun t b e w pick d begun)
 
   -- at a value nothing comes next
-  open_value : (v : Value) (fs : List Frame) (a : Term) (m : Mode) (body : Term) → term.Value v ≡ plug fs a → Form a m body → ⊥
-  open_value v fs a m body te f = let z : at_value v ≡ open_yet = sym (standing-Value v) ∙ ap standing te ∙ plug_open fs a (ready_open a (form_ready a m body f)) in cc
+  no_ready_value : (v : Value) (fs : List Frame) (a : Term) → term.Value v ≡ plug fs a → Ready a → ⊥
+  no_ready_value v fs a te r = let z : at_value v ≡ open_yet = sym (standing-Value v) ∙ ap standing te ∙ plug_open fs a (ready_open a r) in cc
 
   pub value_ends : (v : Value) (pick : Pick) (rest : List Pick) (r : Ended) (d : Effect) → Runs p false true s (pick ∷ rest) (term.Value v) r d → ⊥
   value_ends v pick rest r d (none q x y) = cc
-  value_ends v pick rest r d (step {a = a} {b = b} {d1 = d1} {loc = loc} fs q te l fit more de) = value_still p v fs a b loc d1 te l
-  value_ends v pick rest r d (stop fs i q te h re de) = cc
-  value_ends v pick rest r d (attempt {m = m} {a = a} {body = body} fs q te f bare may run closes more de) = open_value v fs a m body te f
+  value_ends v pick rest r d (step {a = a} {b = b} {d1 = d1} {loc = loc} fs q te on_way l fit more de) = no_ready_value v fs a te (local_ready p false loc a b d1 l)
+  value_ends v pick rest r d (stop fs i q te on_way h re de) = cc
+  value_ends v pick rest r d (attempt {m = m} {a = a} {body = body} fs q te on_way f bare may run closes more de) = no_ready_value v fs a te (form_ready a m body f)
 
   pub value_has_no_next : (v : Value) (pick : Pick) (d : Effect) → IsNext p s (term.Value v) pick d → ⊥
   value_has_no_next v pick d (inl (r, run)) = value_ends v pick [] r d run
-  value_has_no_next v pick d (inr (so_far {m = m} {a = a} {body = body} fs q te f bare may run de)) = open_value v fs a m body te f
-  value_has_no_next v pick d (inr (inside {m = m} {a = a} {body = body} fs q te f bare may run more de)) = open_value v fs a m body te f
+  value_has_no_next v pick d (inr (so_far {m = m} {a = a} {body = body} fs q te on_way f bare may run de)) = no_ready_value v fs a te (form_ready a m body f)
+  value_has_no_next v pick d (inr (inside {m = m} {a = a} {body = body} fs q te on_way f bare may run more de)) = no_ready_value v fs a te (form_ready a m body f)

@@ -1,5 +1,5 @@
 -- The two steps of a greeting.
-use Rattle.std.proofs.Common.{◌≡◌, ℕ, zero, suc, ◌+◌, ◌<◌, Bool, true, false, ◌&&◌, ◌||◌, List, [], ◌∷◌, ◌++◌, map, length, Some, refl, ap, sym, ◌∙◌, subst, arith, inl, inr}
+use Rattle.std.proofs.Common.{◌≡◌, ℕ, zero, suc, ◌+◌, ◌<◌, Bool, true, false, ◌&&◌, ◌||◌, List, [], ◌∷◌, ◌++◌, map, length, Some, refl, ap, sym, ◌∙◌, subst, arith}
 use Rattle.std.specs.Prelude.{slice_get, IsTrue, Contains}
 use Rattle.std.specs.List.{slice_index_or}
 use Rattle.fort_base.specs.declared.ids.DeclId.{DeclId}
@@ -20,6 +20,7 @@ use Rattle.fort_machine.specs.Types.{all_below, type_at, type_of, domain_of}
 use Rattle.fort_machine.specs.Texts.{text_at, text}
 use Rattle.fort_machine.specs.Primitives.{prints}
 use Rattle.fort_machine.specs.Effects.{paid, printed}
+use Rattle.fort_machine.specs.Ends.{has_stepped}
 use Rattle.fort_machine.specs.Acts.{turns, enters, calls, unit, with_first, at_values, by_together}
 use Rattle.fort_machine.specs.Forms.{act_at, act}
 use Rattle.fort_machine.specs.Calls.{IsApplicable, Dispatches, by_answer, by_body}
@@ -27,9 +28,6 @@ use Rattle.fort_machine.specs.Marked.{dozes_at, dozes, Bare}
 use Rattle.fort_machine.specs.Steps.{by_call, Local, steps}
 use Rattle.fort_machine.specs.Worked.{set, decl, println_decl}
 use Rattle.fort_machine.proofs.Standing.{standing-Value}
-use Rattle.fort_subst.specs.Built.{is_built}
-use Rattle.fort_subst.proofs.Kept.{built_roll, built_value, both_true}
-use Rattle.fort_task.specs.Programs.{IsBuiltBody, IsBuiltProgram}
 use Rattle.fort_greet.specs.Program.{IsProgram, printing, run_decl}
 
 -- a set of one declaration has no other one
@@ -109,7 +107,7 @@ module _ (said : List ℕ) (p : Program) (h : IsProgram said p) where
 
   -- the call of `println`
   pub calls_println : act p (printing said) ≡ calls (set 0) (Text said ∷ [])
-  calls_println = ap (act_at p) (outs-Call (set 0) (term.Value (Text said) ∷ [])) ∙ ap (λ st. by_together (with_first st (at_values [])) (calls (set 0))) (standing-Value (Text said))
+  calls_println = ap (act_at p) (outs-Call (set 0) (term.Value (Text said) ∷ [])) ∙ ap (λ st. by_together (with_first st (has_stepped (term.Value (Text said))) (at_values [])) (calls (set 0))) (standing-Value (Text said))
 
   pub println_dispatched : Dispatches p (set 0) (Text said ∷ []) (decl 0) println_decl
   println_dispatched = dispatches 0 (decl 0) println_decl (Text said ∷ []) (ap (λ s. slice_get s 0) h.sets) (ap (λ s. slice_get s 0) h.decls) text_fits
@@ -119,23 +117,3 @@ module _ (said : List ℕ) (p : Program) (h : IsProgram said p) where
 
   pub second_step : Local p false 0 (printing said) (term.Value unit) (printed (line_of said) (line_cost said))
   second_step = steps (turns (term.Value unit) (line_of said) (line_cost said)) (by_call calls_println println_dispatched println_turns) (refl, refl, refl)
-
-  -- only forms that are built stand in it
-  printing_built : is_built (printing said) ≡ true
-  printing_built =
-      ap is_built (sym (rolls-Call (set 0) (term.Value (Text said) ∷ []))) ∙ built_roll (Term-F.Call (set 0) (term.Value (Text said) ∷ []))
-      ∙ both_true (is_built (term.Value (Text said))) true (built_value (Text said)) refl
-
-  starting_built : is_built starting ≡ true
-  starting_built = ap is_built (sym (rolls-Call (set 1) [])) ∙ built_roll (Term-F.Call (set 1) [])
-
-  bodies_built : (n : ℕ) (c : CoreDecl) → slice_get (println_decl ∷ run_decl said ∷ []) n ≡ Some c → IsBuiltBody c.body
-  bodies_built zero c e = let z : println_decl ≡ c = cc in subst (λ (x : CoreDecl). IsBuiltBody x.body) z (inr (inr (inl refl)))
-  bodies_built (suc zero) c e = let z : run_decl said ≡ c = cc in subst (λ (x : CoreDecl). IsBuiltBody x.body) z printing_built
-  bodies_built (suc (suc n)) c e = absurd cc
-
-  pub is_built_program : IsBuiltProgram p
-  is_built_program = record {
-    first = ap is_built h.first ∙ starting_built;
-    bodies = λ n c e. bodies_built n c (ap (λ (ds : List CoreDecl). slice_get ds n) (sym h.decls) ∙ e);
-  }

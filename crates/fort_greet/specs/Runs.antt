@@ -3,10 +3,11 @@ use Rattle.std.specs.Prelude.{◌≡◌, ℕ, ◌+◌, ◌<◌, ◌≤◌, List,
 use Rattle.fort_core.specs.declared.journal.Ending.{Ending}
 use Rattle.fort_core.specs.declared.journal.Ending.TheVariants.{Completed, OutOfFuel}
 use Rattle.fort_core.specs.declared.journal.Journal.{Journal}
-use Rattle.fort_core.specs.declared.pick.Pick.{Pick}
+use Rattle.fort_core.specs.declared.pick.Pick.{Pick, Step}
 use Rattle.fort_core.specs.declared.program.Program.{Program}
 use Rattle.fort_core.specs.declared.term.Term.{Term}
 use Rattle.fort_machine.specs.Effects.{Effect}
+use Rattle.fort_machine.specs.Runs.{path_to, location}
 use Rattle.fort_machine.specs.Journals.{Records}
 use Rattle.fort_greet.specs.Program.{IsProgram}
 use Rattle.fort_greet.specs.declared.greeted.Greeted.{Greeted}
@@ -23,6 +24,18 @@ pub data EndsSo (text : List ℕ) (fuel : ℕ) (output : List ℕ) (ending : End
 -- Every run of a greeting, with whatever fuel, ends so.
 abbrev pub GreetingsEndSo : Type 0
 GreetingsEndSo = (text : List ℕ) (p : Program) (j : Journal) (t : Term) (d : Effect) → IsProgram text p → Records p j t d → EndsSo text j.fuel d.output j.ending
+
+-- A step of the root, which makes no location.
+abbrev pub root_step : Pick
+root_step = Step (path_to []) (location 0)
+
+-- What is answered of a run that stops before a next step of the root, for want of fuel, with nothing printed.
+abbrev pub halted : ℕ → List Pick → Greeted
+halted fuel picks = record { journal = record { fuel = fuel; picks = picks; ending = OutOfFuel root_step }; output = [] }
+
+-- What is answered of a run that is completed, with what it printed.
+abbrev pub finished : ℕ → List Pick → List ℕ → Greeted
+finished fuel picks output = record { journal = record { fuel = fuel; picks = picks; ending = Completed }; output = output }
 
 -- What is answered of a greeting and a fuel: the journal of a run of its program with that fuel, what the run prints, and how it ends.
 pub record Greets (text : List ℕ) (fuel : ℕ) (g : Greeted) : Type 0 where

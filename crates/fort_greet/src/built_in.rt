@@ -168,7 +168,7 @@ pub(crate) fn opening(alloc: Global) -> Result<List<(Loc, Value)>, Memory>
 {
     let mut opening = List::new(alloc);
     for place in 0..EXCEPTIONS {
-        opening.push((Loc(place), Value::unit(alloc)))?;
+        opening.push((Loc(place), Value::unit(alloc)?))?;
     }
     Ok(opening)
 }

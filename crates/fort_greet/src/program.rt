@@ -5,7 +5,7 @@ ghost use Rattle.fort_greet.specs.Program.{IsProgram, only, printing, run_decl};
 ghost use Rattle.fort_machine.specs.Worked.{println_decl};
 
 use crate::built_in::{names, numbers, opening, opening_types, shapes, table};
-use fort_base::{Bytes, DeclId, List, Memory, SetId, Ty};
+use fort_base::{Bytes, DeclId, List, Memory, SetId, Shared, Ty};
 use fort_core::{CoreBody, CoreDecl, CoreSet, Primitive, Program, Term, Value};
 use std::alloc::Global;
 
@@ -25,6 +25,7 @@ pub(crate) fn program_of(alloc: Global, text: Bytes) -> Result<Program, Memory>
     let opening_types = opening_types(alloc)?;
     let sets = sets(alloc)?;
     let decls = decls(alloc, text)?;
+    let first = Shared::new(alloc, Term::Call(SetId(RUN), List::new(alloc)))?;
     Ok(Program {
         types,
         built_in: numbers(),
@@ -32,7 +33,7 @@ pub(crate) fn program_of(alloc: Global, text: Bytes) -> Result<Program, Memory>
         shapes,
         sets,
         decls,
-        first: Term::Call(SetId(RUN), List::new(alloc)),
+        first,
         opening,
         opening_types,
     })
@@ -85,10 +86,11 @@ fn run(alloc: Global, text: Bytes) -> Result<CoreDecl, Memory>
     ensures { IfOk result (λ decl. decl ≡ run_decl text) }
 {
     let mut arguments = List::new(alloc);
-    arguments.push(Term::Value(Value::Text(text)))?;
+    let text = Value::Text(Shared::new(alloc, text)?);
+    arguments.push(Shared::new(alloc, Term::Value(text))?)?;
     Ok(CoreDecl {
         parameters: List::new(alloc),
         result: Ty::Tuple(List::new(alloc)),
-        body: CoreBody::Plain(Term::Call(SetId(PRINTLN), arguments)),
+        body: CoreBody::Plain(Shared::new(alloc, Term::Call(SetId(PRINTLN), arguments))?),
     })
 }

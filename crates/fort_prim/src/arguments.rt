@@ -54,7 +54,7 @@ pub(crate) fn both_texts(arguments: &[Value]) -> Option<(&Bytes, &Bytes)>
         return None;
     }
     match (&arguments[0], &arguments[1]) {
-        (Value::Text(a), Value::Text(b)) => Some((a, b)),
+        (Value::Text(a), Value::Text(b)) => Some((a.get(), b.get())),
         _ => None,
     }
 }
@@ -117,7 +117,7 @@ pub(crate) fn single_text(arguments: &[Value]) -> Option<&Bytes>
         return None;
     }
     match &arguments[0] {
-        Value::Text(a) => Some(a),
+        Value::Text(a) => Some(a.get()),
         _ => None,
     }
 }

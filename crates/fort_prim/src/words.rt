@@ -14,7 +14,7 @@ use crate::counts::length_of;
 use crate::operation::Connective;
 use crate::outcome::natural;
 use crate::results::small_answer;
-use fort_base::Memory;
+use fort_base::{Memory, Shared};
 use fort_core::{Program, Value};
 use fort_value::{same, text};
 use std::alloc::Global;
@@ -76,7 +76,7 @@ pub(crate) fn joined(
             let mut all = text(alloc, program, a)?;
             let more = text(alloc, program, b)?;
             all.append(more)?;
-            Ok(Some(Answer::Value(Value::Text(all))))
+            Ok(Some(Answer::Value(Value::Text(Shared::new(alloc, all)?))))
         }
     }
 }

@@ -15,5 +15,3 @@ mod tokens;
 mod types;
 #[cfg(test)]
 mod values;
-#[cfg(test)]
-mod walks;

@@ -1,5 +1,5 @@
 //! What no clause says: that depth takes no stack.
-use fort_base::{Boxed, List, Loc, Memory, Ty};
+use fort_base::{List, Loc, Memory, Shared, Ty};
 use fort_core::{Path, Pick, Term, Value};
 use std::alloc::Global;
 
@@ -18,12 +18,12 @@ fn nested(alloc: Global, levels: u32) -> Result<Pick, Memory> {
 fn long(alloc: Global, items: u32) -> Result<Term, Memory> {
     let mut term = Term::Value(Value::Truth(true));
     for at in 0..items {
-        let first = Boxed::new(alloc, Term::Value(Value::Truth(false)))?;
-        let rest = Boxed::new(alloc, term)?;
+        let first = Shared::new(alloc, Term::Value(Value::Truth(false)))?;
+        let rest = Shared::new(alloc, term)?;
         term = match at % 3 {
             0 => Term::Then(first, rest),
-            1 => Term::Let(List::new(alloc), first, rest),
-            _ => Term::Mutable(at, Ty::Any, first, rest),
+            1 => Term::Let(Shared::new(alloc, List::new(alloc))?, first, rest),
+            _ => Term::Mutable(at, Shared::new(alloc, Ty::Any)?, first, rest),
         };
     }
     Ok(term)

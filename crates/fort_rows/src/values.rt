@@ -1,5 +1,5 @@
 //! What is asked of values: their texts as they are printed, and their types.
-use fort_base::{Bytes, List, Loc, Memory, Ty, TypeId, TypeTable};
+use fort_base::{Bytes, List, Loc, Memory, Shared, Ty, TypeId, TypeTable};
 use fort_core::{BuiltIn, Program, Term, Value};
 use fort_value::{has_type, same, text, type_of};
 use std::alloc::Global;
@@ -52,7 +52,7 @@ fn program(alloc: Global) -> Result<Program, Memory> {
         shapes: List::new(alloc),
         sets: List::new(alloc),
         decls: List::new(alloc),
-        first: Term::Value(Value::unit(alloc)),
+        first: Shared::new(alloc, Term::Value(Value::unit(alloc)?))?,
         opening: List::new(alloc),
         opening_types: List::new(alloc),
     })
@@ -62,7 +62,11 @@ fn pair(alloc: Global, first: Value, second: Value) -> Result<Value, Memory> {
     let mut parts = List::new(alloc);
     parts.push(first)?;
     parts.push(second)?;
-    Ok(Value::Tuple(parts))
+    Ok(Value::Tuple(Shared::new(alloc, parts)?))
+}
+
+fn text_value(alloc: Global, text: &[u8]) -> Result<Value, Memory> {
+    Ok(Value::Text(Shared::new(alloc, List::from_slice(alloc, text)?)?))
 }
 
 fn printed(alloc: Global, value: Value) -> Result<Bytes, Memory> {
@@ -72,9 +76,9 @@ fn printed(alloc: Global, value: Value) -> Result<Bytes, Memory> {
 #[test]
 fn a_line_of_texts_and_values_is_their_texts_in_a_row(rt: HostRuntime) -> Result<(), Memory> {
     let alloc = rt.alloc();
-    let mut line = printed(alloc, Value::Text(List::from_slice(alloc, b"n = ")?))?;
+    let mut line = printed(alloc, text_value(alloc, b"n = ")?)?;
     line.append(printed(alloc, Value::Small(5))?)?;
-    line.append(printed(alloc, Value::Text(List::from_slice(alloc, b", ok ")?))?)?;
+    line.append(printed(alloc, text_value(alloc, b", ok ")?)?)?;
     line.append(printed(alloc, Value::Truth(true))?)?;
     assert!(rt; line.as_slice() == b"n = 5, ok true".as_slice());
     Ok(())
@@ -92,12 +96,11 @@ fn quotients_and_remainders_are_printed_with_their_sign(rt: HostRuntime) -> Resu
 #[test]
 fn other_values_are_printed_by_their_kind(rt: HostRuntime) -> Result<(), Memory> {
     let alloc = rt.alloc();
-    assert!(rt; printed(alloc, Value::unit(alloc))?.as_slice() == b"()".as_slice());
+    assert!(rt; printed(alloc, Value::unit(alloc)?)?.as_slice() == b"()".as_slice());
     let both = pair(alloc, Value::Range(5, 2), Value::Object(TypeId(5), Loc(9)))?;
     assert!(rt; printed(alloc, both)?.as_slice() == b"(5#2, Oops)".as_slice());
-    assert!(rt;
-        printed(alloc, Value::Array(Ty::Any, Loc(3), 7))?.as_slice() == b"array of 7".as_slice()
-    );
+    let array = Value::Array(Shared::new(alloc, Ty::Any)?, Loc(3), 7);
+    assert!(rt; printed(alloc, array)?.as_slice() == b"array of 7".as_slice());
     Ok(())
 }
 

@@ -1,5 +1,5 @@
 use crate::Store;
-use fort_base::{List, Loc, Memory, TypeId, TypeTable};
+use fort_base::{List, Loc, Memory, Shared, TypeId, TypeTable};
 use fort_core::{BuiltIn, Program, Term, Value};
 use std::alloc::Global;
 
@@ -27,13 +27,13 @@ fn opened(alloc: Global) -> Result<Store, Memory> {
     opening.push((Loc(7), Value::Small(1)))?;
     opening.push((Loc(7), Value::Small(2)))?;
     opening.push((Loc(u64::MAX), Value::Small(3)))?;
-    Store::of(&program(alloc, opening))
+    Store::of(&program(alloc, opening)?)
 }
 
 // A program of no types and no declarations.
-fn program(alloc: Global, opening: List<(Loc, Value)>) -> Program {
+fn program(alloc: Global, opening: List<(Loc, Value)>) -> Result<Program, Memory> {
     let none = TypeId(0);
-    Program {
+    Ok(Program {
         types: TypeTable {
             below: List::new(alloc),
             apart: List::new(alloc),
@@ -59,10 +59,10 @@ fn program(alloc: Global, opening: List<(Loc, Value)>) -> Program {
         shapes: List::new(alloc),
         sets: List::new(alloc),
         decls: List::new(alloc),
-        first: Term::Value(Value::unit(alloc)),
+        first: Shared::new(alloc, Term::Value(Value::unit(alloc)?))?,
         opening,
         opening_types: List::new(alloc),
-    }
+    })
 }
 
 #[test]

@@ -1,7 +1,0 @@
-use Rattle.std.proofs.Common.{◌≡◌, drop}
-use Rattle.fort_machine.specs.Acts.{standing_together}
-use Rattle.fort_task.specs.Stands.{gathered_first}
-use Rattle.fort_task.proofs.gathering.together.Given as goal
-
-abbrev pub invariant-loop-part : goal.invariant-loop-part
-invariant-loop-part l = standing_together l.part-items ≡ gathered_first l.gathered (standing_together (drop l.part-index l.part-items))
