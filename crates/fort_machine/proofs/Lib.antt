@@ -11,6 +11,7 @@ pub mod Plain
 pub mod Inside
 pub mod Substituted
 pub mod Less
+pub mod Written
 pub mod Frame
 pub mod Legs
 pub mod WorkedRuns

@@ -15,6 +15,7 @@ pub mod Forms
 pub mod Calls
 pub mod OneDefinition
 pub mod Marked
+pub mod Written
 pub mod Steps
 pub mod Attempts
 pub mod Runs
