@@ -21,6 +21,7 @@ pub mod Attempts
 pub mod Runs
 pub mod Threads
 pub mod Journals
+pub mod Proper
 pub mod EffectLaws
 pub mod RunLaws
 pub mod Plain

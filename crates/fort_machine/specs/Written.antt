@@ -1,5 +1,5 @@
 -- Chapter "Programs as written": which terms and programs are as a component's text gives them, before any step. The translation makes no others; a run's terms have more.
-use Rattle.std.specs.Prelude.{◌≡◌, ℕ, ◌≤◌, Bool, false, List, [], ◌∷◌, ◌++◌, map, flat_map, length, slice_get, Option, Some, None, nat_lt}
+use Rattle.std.specs.Prelude.{◌≡◌, ℕ, false, List, [], ◌∷◌, ◌++◌, map, flat_map, length, slice_get, Some, None, nat_lt}
 use Rattle.std.specs.List.{list_any, concat}
 use Rattle.fort_base.specs.declared.ids.DeclId.{DeclId}
 use Rattle.fort_base.specs.declared.ids.Loc.{Loc}

@@ -1,5 +1,5 @@
 -- The programs of the worked runs are as they are written.
-use Rattle.std.proofs.Common.{◌≡◌, ℕ, Bool, false, List, [], ◌∷◌, ◌++◌, map, refl, ap, sym, ◌∙◌, subst}
+use Rattle.std.proofs.Common.{◌≡◌, ℕ, false, List, [], ◌∷◌, ◌++◌, map, refl, ap, sym, ◌∙◌, subst}
 use Rattle.std.specs.List.{list_any, concat}
 use Rattle.std.specs.Prelude.{nat_lt}
 use Rattle.fort_core.specs.declared.form.Mode.TheVariants as mode
@@ -7,20 +7,19 @@ use Rattle.fort_core.specs.declared.form.Slot.{Slot}
 use Rattle.fort_core.specs.declared.program.Program.{Program}
 use Rattle.fort_core.specs.declared.term.Term.{Term, Call}
 use Rattle.fort_core.specs.declared.term.Term as term
-use Rattle.fort_core.specs.declared.value.Value.{Value}
 use Rattle.fort_machine.specs.Acts.{unit}
 use Rattle.fort_machine.specs.Ends.{throw_of}
-use Rattle.fort_machine.specs.Written.{StandOnce, terms_of, constants_of, all_functions, functions_in, functions_in_value, AllWrittenValues, end_of_values, first_value, all_binders, WrittenProgram}
+use Rattle.fort_machine.specs.Written.{StandOnce, terms_of, constants_of, functions_in_value, AllWrittenValues, end_of_values, first_value, all_binders, WrittenProgram}
 use Rattle.fort_machine.specs.Worked.{set, letter, printing, hello}
 use Rattle.fort_worked.specs.Pieces.{written, number, number_type}
-use Rattle.fort_worked.specs.Overflow.{sum, printing_sum, overflow, overflowing}
+use Rattle.fort_worked.specs.Overflow.{printing_sum, overflowing}
 use Rattle.fort_worked.specs.TwoThreads.{two_blocks, two_threads}
 use Rattle.fort_worked.specs.TwoThreads as two
-use Rattle.fort_worked.specs.Failing.{exception, clauses, inner_body, inner, catching, outer_body, outer, failing_body, failing}
-use Rattle.fort_worked.specs.Sleeping.{test, waiting_body, setting_body, setting, blocks, sleeping_body, sleeping}
+use Rattle.fort_worked.specs.Failing.{exception, inner, catching, outer, failing_body, failing}
+use Rattle.fort_worked.specs.Sleeping.{blocks, sleeping_body, sleeping}
 use Rattle.fort_worked.specs.Passing.{passing_body, passing}
 use Rattle.fort_worked.specs.AsWritten.{WorkedAreWritten}
-use Rattle.fort_worked.proofs.WrittenForms.{Plain, Plains, none, next, PlainValue, plain_unit, plain_object, plain_text, plain_number, plain-Value, plain-Throw, plain-Call, plain-Operator, plain-Mutable, plain-Read, plain-Write, plain-Then, plain-If, plain-Also, plain-Try, plain-Atomic, EachDeclared, declared}
+use Rattle.fort_worked.proofs.WrittenForms.{Plain, Plains, none, next, plain_unit, plain_object, plain_text, plain_number, plain-Value, plain-Throw, plain-Call, plain-Operator, plain-Mutable, plain-Read, plain-Write, plain-Then, plain-If, plain-Also, plain-Try, plain-Atomic, EachDeclared, declared}
 
 -- a body of a declaration without parameters binds past them
 past : {xs : List ℕ} (t : Term) → Plain t xs → list_any (λ n. nat_lt n 0) xs ≡ false → list_any (λ n. nat_lt n 0) (all_binders t) ≡ false

@@ -1,5 +1,5 @@
 -- Forms as they are written, with what they bind, at each form that the worked programs have; no function stands there.
-use Rattle.std.proofs.Common.{◌≡◌, ℕ, zero, suc, ◌==◌, Bool, false, ◌||◌, List, [], ◌∷◌, ◌++◌, map, Some, None, refl, ap, sym, ◌∙◌, subst}
+use Rattle.std.proofs.Common.{◌≡◌, ℕ, zero, suc, List, [], ◌∷◌, ◌++◌, map, Some, None, refl, ap, sym, ◌∙◌, subst}
 use Rattle.std.specs.Prelude.{slice_get, ℤ}
 use Rattle.std.specs.List.{list_any, concat}
 use Rattle.fort_base.specs.declared.ids.Loc.{Loc}
