@@ -24,3 +24,8 @@ IsFirst Breaks (Some place) = IsEarliest Breaks place
 abbrev pub Keeps : Option Place → Place → Option Place → Type 0
 Keeps None place kept = kept ≡ Some place
 Keeps (Some best) place kept = (IsBefore best place × (kept ≡ Some best)) ⊎ ((IsBefore best place → ⊥) × (kept ≡ Some place))
+
+-- What is kept of two places each of which may be wanting.
+abbrev pub KeepsAny : Option Place → Option Place → Option Place → Type 0
+KeepsAny best None kept = kept ≡ best
+KeepsAny best (Some place) kept = Keeps best place kept

@@ -14,6 +14,7 @@ mod ty;
 pub use boxed::Boxed;
 pub use ids::{BookId, DeclId, Loc, NameId, SetId, TaskId, TypeId};
 pub use list::{Bytes, List};
+pub use place::{earlier, earlier_of};
 pub use refusal::{CheckFault, Gap, Memory, Place, Rule};
 pub use shared::Shared;
 pub use table::TypeTable;

@@ -1,6 +1,6 @@
-//! The order of places in a file.
+//! The order of places in a file. The chapter "Places" of docs/LANGUAGE.md.
 ghost use Rattle.std.specs.Prelude.{◌≡◌, ◌↔◌, IsTrue};
-ghost use Rattle.fort_base.specs.Places.{IsBefore, Keeps, is_before};
+ghost use Rattle.fort_base.specs.Places.{IsBefore, Keeps, KeepsAny, is_before};
 
 use crate::refusal::Place;
 
@@ -12,14 +12,24 @@ impl Place {
     {
         self.line < other.line || (self.line == other.line && self.column < other.column)
     }
+}
 
-    /// The earlier of the place so far, where there is one, and this one; of two equal places either.
-    pub fn or_earlier(self, best: Option<Place>) -> Option<Place>
-        ensures { Keeps best self result }
-    {
-        match best {
-            Some(held) if held.is_before(self) => Some(held),
-            _ => Some(self),
-        }
+/// The earlier of the place so far, where there is one, and a further one; of two equal places either.
+pub fn earlier(best: Option<Place>, place: Place) -> Option<Place>
+    ensures { Keeps best place result }
+{
+    match best {
+        Some(held) if held.is_before(place) => Some(held),
+        _ => Some(place),
+    }
+}
+
+/// The earlier of two places each of which may be wanting; none where both are.
+pub fn earlier_of(best: Option<Place>, further: Option<Place>) -> Option<Place>
+    ensures { KeepsAny best further result }
+{
+    match further {
+        Some(place) => earlier(best, place),
+        None => best,
     }
 }

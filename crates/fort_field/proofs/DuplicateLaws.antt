@@ -7,14 +7,13 @@ use Rattle.fort_base.specs.declared.refusal.Place.{Place}
 use Rattle.fort_types.specs.declared.hierarchy.DeclaredType.{DeclaredType}
 use Rattle.fort_types.specs.declared.hierarchy.TypeKind.TheVariants as a_kind
 use Rattle.fort_types.specs.Hierarchy.{DeclaredTypes}
-use Rattle.fort_tree.specs.Limits.{IsBefore}
-use Rattle.fort_hier.specs.Earliest.{IsEarliest, IsFirst, Keeps}
+use Rattle.fort_base.specs.Places.{IsBefore, IsEarliest, IsFirst, Keeps, KeepsAny}
 use Rattle.fort_hier.proofs.First.{Among, not_before, first_same, first_more, first_all, same_place}
 use Rattle.fort_set.specs.declared.field.Field.{Field}
 use Rattle.fort_field.specs.Inherited.{DeclaresNone, Has, inherited}
 use Rattle.fort_field.specs.Gathering.{HasAll}
 use Rattle.fort_field.specs.Rules.{IsRepeated, DeclaresTwice, GetsTwo, IsDuplicate}
-use Rattle.fort_field.specs.Walks.{HasFieldNamed, KeepsAny, Differ, DifferAt, SomeDiffer, fields_of}
+use Rattle.fort_field.specs.Walks.{HasFieldNamed, Differ, DifferAt, SomeDiffer, fields_of}
 use Rattle.fort_field.proofs.Items.{get_of, of_get}
 use Rattle.fort_field.proofs.InheritLaws.{declares_of, none_named, none_declared}
 use Rattle.fort_field.proofs.RepeatLaws.{TwiceAt}

@@ -3,7 +3,7 @@ use Rattle.std.proofs.Common.{◌≡◌, ◌<◌, ◌≤◌, ◌+◌, ℕ, zero,
 use Rattle.std.specs.List.{slice_get}
 use Rattle.std.proofs.lemmas.Option.{slice_get_within}
 use Rattle.fort_base.specs.declared.refusal.Place.{Place}
-use Rattle.fort_hier.specs.Earliest.{IsFirst, Keeps}
+use Rattle.fort_base.specs.Places.{IsFirst, Keeps}
 use Rattle.fort_hier.proofs.First.{Among, first_same, first_more, first_all}
 use Rattle.fort_set.specs.declared.field.Field.{Field}
 use Rattle.fort_field.specs.Rules.{IsRepeated}

@@ -5,7 +5,7 @@ use Rattle.fort_base.specs.declared.refusal.CheckFault.TheVariants as a_fault
 use Rattle.fort_base.specs.declared.refusal.Place.{Place}
 use Rattle.fort_tree.specs.declared.declarations.Component.{Component}
 use Rattle.fort_types.specs.Hierarchy.{DeclaredTypes}
-use Rattle.fort_hier.specs.Earliest.{IsFirst}
+use Rattle.fort_base.specs.Places.{IsFirst}
 use Rattle.fort_hier.specs.Hierarchies.{declares, places_of}
 use Rattle.fort_set.specs.declared.field.Field.{Field}
 use Rattle.fort_field.specs.Own.{own_fields}

@@ -1,12 +1,13 @@
 -- The chapter "Members", its two rules. The code asks 451 of each type, and then 452 of each field of a trait and each type below it.
 use Rattle.std.specs.Prelude.{◌≡◌, ◌≢◌, ◌⊎◌, ◌<◌, ◌≤◌, ◌+◌, ◌-◌, ℕ, List, length, slice_get, Some}
+use Rattle.fort_base.specs.declared.rules.TheConstants.{DUPLICATE_MEMBER, FIELD_NOT_BELOW}
 use Rattle.fort_base.specs.declared.refusal.CheckFault.{CheckFault}
 use Rattle.fort_base.specs.declared.refusal.CheckFault.TheVariants as a_fault
 use Rattle.fort_base.specs.declared.refusal.Place.{Place}
 use Rattle.fort_tree.specs.declared.declarations.Component.{Component}
 use Rattle.fort_types.specs.Hierarchy.{DeclaredTypes, Extends, Trait, Leaf, Path}
 use Rattle.fort_types.specs.Types.{Below}
-use Rattle.fort_hier.specs.Earliest.{IsEarliest}
+use Rattle.fort_base.specs.Places.{IsEarliest}
 use Rattle.fort_hier.specs.Hierarchies.{declares, places_of}
 use Rattle.fort_set.specs.declared.field.Field.{Field}
 use Rattle.fort_field.specs.Own.{own_fields}
@@ -57,8 +58,8 @@ IsNotBelow h own places place = AtName h places (LacksField h own) place
 
 -- A component whose types are an accepted hierarchy breaks a rule at a place.
 pub data Broken (c : Component) (rule : ℕ) (place : Place) : Type 0 where
-  duplicate : rule ≡ 451 → IsDuplicate (declares c) (own_fields c) (places_of c) place → Broken c rule place
-  not_below : rule ≡ 452 → IsNotBelow (declares c) (own_fields c) (places_of c) place → Broken c rule place
+  duplicate : rule ≡ DUPLICATE_MEMBER.0 → IsDuplicate (declares c) (own_fields c) (places_of c) place → Broken c rule place
+  not_below : rule ≡ FIELD_NOT_BELOW.0 → IsNotBelow (declares c) (own_fields c) (places_of c) place → Broken c rule place
 
 -- A component breaks a rule, there at the earliest, and no rule of a lower number.
 pub record IsReported (c : Component) (rule : ℕ) (place : Place) : Type 0 where
@@ -72,6 +73,6 @@ IsFault c a_fault.Memory = Unit {0}
 
 -- A refusal by 451 at its earliest place; or by 452 at its earliest place, where 451 is broken nowhere.
 abbrev pub IsFieldRefusal : DeclaredTypes → List (List Field) → List Place → CheckFault → Type 0
-IsFieldRefusal h own places (a_fault.Refused rule place) = ((rule.0 ≡ 451) × IsEarliest (IsDuplicate h own places) place)
-    ⊎ ((rule.0 ≡ 452) × IsEarliest (IsNotBelow h own places) place × ((at : Place) → IsDuplicate h own places at → ⊥))
+IsFieldRefusal h own places (a_fault.Refused rule place) = ((rule.0 ≡ DUPLICATE_MEMBER.0) × IsEarliest (IsDuplicate h own places) place)
+    ⊎ ((rule.0 ≡ FIELD_NOT_BELOW.0) × IsEarliest (IsNotBelow h own places) place × ((at : Place) → IsDuplicate h own places at → ⊥))
 IsFieldRefusal h own places a_fault.Memory = Unit {0}

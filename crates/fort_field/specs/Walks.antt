@@ -4,7 +4,7 @@ use Rattle.indexmap.specs.IndexMap.{get}
 use Rattle.indexmap.specs.IndexSet.{contains, IndexSet}
 use Rattle.fort_base.specs.declared.ids.NameId.{NameId}
 use Rattle.fort_base.specs.declared.refusal.Place.{Place}
-use Rattle.fort_hier.specs.Earliest.{Keeps}
+use Rattle.fort_base.specs.Places.{Keeps}
 use Rattle.fort_types.specs.declared.hierarchy.DeclaredType.{DeclaredType}
 use Rattle.fort_types.specs.declared.hierarchy.TypeKind.TheVariants as a_kind
 use Rattle.fort_types.specs.Hierarchy.{DeclaredTypes, Extends}
@@ -36,11 +36,6 @@ LikeAt fs at f = (g : Field) × (slice_get fs at ≡ Some g) × IsLike f g
 -- Two fields have one name and different types.
 abbrev pub IsUnlike : Field → Field → Type 0
 IsUnlike f g = (g.name ≡ f.name) × (g.ty ≢ f.ty)
-
--- What the code keeps of a place so far and a further one, where there are such.
-abbrev pub KeepsAny : Option Place → Option Place → Option Place → Type 0
-KeepsAny best None kept = kept ≡ best
-KeepsAny best (Some place) kept = Keeps best place kept
 
 -- ---- 451
 

@@ -3,7 +3,7 @@ ghost use Rattle.std.specs.Prelude.{◌≡◌, ◌<◌, ◌≤◌, ◌^◌, leng
 ghost use Rattle.fort_types.specs.Hierarchy.{Sound};
 ghost use Rattle.fort_types.specs.Table.{HasRows};
 ghost use Rattle.fort_type_names.specs.TypeNames.{type_names};
-ghost use Rattle.fort_hier.specs.Earliest.{IsFirst};
+ghost use Rattle.fort_base.specs.Places.{IsFirst};
 ghost use Rattle.fort_hier.specs.Heads.{heads_of};
 ghost use Rattle.fort_hier.specs.Hierarchies.{IsHierarchy};
 ghost use Rattle.fort_hier.specs.Numbers.{HoldsNumbers, all_types};
@@ -15,17 +15,14 @@ use crate::duplicates::first_duplicate;
 use crate::inherited::all_fields;
 use crate::lacking::first_lacking;
 use crate::own::own_in;
-use fort_base::{CheckFault, List, Place, Rule, TypeTable};
+use fort_base::rules::{DUPLICATE_MEMBER, FIELD_NOT_BELOW};
+use fort_base::{CheckFault, List, Place, TypeTable};
 use fort_hier::{Hierarchy, Numbers, TypeHead, heads_in, numbers_in, places_in, types_in};
 use fort_set::Field;
 use fort_tree::Component;
 use fort_types::DeclaredType;
 use std::alloc::Global;
 
-/// 451 DuplicateMember
-const DUPLICATE_MEMBER: Rule = Rule(451);
-/// 452 FieldNotBelow
-const FIELD_NOT_BELOW: Rule = Rule(452);
 /// More types than this have no numbers.
 const MOST_TYPES: usize = 0x4000_0000;
 /// How many names of types are built in, `Any` among them.

@@ -1,15 +1,14 @@
 //! 451: two fields of one name.
 ghost use Rattle.std.specs.Prelude.{◌≡◌, ◌≤◌, ◌<◌, ◌↔◌, IsTrue, IfOk, length};
-ghost use Rattle.fort_hier.specs.Earliest.{IsFirst};
+ghost use Rattle.fort_base.specs.Places.{IsFirst};
 ghost use Rattle.fort_field.specs.Rules.{DeclaresTwice, GetsTwo, IsDuplicate};
 ghost use Rattle.fort_field.specs.Gathering.{HasAll};
-ghost use Rattle.fort_field.specs.Walks.{SomeIn, KeepsAny, IsUnlike, HasOther, Differ, DifferAt, DiffersFrom, SomeDiffer};
+ghost use Rattle.fort_field.specs.Walks.{SomeIn, IsUnlike, HasOther, Differ, DifferAt, DiffersFrom, SomeDiffer};
 
 use crate::gathering::declares;
 use crate::inherited::fields_at;
 use crate::repeats::first_repeated;
-use fort_base::{List, Memory, Place};
-use fort_hier::earlier;
+use fort_base::{List, Memory, Place, earlier, earlier_of};
 use fort_set::Field;
 use fort_types::DeclaredType;
 use std::alloc::Global;
@@ -49,16 +48,6 @@ fn first_declared_twice(alloc: Global, own: &[List<Field>]) -> Result<Option<Pla
         best = earlier_of(best, first_repeated(alloc, fields.as_slice())?);
     }
     Ok(best)
-}
-
-/// The earlier of two places, where there are such.
-fn earlier_of(best: Option<Place>, further: Option<Place>) -> Option<Place>
-    ensures { KeepsAny best further result }
-{
-    match further {
-        Some(place) => earlier(best, place),
-        None => best,
-    }
 }
 
 /// Whether a type is a trait that gets a field which it doesn't declare from two types, with different types.

@@ -2,14 +2,13 @@
 ghost use Rattle.std.specs.Prelude.{◌≡◌, ◌≤◌, ◌<◌, ◌↔◌, IsTrue, length, List as Seq};
 ghost use Rattle.fort_types.specs.declared.hierarchy.DeclaredType.{DeclaredType as ADeclared};
 ghost use Rattle.fort_types.specs.Table.{HasRows};
-ghost use Rattle.fort_hier.specs.Earliest.{IsFirst};
+ghost use Rattle.fort_base.specs.Places.{IsFirst};
 ghost use Rattle.fort_field.specs.Rules.{LacksField, IsNotBelow};
 ghost use Rattle.fort_field.specs.Walks.{SomeIn, Lacks, LacksOf, IsWiderThan};
 
 use crate::gathering::declares;
 use crate::inherited::fields_at;
-use fort_base::{List, Place, TypeTable};
-use fort_hier::earlier;
+use fort_base::{List, Place, TypeTable, earlier};
 use fort_set::Field;
 use fort_types::{DeclaredType, below, set_at};
 

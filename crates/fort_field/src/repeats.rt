@@ -1,12 +1,11 @@
 //! Names that stand twice among fields.
 ghost use Rattle.std.specs.Prelude.{◌≡◌, ◌++◌, ◌∷◌, [], ◌↔◌, IsTrue, IfOk, OnOk, List as Seq};
-ghost use Rattle.fort_hier.specs.Earliest.{IsFirst};
+ghost use Rattle.fort_base.specs.Places.{IsFirst};
 ghost use Rattle.fort_set.specs.declared.field.Field.{Field as AField};
 ghost use Rattle.fort_field.specs.Rules.{IsRepeated};
 ghost use Rattle.fort_field.specs.Walks.{HasFieldNamed, HoldsNames};
 
-use fort_base::{Memory, NameId, Place};
-use fort_hier::earlier;
+use fort_base::{Memory, NameId, Place, earlier};
 use fort_set::Field;
 use indexmap::IndexSet;
 use std::alloc::Global;

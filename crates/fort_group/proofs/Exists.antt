@@ -2,6 +2,7 @@
 use Rattle.std.proofs.Common.{◌≡◌, ℕ, zero, suc, ◌+◌, ◌-◌, ◌<◌, ◌≤◌, Bool, true, false, List, length, get_or, Option, Some, None, IsTrue, ◌⊎◌, inl, inr, refl, ap, arith, subst}
 use Rattle.std.proofs.lemmas.Bool.{cases_lt}
 use Rattle.std.proofs.lemmas.Option.{slice_get-get_or}
+use Rattle.fort_base.specs.declared.rules.TheConstants.{MIXED_SPACING, NO_PRECEDENCE, SPACING_CONTRADICTS, BAD_CHAIN}
 use Rattle.fort_base.specs.declared.refusal.Place.{Place}
 use Rattle.fort_base.specs.declared.refusal.Rule.{Rule}
 use Rattle.fort_ops.specs.declared.op.Op.{Op}
@@ -14,7 +15,6 @@ use Rattle.fort_tree.specs.declared.grouped.Row.{Row}
 use Rattle.fort_tree.specs.declared.grouped.Grouped.{Grouped, out-Grouped}
 use Rattle.fort_tree.specs.declared.grouped.Grouped as tree
 use Rattle.fort_tree.specs.declared.grouped.Grouped.TheOpen.{Grouped-F}
-use Rattle.fort_group.specs.declared.answer.TheConstants.{MIXED_SPACING, NO_PRECEDENCE, SPACING_CONTRADICTS, BAD_CHAIN}
 use Rattle.fort_group.specs.declared.form.Form.{Form}
 use Rattle.fort_group.specs.declared.form.Form.TheVariants as a_form
 use Rattle.fort_group.specs.Joints.{operator_of, operator_in, between, strength}

@@ -1,7 +1,7 @@
 -- The rule that is broken, from what the code has asked.
 use Rattle.std.proofs.Common.{◌≡◌, Bool, true, false, not, refl, List, length, Some, None, sym, subst}
+use Rattle.fort_base.specs.declared.rules.TheConstants.{MIXED_SPACING, NO_PRECEDENCE, SPACING_CONTRADICTS, BAD_CHAIN}
 use Rattle.fort_base.specs.declared.refusal.Place.{Place}
-use Rattle.fort_group.specs.declared.answer.TheConstants.{MIXED_SPACING, NO_PRECEDENCE, SPACING_CONTRADICTS, BAD_CHAIN}
 use Rattle.fort_tree.specs.declared.grouped.Joint.{Joint}
 use Rattle.fort_tree.specs.declared.grouped.Row.{Row}
 use Rattle.fort_tree.specs.declared.grouped.Grouped.{Grouped}

@@ -1,5 +1,6 @@
 -- The chapter "Operators", its refusals: what `group` answers. The code asks the four rules in turn.
 use Rattle.std.specs.Prelude.{◌≡◌, ℕ, List, length, Some, None, Result, Ok, Err, ◌⊎◌}
+use Rattle.fort_base.specs.declared.rules.TheConstants.{MIXED_SPACING, NO_PRECEDENCE, SPACING_CONTRADICTS, BAD_CHAIN}
 use Rattle.fort_base.specs.declared.refusal.Place.{Place}
 use Rattle.fort_base.specs.declared.refusal.Rule.{Rule}
 use Rattle.fort_base.specs.declared.refusal.CheckFault.{CheckFault}
@@ -7,7 +8,6 @@ use Rattle.fort_base.specs.declared.refusal.CheckFault.TheVariants.{Refused, Mem
 use Rattle.fort_tree.specs.declared.grouped.Joint.{Joint}
 use Rattle.fort_tree.specs.declared.grouped.Row.{Row}
 use Rattle.fort_tree.specs.declared.grouped.Grouped.{Grouped}
-use Rattle.fort_group.specs.declared.answer.TheConstants.{MIXED_SPACING, NO_PRECEDENCE, SPACING_CONTRADICTS, BAD_CHAIN}
 use Rattle.fort_group.specs.Grouping.{IsGrouping}
 use Rattle.fort_group.specs.Spacing.{first_mixed, Agrees}
 use Rattle.fort_group.specs.Chains.{IsSensible}

@@ -5,19 +5,11 @@ ghost use Rattle.fort_group.specs.Yield.{UnitsInOrder};
 use crate::chains::is_sensible;
 use crate::part::part;
 use crate::spacing::{first_mixed, spacing_of};
-use fort_base::{CheckFault, Rule};
+use fort_base::CheckFault;
+use fort_base::rules::{BAD_CHAIN, MIXED_SPACING, NO_PRECEDENCE, SPACING_CONTRADICTS};
 use fort_flats::row;
 use fort_tree::{Flat, Grouped, Row};
 use std::alloc::Global;
-
-/// An infix operator has a gap on one side only.
-pub const MIXED_SPACING: Rule = Rule(301);
-/// There is no grouping, spacing aside.
-pub const NO_PRECEDENCE: Rule = Rule(302);
-/// The spacing contradicts the grouping.
-pub const SPACING_CONTRADICTS: Rule = Rule(303);
-/// A chain has no one sense.
-pub const BAD_CHAIN: Rule = Rule(304);
 
 /// The one grouping of a flat expression; its numbers are places of units, counted from 0.
 ///

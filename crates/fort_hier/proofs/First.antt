@@ -2,8 +2,7 @@
 use Rattle.std.proofs.Common.{◌≡◌, ◌<◌, ◌+◌, ◌⊎◌, inl, inr, ℕ, List, Option, Some, None, sym, subst, arith}
 use Rattle.std.specs.List.{slice_get}
 use Rattle.fort_base.specs.declared.refusal.Place.{Place}
-use Rattle.fort_tree.specs.Limits.{IsBefore}
-use Rattle.fort_hier.specs.Earliest.{IsFirst, Keeps}
+use Rattle.fort_base.specs.Places.{IsBefore, IsFirst, Keeps}
 
 -- What breaks a rule among the first ones.
 abbrev pub Among : (ℕ → Place → Type 0) → ℕ → Place → Type 0

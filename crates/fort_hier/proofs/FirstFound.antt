@@ -4,7 +4,7 @@ use Rattle.fort_base.specs.declared.refusal.Place.{Place}
 use Rattle.fort_types.specs.Hierarchy.{DeclaredTypes}
 use Rattle.fort_hier.specs.declared.lowest.BrokenSentence.{BrokenSentence}
 use Rattle.fort_hier.specs.declared.tops.Top.{Top}
-use Rattle.fort_hier.specs.Earliest.{IsFirst}
+use Rattle.fort_base.specs.Places.{IsFirst}
 use Rattle.fort_hier.specs.Lowest.{IsLowestFrom}
 use Rattle.fort_hier.specs.Names.{Spelling, all_called, IsDuplicate}
 

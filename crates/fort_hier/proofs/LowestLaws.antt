@@ -5,7 +5,7 @@ use Rattle.fort_types.specs.Hierarchy.{DeclaredTypes}
 use Rattle.fort_hier.specs.declared.lowest.BrokenSentence.{BrokenSentence}
 use Rattle.fort_hier.specs.declared.sentences.Sentence.{Sentence}
 use Rattle.fort_hier.specs.declared.sentences.Sentence.TheVariants as sentence
-use Rattle.fort_hier.specs.Earliest.{IsEarliest}
+use Rattle.fort_base.specs.Places.{IsEarliest}
 use Rattle.fort_hier.specs.Sentences.{BreaksAt}
 use Rattle.fort_hier.specs.Lowest.{rule_number, IsLowest, IsLowestFrom}
 

@@ -6,7 +6,7 @@ use Rattle.std.proofs.lemmas.List.{take_more, map-append, append-nil}
 use Rattle.std.proofs.Math.ListN.{length-append}
 use Rattle.fort_base.specs.declared.refusal.Place.{Place}
 use Rattle.fort_hier.specs.declared.tops.Top.{Top}
-use Rattle.fort_hier.specs.Earliest.{IsFirst, Keeps}
+use Rattle.fort_base.specs.Places.{IsFirst, Keeps}
 use Rattle.fort_hier.specs.Names.{Spelling, spelling, Called, type_called, function_called, declared_spellings, any_spelling, type_spellings, function_spellings, built_in, called, all_called, ClashesWith, DuplicateAt, IsDuplicate}
 use Rattle.fort_hier.specs.declared.seen.Seen.{Seen}
 use Rattle.fort_hier.specs.Seen.{HoldsSeen}

@@ -11,7 +11,7 @@ use Rattle.fort_base.specs.declared.refusal.Place.{Place}
 use Rattle.fort_tree.specs.declared.spot.Name.{Name}
 use Rattle.fort_hier.specs.declared.heads.TypeHead.{TypeHead}
 use Rattle.fort_hier.specs.declared.numbers.Numbers.{Numbers}
-use Rattle.fort_hier.specs.Earliest.{IsFirst, Keeps}
+use Rattle.fort_base.specs.Places.{IsFirst, Keeps}
 use Rattle.fort_hier.specs.Names.{Spelling, spelling, declared_spellings, any_spelling, type_spellings}
 use Rattle.fort_hier.specs.Numbers.{head_spelling, number_of, NumberIs, numbered_as, HoldsNumbers, IsUnknown, all_types}
 use Rattle.fort_hier.proofs.First.{Among, first_same, first_more, first_all}

@@ -7,7 +7,7 @@ use Rattle.fort_tree.specs.declared.declarations.Component.{Component}
 use Rattle.fort_tree.specs.declared.spot.Name.{Name}
 use Rattle.fort_hier.specs.declared.sentences.Sentence.{Sentence}
 use Rattle.fort_hier.specs.declared.sentences.Sentence.TheVariants as sentence
-use Rattle.fort_hier.specs.Earliest.{IsFirst}
+use Rattle.fort_base.specs.Places.{IsFirst}
 use Rattle.fort_hier.specs.Heads.{heads_of}
 use Rattle.fort_hier.specs.Tops.{tops_of}
 use Rattle.fort_hier.specs.Names.{all_called, IsDuplicate}

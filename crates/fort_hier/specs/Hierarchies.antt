@@ -1,6 +1,7 @@
 -- The chapter "Types", the rules of a hierarchy: which rule a component breaks, which one is reported, and what an accepted component has.
 -- The code asks one rule after another and leaves at the first that is broken.
 use Rattle.std.specs.Prelude.{◌≡◌, ◌≤◌, ◌^◌, ◌++◌, ℕ, List, None, map, length, replicate}
+use Rattle.fort_base.specs.declared.rules.TheConstants.{DUPLICATE_NAME, UNKNOWN_TYPE, CYCLIC_EXTENDS}
 use Rattle.fort_base.specs.declared.refusal.CheckFault.{CheckFault}
 use Rattle.fort_base.specs.declared.refusal.CheckFault.TheVariants as a_fault
 use Rattle.fort_base.specs.declared.refusal.Place.{Place}
@@ -10,7 +11,7 @@ use Rattle.fort_types.specs.Hierarchy as declarations
 use Rattle.fort_types.specs.Table.{HasRows}
 use Rattle.fort_hier.specs.declared.accepted.Hierarchy.{Hierarchy}
 use Rattle.fort_hier.specs.declared.sentences.Sentence.{Sentence}
-use Rattle.fort_hier.specs.Earliest.{IsEarliest}
+use Rattle.fort_base.specs.Places.{IsEarliest}
 use Rattle.fort_hier.specs.Heads.{heads_of, head_place, head_body}
 use Rattle.fort_hier.specs.Tops.{tops_of}
 use Rattle.fort_hier.specs.Names.{all_called, IsDuplicate}
@@ -28,8 +29,8 @@ places_of c = map head_place (heads_of c)
 
 -- A component in which these names stand as types breaks a rule at a place.
 pub data Broken (c : Component) (mentioned : List Name) (rule : ℕ) (place : Place) : Type 0 where
-  duplicate : rule ≡ 401 → IsDuplicate (all_called c.names (tops_of c)) place → Broken c mentioned rule place
-  unknown : rule ≡ 402 → IsUnknown (all_types c.names (heads_of c)) c.names mentioned place → Broken c mentioned rule place
+  duplicate : rule ≡ DUPLICATE_NAME.0 → IsDuplicate (all_called c.names (tops_of c)) place → Broken c mentioned rule place
+  unknown : rule ≡ UNKNOWN_TYPE.0 → IsUnknown (all_types c.names (heads_of c)) c.names mentioned place → Broken c mentioned rule place
   sentence : (s : Sentence) → rule ≡ rule_number s → BreaksAt s (declares c) (places_of c) place → Broken c mentioned rule place
 
 -- A component breaks a rule, there at the earliest, and no rule of a lower number.
@@ -60,5 +61,5 @@ IsRefusal number Breaks a_fault.Memory = Unit {0}
 
 -- A refusal by the broken sentence of the lowest number, at its earliest place.
 abbrev pub IsSentenceRefusal : declarations.Hierarchy → List Place → CheckFault → Type 0
-IsSentenceRefusal h places (a_fault.Refused rule place) = (s : Sentence) × (rule.0 ≡ rule_number s) × IsLowest h places 403 (record { sentence = s; place = place })
+IsSentenceRefusal h places (a_fault.Refused rule place) = (s : Sentence) × (rule.0 ≡ rule_number s) × IsLowest h places CYCLIC_EXTENDS.0 (record { sentence = s; place = place })
 IsSentenceRefusal h places a_fault.Memory = Unit {0}

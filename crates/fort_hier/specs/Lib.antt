@@ -1,4 +1,3 @@
-pub mod Earliest
 pub mod Heads
 pub mod Names
 pub mod Numbers

@@ -1,14 +1,13 @@
 //! Two names at the top that are one.
 ghost use Rattle.std.specs.Prelude.{◌++◌, [], map, IfOk, OnOk};
-ghost use Rattle.fort_hier.specs.Earliest.{IsFirst};
+ghost use Rattle.fort_base.specs.Places.{IsFirst};
 ghost use Rattle.fort_hier.specs.Names.{IsDuplicate, all_called, built_in, type_called, type_spellings};
 ghost use Rattle.fort_hier.specs.Seen.{HoldsSeen};
 
-use crate::earliest::earlier;
 use crate::seen::Seen;
 use crate::spellings::{FUNCTION_NAMES, TYPE_NAMES, function_name, spelled, type_name};
 use crate::tops::Top;
-use fort_base::{Bytes, Memory, Place};
+use fort_base::{Bytes, Memory, Place, earlier};
 use std::alloc::Global;
 
 /// The earliest place of a name at the top that clashes with one before it, or `None` where none does.

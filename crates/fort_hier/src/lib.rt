@@ -4,7 +4,6 @@
 mod accepted;
 mod checked;
 mod duplicates;
-mod earliest;
 mod heads;
 mod laws;
 mod lowest;
@@ -20,7 +19,6 @@ mod walks;
 
 pub use accepted::{Hierarchy, places_in};
 pub use checked::hierarchy;
-pub use earliest::earlier;
 pub use heads::{TypeHead, heads_in};
 pub use laws::{accepted_is_sound, no_type_below_two};
 pub use lowest::{BrokenSentence, lowest_broken};

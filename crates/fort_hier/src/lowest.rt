@@ -1,5 +1,6 @@
 //! The broken sentence of the lowest number.
 ghost use Rattle.std.specs.Prelude.{◌≤◌, length};
+ghost use Rattle.fort_base.specs.declared.rules.TheConstants.{CYCLIC_EXTENDS, EXTENDS_OBJECT, EXTENDS_EXCLUDED, NOT_COMPRISED, COMPRISED_NOT_BELOW};
 ghost use Rattle.fort_types.specs.Table.{HasRows};
 ghost use Rattle.fort_hier.specs.Lowest.{IsLowestFrom};
 
@@ -24,7 +25,7 @@ pub fn lowest_broken(
 ) -> Option<BrokenSentence>
     requires rows { HasRows types.now table.now }
     requires fewer { length places.now ≤ length types.now }
-    ensures { IsLowestFrom types.now places.now 403 result }
+    ensures { IsLowestFrom types.now places.now CYCLIC_EXTENDS.0 result }
 {
     match first_broken(types, table, places, Sentence::Cyclic) {
         Some(place) => Some(BrokenSentence {
@@ -39,7 +40,7 @@ pub fn lowest_broken(
 fn from_404(types: &[DeclaredType], table: &TypeTable, places: &[Place]) -> Option<BrokenSentence>
     requires rows { HasRows types.now table.now }
     requires fewer { length places.now ≤ length types.now }
-    ensures { IsLowestFrom types.now places.now 404 result }
+    ensures { IsLowestFrom types.now places.now EXTENDS_OBJECT.0 result }
 {
     match first_broken(types, table, places, Sentence::ExtendsObject) {
         Some(place) => Some(BrokenSentence {
@@ -54,7 +55,7 @@ fn from_404(types: &[DeclaredType], table: &TypeTable, places: &[Place]) -> Opti
 fn from_405(types: &[DeclaredType], table: &TypeTable, places: &[Place]) -> Option<BrokenSentence>
     requires rows { HasRows types.now table.now }
     requires fewer { length places.now ≤ length types.now }
-    ensures { IsLowestFrom types.now places.now 405 result }
+    ensures { IsLowestFrom types.now places.now EXTENDS_EXCLUDED.0 result }
 {
     match first_broken(types, table, places, Sentence::ExtendsExcluded) {
         Some(place) => Some(BrokenSentence {
@@ -69,7 +70,7 @@ fn from_405(types: &[DeclaredType], table: &TypeTable, places: &[Place]) -> Opti
 fn from_406(types: &[DeclaredType], table: &TypeTable, places: &[Place]) -> Option<BrokenSentence>
     requires rows { HasRows types.now table.now }
     requires fewer { length places.now ≤ length types.now }
-    ensures { IsLowestFrom types.now places.now 406 result }
+    ensures { IsLowestFrom types.now places.now NOT_COMPRISED.0 result }
 {
     match first_broken(types, table, places, Sentence::NotComprised) {
         Some(place) => Some(BrokenSentence {
@@ -84,7 +85,7 @@ fn from_406(types: &[DeclaredType], table: &TypeTable, places: &[Place]) -> Opti
 fn from_407(types: &[DeclaredType], table: &TypeTable, places: &[Place]) -> Option<BrokenSentence>
     requires rows { HasRows types.now table.now }
     requires fewer { length places.now ≤ length types.now }
-    ensures { IsLowestFrom types.now places.now 407 result }
+    ensures { IsLowestFrom types.now places.now COMPRISED_NOT_BELOW.0 result }
 {
     match first_broken(types, table, places, Sentence::ComprisedNotBelow) {
         Some(place) => Some(BrokenSentence {

@@ -1,6 +1,7 @@
 //! The refusals of a component's hierarchy, each rule at its earliest place.
 ghost use Rattle.std.specs.Prelude.{◌≡◌, ◌<◌, ◌≤◌, ◌^◌, length, map, None, IfOk, IfErr, OnOk};
-ghost use Rattle.fort_hier.specs.Earliest.{IsFirst};
+ghost use Rattle.fort_base.specs.declared.rules.TheConstants.{CYCLIC_EXTENDS};
+ghost use Rattle.fort_base.specs.Places.{IsFirst};
 ghost use Rattle.fort_hier.specs.Heads.{head_place};
 ghost use Rattle.fort_hier.specs.Hierarchies.{IsRefusal, IsSentenceRefusal};
 ghost use Rattle.fort_hier.specs.Lowest.{IsLowestFrom};
@@ -18,20 +19,16 @@ use crate::spellings::DECLARED_NAMES;
 use crate::tops::tops_in;
 use crate::types::types_in;
 use crate::unknown::first_unknown;
-use fort_base::{Bytes, CheckFault, List, Rule, TypeTable};
+use fort_base::rules::{DUPLICATE_NAME, UNKNOWN_TYPE};
+use fort_base::{Bytes, CheckFault, List, TypeTable};
 use fort_tree::{Component, Name};
 use fort_types::DeclaredType;
 use std::alloc::Global;
 
-/// 401 DuplicateName
-const DUPLICATE_NAME: Rule = Rule(401);
-/// 402 UnknownType
-const UNKNOWN_TYPE: Rule = Rule(402);
-
 /// Refuses a component with a name at the top that clashes with an earlier one (401).
 pub fn refuse_duplicate(alloc: Global, component: &Component) -> Result<(), CheckFault>
     ensures ok { OnOk result (IsFirst (IsDuplicate (all_called component.now.names (tops_of component.now))) None) }
-    ensures err { IfErr result (IsRefusal 401 (IsDuplicate (all_called component.now.names (tops_of component.now)))) }
+    ensures err { IfErr result (IsRefusal DUPLICATE_NAME.0 (IsDuplicate (all_called component.now.names (tops_of component.now)))) }
 {
     let tops = tops_in(alloc, component)?;
     let first = first_duplicate(alloc, component.names.as_slice(), tops.as_slice())?;
@@ -51,7 +48,7 @@ pub fn known_types(
     requires few { length heads.now < 2 ^ 31 }
     ensures types { IfOk result (λ types. types ≡ hierarchy_of names.now heads.now) }
     ensures ok { OnOk result (IsFirst (IsUnknown (all_types names.now heads.now) names.now mentioned.now) None) }
-    ensures err { IfErr result (IsRefusal 402 (IsUnknown (all_types names.now heads.now) names.now mentioned.now)) }
+    ensures err { IfErr result (IsRefusal UNKNOWN_TYPE.0 (IsUnknown (all_types names.now heads.now) names.now mentioned.now)) }
 {
     let numbers = numbers_in(alloc, names, heads)?;
     if let Some(place) = first_unknown(names, &numbers, mentioned) {
@@ -71,7 +68,7 @@ pub fn refuse_broken(
 ) -> Result<(), CheckFault>
     requires rows { HasRows types.now table.now }
     requires fewer { length heads.now ≤ length types.now }
-    ensures ok { OnOk result (IsLowestFrom types.now (map head_place heads.now) 403 None) }
+    ensures ok { OnOk result (IsLowestFrom types.now (map head_place heads.now) CYCLIC_EXTENDS.0 None) }
     ensures err { IfErr result (IsSentenceRefusal types.now (map head_place heads.now)) }
 {
     let places = places_in(alloc, heads)?;

@@ -2,12 +2,14 @@
 ghost use Rattle.std.specs.Prelude.{◌≡◌, ◌<◌, ◌≤◌, ◌+◌, ◌↔◌, IsTrue, length};
 ghost use Rattle.fort_types.specs.Table.{HasRows};
 ghost use Rattle.fort_hier.specs.Sentences.{Breaks, BreaksAt, IsOnCycle, ExtendsLeaf, IsBelowBoth, IsNotListed, ListsOther};
-ghost use Rattle.fort_hier.specs.Earliest.{IsFirst};
+ghost use Rattle.fort_base.specs.Places.{IsFirst};
 ghost use Rattle.fort_hier.specs.Lowest.{rule_number};
 
-use crate::earliest::earlier;
 use crate::walks::{any_excluding, any_leaf, any_not_set, any_set, any_unlisted};
-use fort_base::{Place, Rule, TypeTable};
+use fort_base::rules::{
+    COMPRISED_NOT_BELOW, CYCLIC_EXTENDS, EXTENDS_EXCLUDED, EXTENDS_OBJECT, NOT_COMPRISED,
+};
+use fort_base::{Place, Rule, TypeTable, earlier};
 use fort_types::DeclaredType;
 
 /// A sentence that no declared type may break.
@@ -31,11 +33,11 @@ impl Sentence {
         ensures { result.0 ≡ rule_number self }
     {
         match self {
-            Sentence::Cyclic => Rule(403),
-            Sentence::ExtendsObject => Rule(404),
-            Sentence::ExtendsExcluded => Rule(405),
-            Sentence::NotComprised => Rule(406),
-            Sentence::ComprisedNotBelow => Rule(407),
+            Sentence::Cyclic => CYCLIC_EXTENDS,
+            Sentence::ExtendsObject => EXTENDS_OBJECT,
+            Sentence::ExtendsExcluded => EXTENDS_EXCLUDED,
+            Sentence::NotComprised => NOT_COMPRISED,
+            Sentence::ComprisedNotBelow => COMPRISED_NOT_BELOW,
         }
     }
 }

@@ -1,13 +1,12 @@
 //! Names that stand as types and aren't declared.
 ghost use Rattle.std.specs.Prelude.{◌↔◌, IsTrue, IfOk, Contains, List as Seq};
-ghost use Rattle.fort_hier.specs.Earliest.{IsFirst};
+ghost use Rattle.fort_base.specs.Places.{IsFirst};
 ghost use Rattle.fort_hier.specs.Names.{Spelling, spelling};
 ghost use Rattle.fort_hier.specs.Numbers.{HoldsNumbers, IsUnknown};
 
-use crate::earliest::earlier;
 use crate::numbers::Numbers;
 use crate::spellings::spelled;
-use fort_base::{Bytes, Place};
+use fort_base::{Bytes, Place, earlier};
 use fort_tree::Name;
 
 /// The earliest place of a name that is no type's, or `None` where each is a type's.

@@ -1,12 +1,12 @@
 -- What the code finds is the next rewriting.
 use Rattle.std.proofs.Common.{◌≡◌, ℕ, zero, suc, ◌+◌, ◌-◌, ◌<◌, true, false, List, [], ◌∷◌, ◌++◌, length, take, drop, get_or, Result, Ok, Err, refl, sym, ap, ◌∙◌, arith}
 use Rattle.std.proofs.lemmas.List.{length-take-le, length-drop, take_all, take_more}
+use Rattle.fort_base.specs.declared.rules.TheConstants.{FUNCTION_AS_VALUE, TIGHT_ARGUMENT}
 use Rattle.fort_base.specs.declared.refusal.CheckFault.{CheckFault}
 use Rattle.fort_base.specs.declared.refusal.CheckFault.TheVariants as a_fault
 use Rattle.fort_juxt.specs.declared.elements.Element.{Element}
 use Rattle.fort_juxt.specs.declared.elements.Tight.{Tight}
 use Rattle.fort_juxt.specs.declared.elements.Tight.TheVariants as a_rewriting
-use Rattle.fort_juxt.specs.declared.elements.TheConstants.{NAME_NOT_APPLIED, ARGUMENT_NOT_ALONE}
 use Rattle.fort_juxt.specs.First.{IsFirst}
 use Rattle.fort_juxt.specs.Tight.{takes, postfix_first, is_argument, Rewrites, applies, no_argument, applies_postfix, postfix_of_name, joins, first_is_name, second_is_name, whole}
 use Rattle.fort_juxt.specs.Walks.{IsAt, IsUnmet}
@@ -37,7 +37,7 @@ takes_argument es at d h i = applies (take at es) (drop (at + 2) es) (get_or es 
     (ap (is_argument (get_or es (at + 1) d)) (sym (tail es (at + 2))) ∙ i) (ap (λ n. Ok (a_rewriting.Apply n)) (front es at h.within))
 
 pub refuses_argument : (es : List Element) (at : ℕ) (d : Element) → IsAt takes es at
-    → is_argument (get_or es (at + 1) d) (take (length es - (at + 2)) (drop (at + 2) es)) ≡ false → Rewrites es (Err (a_fault.Refused ARGUMENT_NOT_ALONE (get_or es (at + 1) d).place))
+    → is_argument (get_or es (at + 1) d) (take (length es - (at + 2)) (drop (at + 2) es)) ≡ false → Rewrites es (Err (a_fault.Refused TIGHT_ARGUMENT (get_or es (at + 1) d).place))
 refuses_argument es at d h i = no_argument (take at es) (drop (at + 2) es) (get_or es at d) (get_or es (at + 1) d) (taken_first es at d h)
     (ap (is_argument (get_or es (at + 1) d)) (sym (tail es (at + 2))) ∙ i) refl
 
@@ -56,7 +56,7 @@ fixes es at d n h p m = applies_postfix (at_nowhere takes es refl n) (take (at -
     (ap (λ n. Ok (a_rewriting.Postfix n)) (front es at h.within ∙ ap length (last_before es at d p h.within)))
 
 pub refuses_fixed : (es : List Element) (at : ℕ) (d : Element) → IsUnmet takes es → IsAt postfix_first es at → 0 < at → (get_or es (at - 1) d).named ≡ true
-    → Rewrites es (Err (a_fault.Refused NAME_NOT_APPLIED (get_or es (at - 1) d).place))
+    → Rewrites es (Err (a_fault.Refused FUNCTION_AS_VALUE (get_or es (at - 1) d).place))
 refuses_fixed es at d n h p m = postfix_of_name (at_nowhere takes es refl n) (take (at - 1) es) (drop (at + 1) es) (get_or es (at - 1) d) (get_or es at d) (fixed_first es at d h p) m refl
 
 -- a postfix doesn't stand first
@@ -73,10 +73,10 @@ module _ (es : List Element) (d : Element) (n : IsUnmet takes es) (o : IsUnmet p
   pub joins_two : 1 < length es → (get_or es 0 d).named ≡ false → (get_or es 1 d).named ≡ false → Rewrites es (Ok a_rewriting.Left)
   joins_two l i j = joins (at_nowhere takes es refl n) (at_nowhere postfix_first es refl o) _ _ _ (drop_two es 0 d l) i j refl
 
-  pub refuses_first : 1 < length es → (get_or es 0 d).named ≡ true → Rewrites es (Err (a_fault.Refused NAME_NOT_APPLIED (get_or es 0 d).place))
+  pub refuses_first : 1 < length es → (get_or es 0 d).named ≡ true → Rewrites es (Err (a_fault.Refused FUNCTION_AS_VALUE (get_or es 0 d).place))
   refuses_first l i = first_is_name (at_nowhere takes es refl n) (at_nowhere postfix_first es refl o) _ _ _ (drop_two es 0 d l) i refl
 
-  pub refuses_second : 1 < length es → (get_or es 0 d).named ≡ false → (get_or es 1 d).named ≡ true → Rewrites es (Err (a_fault.Refused NAME_NOT_APPLIED (get_or es 1 d).place))
+  pub refuses_second : 1 < length es → (get_or es 0 d).named ≡ false → (get_or es 1 d).named ≡ true → Rewrites es (Err (a_fault.Refused FUNCTION_AS_VALUE (get_or es 1 d).place))
   refuses_second l i j = second_is_name (at_nowhere takes es refl n) (at_nowhere postfix_first es refl o) _ _ _ (drop_two es 0 d l) i j refl
 
 pub is_whole : (es : List Element) → 0 < length es → length es < 2 → Rewrites es (Ok a_rewriting.Whole)

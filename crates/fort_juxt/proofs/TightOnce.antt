@@ -2,12 +2,12 @@
 use Rattle.std.proofs.Common.{◌≡◌, ℕ, true, false, cond, List, [], ◌∷◌, ◌++◌, length, get_or, Result, Ok, Err, refl, sym, ap, ◌∙◌, arith}
 use Rattle.std.proofs.lemmas.List.{length-append, length_push}
 use Rattle.std.proofs.Math.Seq.{get_or-append_seam}
+use Rattle.fort_base.specs.declared.rules.TheConstants.{FUNCTION_AS_VALUE, TIGHT_ARGUMENT}
 use Rattle.fort_base.specs.declared.refusal.CheckFault.{CheckFault}
 use Rattle.fort_base.specs.declared.refusal.CheckFault.TheVariants as a_fault
 use Rattle.fort_juxt.specs.declared.elements.Element.{Element}
 use Rattle.fort_juxt.specs.declared.elements.Tight.{Tight}
 use Rattle.fort_juxt.specs.declared.elements.Tight.TheVariants as a_rewriting
-use Rattle.fort_juxt.specs.declared.elements.TheConstants.{NAME_NOT_APPLIED, ARGUMENT_NOT_ALONE}
 use Rattle.fort_juxt.specs.First.{IsFirst, IsNowhere}
 use Rattle.fort_juxt.specs.Tight.{takes, postfix_first, is_argument, Rewrites, applies, no_argument, applies_postfix, postfix_of_name, joins, first_is_name, second_is_name, whole, OneRewriting}
 use Rattle.fort_juxt.proofs.FirstLaws.{first_once, never_both}
@@ -17,15 +17,15 @@ Answer = Result Tight CheckFault
 
 -- what comes of a function with an atom behind it, of an element with a postfix behind it, and of the first two elements
 abbrev of_argument : ℕ → Element → List Element → Answer
-of_argument n a after = cond (is_argument a after) (Ok (a_rewriting.Apply n)) (Err (a_fault.Refused ARGUMENT_NOT_ALONE a.place))
+of_argument n a after = cond (is_argument a after) (Ok (a_rewriting.Apply n)) (Err (a_fault.Refused TIGHT_ARGUMENT a.place))
 
 abbrev of_postfix : ℕ → Element → Answer
-of_postfix n x = cond x.named (Err (a_fault.Refused NAME_NOT_APPLIED x.place)) (Ok (a_rewriting.Postfix n))
+of_postfix n x = cond x.named (Err (a_fault.Refused FUNCTION_AS_VALUE x.place)) (Ok (a_rewriting.Postfix n))
 
 abbrev of_first : List Element → Answer
 of_first [] = Ok a_rewriting.Whole
 of_first (x ∷ []) = Ok a_rewriting.Whole
-of_first (x ∷ y ∷ after) = cond x.named (Err (a_fault.Refused NAME_NOT_APPLIED x.place)) (cond y.named (Err (a_fault.Refused NAME_NOT_APPLIED y.place)) (Ok a_rewriting.Left))
+of_first (x ∷ y ∷ after) = cond x.named (Err (a_fault.Refused FUNCTION_AS_VALUE x.place)) (cond y.named (Err (a_fault.Refused FUNCTION_AS_VALUE y.place)) (Ok a_rewriting.Left))
 
 record NoneTakes (es : List Element) : Type 0 where
   pub told : (before after : List Element) (f a : Element) → IsFirst takes es before (f ∷ a ∷ after) → ⊥
@@ -57,7 +57,7 @@ single_fixed x es e = record {
 fixed_free : (n : ℕ) (x : Element) → x.named ≡ false → of_postfix n x ≡ Ok (a_rewriting.Postfix n)
 fixed_free n x m = rw m refl
 
-fixed_named : (n : ℕ) (x : Element) → x.named ≡ true → of_postfix n x ≡ Err (a_fault.Refused NAME_NOT_APPLIED x.place)
+fixed_named : (n : ℕ) (x : Element) → x.named ≡ true → of_postfix n x ≡ Err (a_fault.Refused FUNCTION_AS_VALUE x.place)
 fixed_named n x m = rw m refl
 
 kind_of : (es : List Element) (r : Answer) → Rewrites es r → Kind es r

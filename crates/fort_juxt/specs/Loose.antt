@@ -1,11 +1,11 @@
 -- The chapter "Juxtaposition", loose: chunks, and their grouping. The code walks from chunk to chunk.
 use Rattle.std.specs.Prelude.{◌≡◌, ◌≢◌, ℕ, zero, suc, ◌+◌, Bool, true, false, not, ◌&&◌, List, [], ◌∷◌, ◌++◌, length, Result, Ok, Err}
+use Rattle.fort_base.specs.declared.rules.TheConstants.{FUNCTION_AS_VALUE}
 use Rattle.fort_base.specs.declared.refusal.CheckFault.{CheckFault}
 use Rattle.fort_base.specs.declared.refusal.CheckFault.TheVariants.{Refused, Memory}
 use Rattle.fort_juxt.specs.declared.elements.Element.{Element}
 use Rattle.fort_juxt.specs.declared.elements.Grouping.{Grouping}
 use Rattle.fort_juxt.specs.declared.elements.Grouping.TheVariants as a_grouping
-use Rattle.fort_juxt.specs.declared.elements.TheConstants.{NAME_NOT_APPLIED}
 use Rattle.fort_juxt.specs.First.{IsFirst, IsNowhere}
 
 -- None is a postfix.
@@ -111,7 +111,7 @@ IsGroupingOf chunks g = joined (chunk_groups 0 chunks) ≡ g ∷ []
 -- The grouping of a list, or its refusal.
 pub data Groups (es : List Element) (r : Result Grouping CheckFault) : Type 0 where
   -- A function set's name with nothing behind it in its chunk: 606.
-  name_alone : (before after : List Element) (x : Element) → IsFirst name_ends es before (x ∷ after) → r ≡ Err (Refused NAME_NOT_APPLIED x.place) → Groups es r
+  name_alone : (before after : List Element) (x : Element) → IsFirst name_ends es before (x ∷ after) → r ≡ Err (Refused FUNCTION_AS_VALUE x.place) → Groups es r
   -- Else the grouping of the list's chunks.
   grouped : IsNowhere name_ends es → (chunks : List Chunk) → IsDivision es chunks → (g : Grouping) → IsGroupingOf chunks g → r ≡ Ok g → Groups es r
 

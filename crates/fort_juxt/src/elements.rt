@@ -1,10 +1,5 @@
 //! What is grouped, and what it is grouped to.
-use fort_base::{Boxed, Place, Rule};
-
-/// 606: a function set's name that isn't applied.
-pub const NAME_NOT_APPLIED: Rule = Rule(606);
-/// 607: an argument that isn't one atom in parentheses by itself.
-pub const ARGUMENT_NOT_ALONE: Rule = Rule(607);
+use fort_base::{Boxed, Place};
 
 /// What grouping asks about a part: an atom or a postfix of a run, or a unit of a flat expression. The chapter "Juxtaposition".
 #[derive(Clone, Copy, Debug, PartialEq, Eq)]

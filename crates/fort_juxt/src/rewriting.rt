@@ -4,9 +4,10 @@ ghost use Rattle.fort_base.specs.declared.refusal.CheckFault.TheVariants as a_fa
 ghost use Rattle.fort_juxt.specs.Tight.{is_argument as is_alone, postfix_first, takes, Rewrites};
 ghost use Rattle.fort_juxt.specs.Walks.{IsAt, IsUnmet};
 
-use crate::elements::{ARGUMENT_NOT_ALONE, Element, NAME_NOT_APPLIED, Tight};
+use crate::elements::{Element, Tight};
 use crate::places::{begins_with_postfix, first_postfix, first_taking};
 use fort_base::CheckFault;
+use fort_base::rules::{FUNCTION_AS_VALUE, TIGHT_ARGUMENT};
 
 /// The next rewriting of a run's atoms and postfixes, of which there is at least one, and the first is no postfix.
 ///
@@ -37,7 +38,7 @@ fn applied(elements: &[Element], at: usize) -> Result<Tight, CheckFault>
     if is_argument(atom, &elements[at + 2..]) {
         return Ok(Tight::Apply(at));
     }
-    Err(CheckFault::Refused(ARGUMENT_NOT_ALONE, atom.place))
+    Err(CheckFault::Refused(TIGHT_ARGUMENT, atom.place))
 }
 
 /// Whether an atom is in parentheses and no postfix directly follows it.
@@ -56,7 +57,7 @@ fn fixed(elements: &[Element], at: usize) -> Result<Tight, CheckFault>
 {
     let before = &elements[at - 1];
     if before.named {
-        return Err(CheckFault::Refused(NAME_NOT_APPLIED, before.place));
+        return Err(CheckFault::Refused(FUNCTION_AS_VALUE, before.place));
     }
     Ok(Tight::Postfix(at))
 }
@@ -71,10 +72,10 @@ fn joined(elements: &[Element]) -> Result<Tight, CheckFault>
     match elements {
         [first, second, ..] => {
             if first.named {
-                return Err(CheckFault::Refused(NAME_NOT_APPLIED, first.place));
+                return Err(CheckFault::Refused(FUNCTION_AS_VALUE, first.place));
             }
             if second.named {
-                return Err(CheckFault::Refused(NAME_NOT_APPLIED, second.place));
+                return Err(CheckFault::Refused(FUNCTION_AS_VALUE, second.place));
             }
             Ok(Tight::Left)
         }

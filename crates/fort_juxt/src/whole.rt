@@ -3,9 +3,10 @@ ghost use Rattle.std.specs.Prelude.{◌≡◌, ◌<◌, false, length};
 ghost use Rattle.fort_juxt.specs.Loose.{AreAtoms, Answers};
 
 use crate::chunks::grouped;
-use crate::elements::{Element, Grouping, NAME_NOT_APPLIED};
+use crate::elements::{Element, Grouping};
 use crate::places::first_name_end;
 use fort_base::CheckFault;
+use fort_base::rules::FUNCTION_AS_VALUE;
 use std::alloc::Global;
 
 /// The grouping of elements that stand side by side, at least one and none a postfix.
@@ -18,7 +19,7 @@ pub fn loose(alloc: Global, elements: &[Element]) -> Result<Grouping, CheckFault
     ensures { Answers elements.now result }
 {
     if let Some(at) = first_name_end(elements) {
-        return Err(CheckFault::Refused(NAME_NOT_APPLIED, elements[at].place));
+        return Err(CheckFault::Refused(FUNCTION_AS_VALUE, elements[at].place));
     }
     Ok(grouped(alloc, elements)?)
 }

@@ -6,9 +6,9 @@ use Rattle.std.specs.Str.{chars, IsUtf8, is_utf8, IsValidUpTo}
 use Rattle.std.proofs.lemmas.Bool.{cases_lt}
 use Rattle.std.proofs.lemmas.List.{take_all}
 use Rattle.std.proofs.lemmas.Str.{IsUtf8-from_is_utf8, is_utf8-from_IsUtf8, IsUtf8-nil}
+use Rattle.fort_base.specs.declared.rules.TheConstants.{NOT_UTF8, TOO_MANY_TOKENS}
 use Rattle.fort_base.specs.declared.refusal.Place.{Place}
 use Rattle.fort_base.specs.declared.refusal.Rule.{Rule}
-use Rattle.fort_scan.specs.declared.TheConstants.{NOT_UTF8, TOO_MANY_TOKENS}
 use Rattle.fort_scan.specs.declared.word.Shape.{Shape}
 use Rattle.fort_scan.specs.declared.word.Shape.TheVariants as shape
 use Rattle.fort_scan.specs.Lists.{same, among}

@@ -5,12 +5,12 @@ use Rattle.fort_base.specs.declared.refusal.CheckFault.TheVariants as a_fault
 use Rattle.fort_base.specs.declared.refusal.Memory.{Memory}
 use Rattle.fort_base.specs.declared.refusal.Place.{Place}
 use Rattle.fort_base.specs.declared.refusal.Rule.{Rule}
-use Rattle.fort_scan.specs.declared.TheConstants.{TOO_MANY_TOKENS}
 use Rattle.fort_scan.specs.Lists.{among}
 use Rattle.fort_scan.specs.Places.{place_after, the_start}
 use Rattle.fort_scan.specs.Tokens.{Piece}
 use Rattle.fort_scan.specs.Faults.{IsList, IsFault, IsMany}
 use Rattle.std.specs.Str.{bytes_eq}
+use Rattle.fort_base.specs.declared.rules.TheConstants.{TOO_MANY_TOKENS}
 use Rattle.indexmap.specs.IndexMap.{get_by}
 use Rattle.fort_lex.specs.declared.names.NameTable.{NameTable}
 use Rattle.fort_lex.specs.declared.builder.Builder.{Builder}

@@ -1,11 +1,11 @@
 -- The chapter "Tokens", whole: the tokens of a file, or the rule that it breaks. The code scans the file once.
 use Rattle.std.specs.Prelude.{◌≡◌, ℕ, ◌+◌, cond, List, [], ◌∷◌, ◌++◌, map, take, Result, Ok, Err, encode_utf8_all, ◌<◌, length, All}
 use Rattle.std.specs.Str.{chars, IsUtf8, IsValidUpTo}
+use Rattle.fort_base.specs.declared.rules.TheConstants.{NOT_UTF8, TOO_MANY_TOKENS}
 use Rattle.fort_base.specs.declared.refusal.Rule.{Rule}
 use Rattle.fort_base.specs.declared.refusal.Place.{Place}
 use Rattle.fort_base.specs.declared.refusal.CheckFault.{CheckFault}
 use Rattle.fort_base.specs.declared.refusal.CheckFault.TheVariants.{Refused, Memory}
-use Rattle.fort_scan.specs.declared.TheConstants.{NOT_UTF8, TOO_MANY_TOKENS}
 use Rattle.fort_scan.specs.Lists.{same}
 use Rattle.fort_scan.specs.Places.{place_after, the_start, gap_kind}
 use Rattle.fort_scan.specs.Tokens.{Piece}

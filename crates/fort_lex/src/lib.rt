@@ -10,10 +10,7 @@ mod reserved;
 mod source;
 mod text;
 
-pub use fort_scan::{
-    BAD_CHARACTER, BAD_ESCAPE, MOST_TOKENS, NOT_UTF8, NUMBER_TOO_LARGE, OPEN_COMMENT, OPEN_TEXT,
-    TOO_MANY_TOKENS,
-};
+pub use fort_scan::MOST_TOKENS;
 pub use fort_token::{Kind, Mark, Reserved, Token, Tokens};
 pub use law::{no_symbol_is_a_name, one_answer};
 pub use source::tokens;

@@ -6,10 +6,9 @@ ghost use Rattle.fort_lex.specs.Building.{TextAnswers};
 ghost use Rattle.fort_lex.specs.Files.{Answers, HasItsNumbers};
 
 use crate::builder::Builder;
-use fort_base::{CheckFault, Memory, Place, Rule};
-use fort_scan::{
-    BAD_CHARACTER, MOST_TOKENS, NOT_UTF8, Step, TOO_MANY_TOKENS, mark_len, next_step, place_after,
-};
+use fort_base::rules::{BAD_CHARACTER, NOT_UTF8, TOO_MANY_TOKENS};
+use fort_base::{CheckFault, Memory, Place};
+use fort_scan::{MOST_TOKENS, Step, mark_len, next_step, place_after};
 use fort_token::Tokens;
 use std::alloc::{AllocError, Global};
 

@@ -6,9 +6,10 @@ use Rattle.std.proofs.lemmas.List.Elements.{Contains-push, Contains-append_right
 use Rattle.std.proofs.lemmas.Bool.Decides.{nat_tests}
 use Rattle.fort_base.specs.declared.refusal.Place.{Place}
 use Rattle.fort_tree.specs.declared.declarations.Component.{Component}
-use Rattle.fort_tree.specs.Limits.{IsBefore, BreaksLimit, KeepsLimits, crowded, declaration_places, first_behind, measured_declarations, type_places}
+use Rattle.fort_tree.specs.Limits.{BreaksLimit, KeepsLimits, crowded, declaration_places, first_behind, measured_declarations, type_places}
+use Rattle.fort_base.specs.Places.{IsBefore, is_before}
 use Rattle.fort_tree.specs.Measured.{all_crowded, most_declarations, most_types}
-use Rattle.fort_limits.specs.Earliest.{is_before, earlier, least, earliest, IsEarliest}
+use Rattle.fort_limits.specs.Earliest.{earlier, least, earliest, IsEarliest}
 use Rattle.fort_limits.proofs.EarliestLaws.{earliest_append}
 
 is_before-yes : (a b : Place) → is_before a b ≡ true → IsBefore a b

@@ -2,11 +2,7 @@
 use Rattle.std.specs.Prelude.{Bool, cond, nat_lt, nat_eq, ◌&&◌, ◌||◌, List, [], ◌∷◌, Option, Some, None}
 use Rattle.std.specs.List.{Contains}
 use Rattle.fort_base.specs.declared.refusal.Place.{Place}
-use Rattle.fort_tree.specs.Limits.{IsBefore}
-
--- the test whether a place stands before another
-abbrev pub is_before : Place → Place → Bool
-is_before a b = nat_lt a.line b.line || (nat_eq a.line b.line && nat_lt a.column b.column)
+use Rattle.fort_base.specs.Places.{IsBefore, is_before}
 
 -- the earlier of two places, each of which may be wanting
 abbrev pub earlier : Option Place → Option Place → Option Place

@@ -12,11 +12,4 @@ mod types;
 mod walk;
 
 pub use crowded::first_crowded;
-use fort_base::Rule;
 pub use openers::first_deep;
-
-/// A token stands inside more than 100 openers.
-pub const TOO_DEEP: Rule = Rule(202);
-
-/// A count passes its limit.
-pub const TOO_MANY: Rule = Rule(203);

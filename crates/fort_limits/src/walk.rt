@@ -2,7 +2,8 @@
 ghost use Rattle.std.specs.Prelude.{◌≡◌, [], ◌∷◌};
 ghost use Rattle.std.specs.Option.{option_to_list};
 ghost use Rattle.fort_tree.specs.Measured.{over};
-ghost use Rattle.fort_limits.specs.Earliest.{earliest, is_before};
+ghost use Rattle.fort_limits.specs.Earliest.{earliest};
+ghost use Rattle.fort_base.specs.Places.{is_before};
 
 use fort_base::Place;
 
@@ -20,7 +21,7 @@ impl Walk {
     {
         match self.earliest {
             Some(found) => {
-                if is_before(at, found) {
+                if at.is_before(found) {
                     self.earliest = Some(at);
                 }
             }
@@ -48,10 +49,4 @@ impl Walk {
             self.see(at);
         }
     }
-}
-
-fn is_before(one: Place, other: Place) -> bool
-    ensures { result ≡ is_before one other }
-{
-    one.line < other.line || (one.line == other.line && one.column < other.column)
 }

@@ -2,6 +2,7 @@
 -- says which tokens are which part, as `HasExpr` and `HasType` of fort_tree do over the spellings of names. The code runs a parser
 -- that looks one token ahead; where it fails it runs it again with fewer and fewer tokens.
 use Rattle.std.specs.Prelude.{◌≡◌, ℕ, ◌≤◌, List, [], ◌∷◌, ◌++◌, length, slice_range, Result, Ok, Err}
+use Rattle.fort_base.specs.declared.rules.TheConstants.{SYNTAX, TOO_DEEP}
 use Rattle.fort_base.specs.declared.refusal.Place.{Place}
 use Rattle.fort_base.specs.declared.refusal.CheckFault.{CheckFault}
 use Rattle.fort_base.specs.declared.refusal.CheckFault.TheVariants as a_fault
@@ -34,8 +35,8 @@ pub data IsPlaceAt (ts : List Token) (at : ℕ) (place : Place) : Type 0 where
 -- The call on these tokens breaks this rule, at this place: 202 where a token of the list stands too deep; else 201 where no part
 -- begins at `at`.
 pub data Breaks {A : Type 0} (Has : List Token → A → Type 0) (ts : List Token) (at : ℕ) : ℕ → Place → Type 0 where
-  TooDeep : {place : Place} → FirstDeep ts place → Breaks Has ts at 202 place
-  Syntax : {place : Place} → AllShallow ts → BeginsNone Has ts at → IsPlaceAt ts at place → Breaks Has ts at 201 place
+  TooDeep : {place : Place} → FirstDeep ts place → Breaks Has ts at TOO_DEEP.0 place
+  Syntax : {place : Place} → AllShallow ts → BeginsNone Has ts at → IsPlaceAt ts at place → Breaks Has ts at SYNTAX.0 place
 
 -- What is answered is the longest part with the number of the token behind it, or what is broken.
 abbrev pub Answers : {A : Type 0} → (List Token → A → Type 0) → List Token → ℕ → Result (A × ℕ) CheckFault → Type 0

@@ -5,4 +5,4 @@ mod longest;
 mod parts;
 mod places;
 
-pub use parts::{NO_PART, expr_at, type_at};
+pub use parts::{expr_at, type_at};

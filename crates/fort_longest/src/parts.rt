@@ -4,15 +4,13 @@ ghost use Rattle.fort_longest.specs.Parts.{Answers};
 
 use crate::longest::longest_expr;
 use crate::places::place_at;
-use fort_base::{CheckFault, Rule};
-use fort_limits::{TOO_DEEP, first_deep};
+use fort_base::CheckFault;
+use fort_base::rules::{SYNTAX, TOO_DEEP};
+use fort_limits::first_deep;
 use fort_parse_types::longest_type;
 use fort_token::Tokens;
 use fort_tree::{Expr, TypeTree};
 use std::alloc::Global;
-
-/// No part begins at the token.
-pub const NO_PART: Rule = Rule(201);
 
 /// The longest expression that begins at the token with that number, and the number of the token behind it, which is the
 /// number of tokens where the expression ends the list. `at` counts from 0 and is at most the number of tokens.
@@ -32,7 +30,7 @@ pub fn expr_at(alloc: Global, tokens: &Tokens, at: usize) -> Result<(Expr, usize
     }
     match longest_expr(alloc, tokens.names.as_slice(), &list[at..])? {
         Some((expr, count)) => Ok((expr, at + count)),
-        None => Err(CheckFault::Refused(NO_PART, place_at(list, at))),
+        None => Err(CheckFault::Refused(SYNTAX, place_at(list, at))),
     }
 }
 
@@ -51,6 +49,6 @@ pub fn type_at(alloc: Global, tokens: &Tokens, at: usize) -> Result<(TypeTree, u
     }
     match longest_type(alloc, tokens.names.as_slice(), &list[at..])? {
         Some((ty, count)) => Ok((ty, at + count)),
-        None => Err(CheckFault::Refused(NO_PART, place_at(list, at))),
+        None => Err(CheckFault::Refused(SYNTAX, place_at(list, at))),
     }
 }

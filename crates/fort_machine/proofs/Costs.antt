@@ -1,5 +1,5 @@
 -- Each pick costs something.
-use Rattle.std.proofs.Common.{◌≡◌, ℕ, zero, suc, ◌+◌, ◌<◌, ◌≤◌, Bool, true, false, List, [], ◌∷◌, length, Option, Some, None, refl, ap, sym, ◌∙◌, subst, arith, if◌then◌else◌, pos, negsuc}
+use Rattle.std.proofs.Common.{◌≡◌, ℕ, zero, suc, ◌+◌, ◌<◌, ◌≤◌, Bool, true, false, List, [], ◌∷◌, length, Option, Some, None, ap, sym, subst, arith, if◌then◌else◌, pos, negsuc}
 use Rattle.std.specs.Prelude.{nat_le, nat_lt}
 use Rattle.fort_base.specs.declared.ids.SetId.{SetId}
 use Rattle.fort_base.specs.declared.ids.TypeId.{TypeId}
@@ -19,7 +19,7 @@ use Rattle.fort_core.specs.declared.term.Term.TheOpen.{Term-F, Value-F}
 use Rattle.fort_core.specs.declared.value.Value.{Value, out-Value}
 use Rattle.fort_core.specs.declared.value.Closure.{Closure}
 use Rattle.fort_machine.specs.Primitives.{ValueKind, Answer, gives, makes_text, throws, prints, ends, nothing, answer_of}
-use Rattle.fort_machine.specs.Effects.{Store, Effect, afterwards}
+use Rattle.fort_machine.specs.Effects.{Effect, afterwards}
 use Rattle.fort_machine.specs.Ends.{Standing, at_value, at_throw, open_yet, standing}
 use Rattle.fort_machine.specs.Frames.{plug, trodden}
 use Rattle.fort_machine.specs.Scopes.{holds_all}
@@ -31,7 +31,7 @@ use Rattle.fort_machine.specs.Forms.{entering, applying_to, applying, filling, b
 use Rattle.fort_machine.specs.Calls.{by_answer, constructing, by_body}
 use Rattle.fort_machine.specs.Steps.{Acts, by_itself, by_call, Does, Local, steps}
 use Rattle.fort_machine.specs.Attempts.{Ended, Closes, completed, failed, gave_up, fell_asleep}
-use Rattle.fort_machine.specs.Runs.{Runs, none, step, stop, attempt}
+use Rattle.fort_machine.specs.Runs.{none, step, stop, attempt}
 use Rattle.fort_machine.specs.RunLaws.{PicksCost}
 
 abbrev Costly : Act → Type 0

@@ -15,7 +15,7 @@ use Rattle.fort_core.specs.declared.program.CoreShape.{CoreShape}
 use Rattle.fort_core.specs.declared.program.Program.{Program}
 use Rattle.fort_core.specs.declared.term.Term.{Term, Asleep, Write, Then, If, While, For, ForHalves, Reduce, ReduceHalves, Operator, out-Term, roll-out-Term, map-Term, para-Term, para-roll-Term, fold_out-Term}
 use Rattle.fort_core.specs.declared.term.Term as term
-use Rattle.fort_core.specs.declared.term.Term.TheVariants.{Variable, outs-Value, outs-Throw, outs-Variable, outs-Read, outs-Write, outs-Then, outs-If, outs-While, outs-For, outs-ForHalves, outs-Reduce, outs-ReduceHalves, outs-Operator, outs-Asleep}
+use Rattle.fort_core.specs.declared.term.Term.TheVariants.{Variable, rolls-Value, outs-Value, outs-Throw, outs-Variable, outs-Read, outs-Write, outs-Then, outs-If, outs-While, outs-For, outs-ForHalves, outs-Reduce, outs-ReduceHalves, outs-Operator, outs-Asleep}
 use Rattle.fort_core.specs.declared.term.Term.TheOpen.{Term-F, Value-F}
 use Rattle.fort_core.specs.declared.value.Value.{Value, para-Value, fold-Value, out-Value}
 use Rattle.fort_core.specs.declared.value.Closure.{Closure, out-Closure, roll-out-Closure, para-Closure, para-roll-Closure, fold-Closure, fold_out-Closure}
@@ -38,15 +38,19 @@ use Rattle.fort_machine.proofs.Substituted.{parts_map, pairs, From, from_is, fro
 
 -- a value in place of a variable
 module _ (x : ℕ) (v : Value) where
-  abbrev values_by : Value → Unit {0}
+  abbrev pub values_by : Value → Unit {0}
   values_by = para-Value Term (Unit {0}) (Unit {0}) (with_value x v) (λ w. tt) (λ c. tt)
 
-  abbrev closures_by : Closure → Unit {0}
+  abbrev pub closures_by : Closure → Unit {0}
   closures_by = para-Closure Term (Unit {0}) (Unit {0}) (with_value x v) (λ w. tt) (λ c. tt)
 
-  substituted_out : (t : Term) → substituted x v t ≡ with_value x v (pairs (substituted x v) values_by closures_by (out-Term t))
+  pub substituted_out : (t : Term) → substituted x v t ≡ with_value x v (pairs (substituted x v) values_by closures_by (out-Term t))
   unfolding substituted
   substituted_out t = ap (substituted x v) (sym (roll-out-Term t)) ∙ para-roll-Term Term (Unit {0}) (Unit {0}) (with_value x v) (λ w. tt) (λ c. tt) (out-Term t)
+
+  pub substituted_value : (w : Value) → substituted x v (term.Value w) ≡ term.Value w
+  unfolding substituted
+  substituted_value w = ap (substituted x v) (sym (rolls-Value w)) ∙ para-roll-Term Term (Unit {0}) (Unit {0}) (with_value x v) (λ w. tt) (λ c. tt) (Term-F.Value w) ∙ rolls-Value w
 
   of_variable : (y : ℕ) (b : Bool) → From (substituted x v) (Term-F.Variable y) (if b then term.Value v else Variable y)
   of_variable y true = plain_term (substituted x v) (Term-F.Variable y) _ _ (outs-Value v) (λ c k. k) (λ ms b e. cc)
@@ -62,17 +66,17 @@ module _ (x : ℕ) (v : Value) where
 
 -- a location in place of a variable
 module _ (x l : ℕ) where
-  abbrev values_at : Value → Unit {0}
+  abbrev pub values_at : Value → Unit {0}
   values_at = para-Value Term (Unit {0}) Closure (with_location x l) (λ w. tt) closure_now
 
-  abbrev closures_at : Closure → Closure
+  abbrev pub closures_at : Closure → Closure
   closures_at = para-Closure Term (Unit {0}) Closure (with_location x l) (λ w. tt) closure_now
 
-  located_out : (t : Term) → located x l t ≡ with_location x l (pairs (located x l) values_at closures_at (out-Term t))
+  pub located_out : (t : Term) → located x l t ≡ with_location x l (pairs (located x l) values_at closures_at (out-Term t))
   unfolding located
   located_out t = ap (located x l) (sym (roll-out-Term t)) ∙ para-roll-Term Term (Unit {0}) Closure (with_location x l) (λ w. tt) closure_now (out-Term t)
 
-  closure_body : (c : Closure) → (closures_at c).body ≡ located x l c.body
+  pub closure_body : (c : Closure) → (closures_at c).body ≡ located x l c.body
   unfolding located
   closure_body c = ap (λ (d : Closure). d.body) (ap closures_at (sym (roll-out-Closure c)) ∙ para-roll-Closure Term (Unit {0}) Closure (with_location x l) (λ w. tt) closure_now (out-Closure c))
 
@@ -112,16 +116,16 @@ any_true [] a h e = absurd h
 any_true (t ∷ ts) a (inl q) e = ap (λ b. b || list_any (λ (b : Bool). b) (map dozes ts)) (ap dozes (sym q) ∙ e)
 any_true (t ∷ ts) a (inr h) e = ap (λ b. dozes t || b) (any_true ts a h e) ∙ or_true (dozes t)
 
-abbrev truths : Value → Unit {0}
+abbrev pub truths : Value → Unit {0}
 truths = fold-Value Bool (Unit {0}) Bool dozes_at (λ v. tt) (λ c. c.body)
 
-abbrev closure_truths : Closure → Bool
+abbrev pub closure_truths : Closure → Bool
 closure_truths = fold-Closure Bool (Unit {0}) Bool dozes_at (λ v. tt) (λ c. c.body)
 
-abbrev dozing : Term-F Term Value Closure → Bool
+abbrev pub dozing : Term-F Term Value Closure → Bool
 dozing y = dozes_at (map-Term Term Value Closure Bool (Unit {0}) Bool dozes truths closure_truths y)
 
-out_dozes : (t : Term) → dozes t ≡ dozing (out-Term t)
+pub out_dozes : (t : Term) → dozes t ≡ dozing (out-Term t)
 out_dozes t = fold_out-Term Bool (Unit {0}) Bool dozes_at (λ v. tt) (λ c. c.body) t
 
 any_part : (y : Term-F Term Value Closure) (a : Term) → IsOneOf a (parts_of y) → dozes a ≡ true

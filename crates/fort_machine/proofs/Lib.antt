@@ -11,6 +11,12 @@ pub mod Plain
 pub mod Inside
 pub mod Substituted
 pub mod Less
+pub mod Written
+pub mod Resting
+pub mod Properly
+pub mod Answered
+pub mod ProperActs
+pub mod ProperRuns
 pub mod Frame
 pub mod Legs
 pub mod WorkedRuns

@@ -15,7 +15,7 @@ use Rattle.fort_machine.specs.Acts.{Act, stuck, turns, enters, asks, sets, makes
 use Rattle.fort_machine.specs.Marked.{Marks, In}
 use Rattle.fort_machine.specs.Steps.{or_unit, Does, Local, steps}
 use Rattle.fort_machine.specs.Frames.{plug, trodden}
-use Rattle.fort_machine.specs.Attempts.{AreRead, AllAbove, Rising, Ended, Closes, completed, failed, gave_up, fell_asleep}
+use Rattle.fort_machine.specs.Attempts.{AllAbove, Rising, Ended, Closes, completed, failed, gave_up, fell_asleep}
 use Rattle.fort_machine.specs.Runs.{Runs, none, step, stop, attempt}
 use Rattle.fort_machine.specs.RunLaws.{MarksThere}
 

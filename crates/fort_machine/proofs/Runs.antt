@@ -17,7 +17,7 @@ use Rattle.fort_machine.specs.Threads.{under, under_at, ended_in, round_after}
 use Rattle.fort_machine.proofs.Cells.{given_back_fits, fits_given_back, taken_away_fits, fits_taken_away}
 use Rattle.fort_machine.proofs.Standing.{or_false, still_stepped}
 use Rattle.fort_machine.proofs.Places.{plug_open, out_on, ready_open}
-use Rattle.fort_machine.proofs.Ready.{local_ready, stop_ready, form_ready}
+use Rattle.fort_machine.proofs.Ready.{local_ready, form_ready}
 use Rattle.fort_machine.proofs.WholeEffects.{both_assoc, idle_both, afterwards_both, both_fits}
 
 module _ {p : Program} {inner strict : Bool} where

@@ -61,7 +61,7 @@ by_answer p nothing = stuck
 abbrev pub constants : CoreShape → List Value
 constants s = filter_map (λ (f : CoreField). f.initial) s.fields
 
--- A new object has a location for each field: the parameters, then the fields of its body.
+-- A new object has a location for each field: its parameters, with the values that are passed, then the fields of its body, with their constants. That as many are passed as it has parameters is no part of this definition; it is so in a program as it is written (`Constructs`).
 abbrev pub constructing : TypeId → List Value → Option CoreShape → Act
 constructing id vs (Some s) = makes (vs ++ constants s) (λ l. term.Value (Object id (record { 0 = l }))) 1
 constructing id vs None = stuck

@@ -1,5 +1,5 @@
 -- Chapter "Terms and threads": what stands round a part that steps, and the paths of threads. The code keeps a list of frames beside a term; here a frame is a term with one part left out.
-use Rattle.std.specs.Prelude.{ℕ, Bool, true, false, ◌&&◌, ◌||◌, List, [], ◌∷◌, ◌++◌, map, length, Option}
+use Rattle.std.specs.Prelude.{ℕ, Bool, false, ◌&&◌, ◌||◌, List, [], ◌∷◌, ◌++◌, map, length, Option}
 use Rattle.std.specs.List.{list_any}
 use Rattle.fort_base.specs.declared.ids.NameId.{NameId}
 use Rattle.fort_base.specs.declared.ids.SetId.{SetId}

@@ -15,11 +15,13 @@ pub mod Forms
 pub mod Calls
 pub mod OneDefinition
 pub mod Marked
+pub mod Written
 pub mod Steps
 pub mod Attempts
 pub mod Runs
 pub mod Threads
 pub mod Journals
+pub mod Proper
 pub mod EffectLaws
 pub mod RunLaws
 pub mod Plain

@@ -27,7 +27,7 @@ dozes_at form = list_any (λ b. b) (parts_of form)
 abbrev pub dozes : Term → Bool
 dozes = fold-Term Bool (Unit {0}) Bool dozes_at (λ v. tt) (λ c. c.body)
 
--- A term is as it was written where no form of it sleeps. Every body that is run is so: of a declaration, of a function, of an attempt.
+-- A term is bare where no form of it sleeps. Every body that is run is so: of a declaration, of a function, of an attempt.
 abbrev pub Bare : Term → Type 0
 Bare t = dozes t ≡ false
 

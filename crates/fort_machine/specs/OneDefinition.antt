@@ -1,40 +1,15 @@
 -- Chapter "Calls": each call in a term has one definition. The code finds it; that it is there is what the check of a component is for.
-use Rattle.std.specs.Prelude.{◌≡◌, ◌≢◌, ℕ, List, [], ◌∷◌, map}
+use Rattle.std.specs.Prelude.{◌≡◌, ◌≢◌, List, [], ◌∷◌, map}
 use Rattle.fort_base.specs.declared.ids.DeclId.{DeclId}
-use Rattle.fort_base.specs.declared.ids.Loc.{Loc}
 use Rattle.fort_base.specs.declared.ids.SetId.{SetId}
 use Rattle.fort_core.specs.declared.program.CoreBody.TheVariants.{Abstract}
 use Rattle.fort_core.specs.declared.program.CoreDecl.{CoreDecl}
 use Rattle.fort_core.specs.declared.program.Program.{Program}
 use Rattle.fort_core.specs.declared.term.Term.{Term, Call, Operator, ReduceHalves, out-Term}
 use Rattle.fort_core.specs.declared.term.Term as term
-use Rattle.fort_core.specs.declared.term.Term.TheOpen.{Term-F, Value-F}
-use Rattle.fort_core.specs.declared.value.Closure.{Closure}
 use Rattle.fort_core.specs.declared.value.Value.{Value, out-Value}
-use Rattle.fort_machine.specs.Parts.{IsOneOf, terms_in}
+use Rattle.fort_machine.specs.Parts.{IsOneOf, terms_in, values_in, values_of, bodies_of}
 use Rattle.fort_machine.specs.Calls.{Dispatches}
-
--- The values that a closure holds.
-abbrev pub held_values : Closure → List Value
-held_values c = map (λ (h : ℕ × Value). h.1) c.held
-
--- The values directly in a form, marks included.
-abbrev pub values_in : Term-F Term Value Closure → List Value
-values_in (Term-F.Value v) = v ∷ []
-values_in (Term-F.Fn c) = held_values c
-values_in (Term-F.Asleep marks a) = map (λ (m : Loc × Value). m.1) marks
-values_in _ = []
-
--- The values directly in a value.
-abbrev pub values_of : Value-F Term Value Closure → List Value
-values_of (Value-F.Tuple vs) = vs
-values_of (Value-F.Function c) = held_values c
-values_of _ = []
-
--- The bodies directly in a value.
-abbrev pub bodies_of : Value-F Term Value Closure → List Term
-bodies_of (Value-F.Function c) = c.body ∷ []
-bodies_of _ = []
 
 -- A term stands in another one, or in a value, at any depth.
 mutual

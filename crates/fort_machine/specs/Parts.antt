@@ -1,8 +1,9 @@
--- Chapter "Terms and threads": the terms in a term. The code walks a term form by form.
-use Rattle.std.specs.Prelude.{◌≡◌, List, [], ◌∷◌, ◌++◌, map, option_to_list, ◌⊎◌}
+-- Chapter "Terms and threads": the terms and values in a term. The code walks a term form by form.
+use Rattle.std.specs.Prelude.{◌≡◌, ℕ, List, [], ◌∷◌, ◌++◌, map, option_to_list, ◌⊎◌}
+use Rattle.fort_base.specs.declared.ids.Loc.{Loc}
 use Rattle.fort_base.specs.declared.ty.Ty.{Ty}
 use Rattle.fort_core.specs.declared.term.Term.{Term, out-Term}
-use Rattle.fort_core.specs.declared.term.Term.TheOpen.{Term-F}
+use Rattle.fort_core.specs.declared.term.Term.TheOpen.{Term-F, Value-F}
 use Rattle.fort_core.specs.declared.value.Closure.{Closure}
 use Rattle.fort_core.specs.declared.value.Value.{Value}
 
@@ -50,6 +51,28 @@ parts_of _ = []
 abbrev pub terms_in : Term-F Term Value Closure → List Term
 terms_in (Term-F.Fn c) = c.body ∷ []
 terms_in form = parts_of form
+
+-- The values that a closure holds.
+abbrev pub held_values : Closure → List Value
+held_values c = map (λ (h : ℕ × Value). h.1) c.held
+
+-- The values directly in a form, marks included.
+abbrev pub values_in : Term-F Term Value Closure → List Value
+values_in (Term-F.Value v) = v ∷ []
+values_in (Term-F.Fn c) = held_values c
+values_in (Term-F.Asleep marks a) = map (λ (m : Loc × Value). m.1) marks
+values_in _ = []
+
+-- The values directly in a value.
+abbrev pub values_of : Value-F Term Value Closure → List Value
+values_of (Value-F.Tuple vs) = vs
+values_of (Value-F.Function c) = held_values c
+values_of _ = []
+
+-- The bodies directly in a value.
+abbrev pub bodies_of : Value-F Term Value Closure → List Term
+bodies_of (Value-F.Function c) = c.body ∷ []
+bodies_of _ = []
 
 -- A term stands in another one, at any depth; values have none in them.
 pub data Inside (u : Term) : Term → Type 0 where

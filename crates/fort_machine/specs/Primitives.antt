@@ -13,7 +13,7 @@ use Rattle.fort_core.specs.declared.value.Value.{Value, Small, Large, Truth, Ran
 use Rattle.fort_machine.specs.Numbers.{Figure, number, too_large, by_zero, below_zero, within, is_within, quotient, remainder, modulus, greatest_divisor, least_multiple, shifted_left, shifted_right, power, last_of}
 use Rattle.fort_machine.specs.Texts.{text, same}
 
--- What a built-in declaration answers: a value, a text that it makes, a throw of a built-in exception, a text that it prints, the end of its machine, or nothing where the values aren't of its types.
+-- What a built-in declaration answers: a value, a text that it makes, a throw of a built-in exception, a text that it prints, the end of its machine, or nothing where it is given other kinds of values than it computes with. What joins texts computes with all kinds, since each value has a text.
 pub data Answer : Type 0 where
   gives : (value : Value) → Answer
   makes_text : (text : List ℕ) → Answer

@@ -7,6 +7,8 @@ ghost use Rattle.fort_machine.specs.EffectLaws.{EffectsJoin, EffectsFollow, Effe
 ghost use Rattle.fort_machine.specs.RunLaws.{OnePlace, SteppedGoesOn, OneStep, OneMarks, MarksThere, OneRun, Framed, SomeStore, OneStore, OneStoreBare, Lifts, RunsJoin, RunsPart, RunsFit, AttemptIsOnePick, PicksAddUp, PicksCost};
 ghost use Rattle.fort_machine.specs.Plain.{MakesPlainly, ReadsPlainly, RunsPlainly, WritesPlainly};
 ghost use Rattle.fort_machine.specs.Worked.{PrintsLetter};
+ghost use Rattle.fort_machine.specs.Proper.{EntersBare, ReachedIsProper};
+ghost use Rattle.fort_machine.specs.Written.{WrittenIsBare};
 
 use fort_core::{Journal, Program};
 
@@ -147,6 +149,22 @@ pub fn makes_plainly()
 /// A run is one in the plain reading: a store before, and a store after.
 pub fn runs_plainly()
     ensures { RunsPlainly }
+{}
+
+/// In a term as it is written no form sleeps.
+pub fn written_is_bare()
+    ensures { WrittenIsBare }
+{}
+
+/// The terms and stores of a written program's machines stay proper: what could be a value is one, marks stand round open
+/// parts, and no step was taken in what doesn't go.
+pub fn reached_is_proper()
+    ensures { ReachedIsProper }
+{}
+
+/// No form sleeps in a body that a machine of a written program enters: a declaration's, a function's or an attempt's.
+pub fn enters_bare()
+    ensures { EntersBare }
 {}
 
 /// A journal of two steps is a run of `run(): () = println("a")`, prints `a` and a line feed, and costs 4.

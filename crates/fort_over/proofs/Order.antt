@@ -1,7 +1,7 @@
 -- The order in which broken pairs stand.
 use Rattle.std.proofs.Common.{◌≡◌, ◌<◌, ◌⊎◌, inl, inr, ℕ, sym, ap₂, ◌∙◌, subst, arith}
 use Rattle.fort_base.specs.declared.refusal.Place.{Place}
-use Rattle.fort_tree.specs.Limits.{IsBefore}
+use Rattle.fort_base.specs.Places.{IsBefore}
 use Rattle.fort_over.specs.declared.places.BrokenPair.{BrokenPair}
 use Rattle.fort_over.specs.Standing.{Spot, ByPlaces, ByPositions, StandsBefore}
 use Rattle.fort_over.specs.Walks.{IsSooner}

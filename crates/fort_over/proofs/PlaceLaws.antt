@@ -6,10 +6,9 @@ use Rattle.std.proofs.lemmas.Option.{slice_get_within}
 use Rattle.fort_base.specs.declared.ids.TypeId.{TypeId}
 use Rattle.fort_base.specs.declared.refusal.Place.{Place}
 use Rattle.fort_base.specs.declared.table.TypeTable.{TypeTable}
-use Rattle.fort_tree.specs.Limits.{IsBefore}
+use Rattle.fort_base.specs.Places.{IsBefore, IsFirst, Keeps as KeepsPlace, KeepsAny}
 use Rattle.fort_types.specs.Hierarchy.{DeclaredTypes, Leaf}
 use Rattle.fort_types.specs.Table.{HasRows}
-use Rattle.fort_hier.specs.Earliest.{IsFirst, Keeps as KeepsPlace}
 use Rattle.fort_hier.proofs.First.{first_none, first_same, first_more, not_before}
 use Rattle.fort_set.specs.declared.member.Member.{Member}
 use Rattle.fort_set.specs.declared.member.MemberKind.TheVariants as a_kind
@@ -18,7 +17,7 @@ use Rattle.fort_set.specs.declared.member.Members.{Members}
 use Rattle.fort_set.specs.Coverage.{IsObjectBelow, IsCovered}
 use Rattle.fort_set.specs.Rules.{StandsAt}
 use Rattle.fort_over.specs.Standing.{standing}
-use Rattle.fort_over.specs.Walks.{EarlierOf, UncoveredAt, UncoveredOf, UncoveredIn, UncoveredBy, PlacesAmong, AreOf, AreCoveredFor, IsObjectOf, ObjectsFirst, DeclarationFirst, SetFirst, SetsFirst}
+use Rattle.fort_over.specs.Walks.{UncoveredAt, UncoveredOf, UncoveredIn, UncoveredBy, PlacesAmong, AreOf, AreCoveredFor, IsObjectOf, ObjectsFirst, DeclarationFirst, SetFirst, SetsFirst}
 
 near : (j n : ℕ) → j < n + 1 → (j < n) ⊎ (j ≡ n)
 near j n b = grind arith
@@ -32,7 +31,7 @@ first_turn F G None a b f = λ place w. f place (a place w)
 first_turn F G (Some best) a b f = record { breaks = b best f.breaks; none_before = λ other w c. f.none_before other (a other w) c }
 
 -- what is kept of those so far and the last is the earliest of all of them
-first_part : (Q : ℕ → Place → Type 0) (to : ℕ) (best next kept : Option Place) → IsFirst (Q to) next → EarlierOf best next kept → IsFirst (PlacesAmong Q to) best
+first_part : (Q : ℕ → Place → Type 0) (to : ℕ) (best next kept : Option Place) → IsFirst (Q to) next → KeepsAny best next kept → IsFirst (PlacesAmong Q to) best
     → IsFirst (PlacesAmong Q (to + 1)) kept
 first_part Q to best None kept g k f = subst (IsFirst (PlacesAmong Q (to + 1))) (sym k) (first_same Q to best g f)
 first_part Q to None (Some next) kept g k f = subst (IsFirst (PlacesAmong Q (to + 1))) (sym k) (record {
@@ -58,7 +57,7 @@ first_part Q to (Some best) (Some next) kept g (inr k) f = subst (IsFirst (Place
 })
 
 -- nothing is kept only where there was nothing
-kept_none : (best next kept : Option Place) → EarlierOf best next kept → kept ≡ None → (best ≡ None) × (next ≡ None)
+kept_none : (best next kept : Option Place) → KeepsAny best next kept → kept ≡ None → (best ≡ None) × (next ≡ None)
 kept_none best None kept k e = (sym k ∙ e, refl)
 kept_none None (Some next) kept k e = absurd cc
 kept_none (Some best) (Some next) kept (inl k) e = absurd (let f = k.1 in cc)
@@ -151,7 +150,7 @@ declaration_free table m s d n = record { told = λ h a place w. owned w.0 w.1 w
 pub set_none : (table : TypeTable) (m : Members) (s : MemberSet) → SetFirst table m s 0 None
 set_none table m s = record { told = λ h a. first_none (UncoveredIn h m s); covered = λ h a e i d l. absurd (omega arith) }
 
-pub set_more : (table : TypeTable) (m : Members) (s : MemberSet) (i : ℕ) (d : Member) (best next kept : Option Place) → StandsAt s i d → DeclarationFirst table m s d next → EarlierOf best next kept
+pub set_more : (table : TypeTable) (m : Members) (s : MemberSet) (i : ℕ) (d : Member) (best next kept : Option Place) → StandsAt s i d → DeclarationFirst table m s d next → KeepsAny best next kept
     → SetFirst table m s i best → SetFirst table m s (i + 1) kept
 set_more table m s i d best next kept is g k f = record {
   told = λ h a. first_part (UncoveredIn h m s) i best next kept
@@ -171,7 +170,7 @@ pub sets_none : (table : TypeTable) (m : Members) → SetsFirst table m 0 None
 sets_none table m = record { told = λ h a. first_none (UncoveredBy h m); covered = λ h a e n i s d l. absurd (omega arith) }
 
 pub sets_more : (table : TypeTable) (m : Members) (n : ℕ) (s : MemberSet) (best next kept : Option Place) → slice_get m.sets n ≡ Some s → SetFirst table m s (length s.members) next
-    → EarlierOf best next kept → SetsFirst table m n best → SetsFirst table m (n + 1) kept
+    → KeepsAny best next kept → SetsFirst table m n best → SetsFirst table m (n + 1) kept
 sets_more table m n s best next kept is g k f = record {
   told = λ h a. first_part (UncoveredBy h m) n best next kept
       (first_turn (PlacesAmong (UncoveredIn h m s) (length s.members)) (UncoveredBy h m n) next (λ place w. of_set h place w) (λ place w. (s, is, (w.0, w.2))) (g.told h a))

@@ -6,7 +6,7 @@ use Rattle.std.proofs.lemmas.Option.{slice_get_within}
 use Rattle.fort_base.specs.declared.refusal.Place.{Place}
 use Rattle.fort_types.specs.Hierarchy as declarations
 use Rattle.fort_hier.specs.declared.accepted.Hierarchy.{Hierarchy}
-use Rattle.fort_hier.specs.Earliest.{IsFirst}
+use Rattle.fort_base.specs.Places.{IsFirst}
 use Rattle.fort_set.specs.declared.member.MemberSet.{MemberSet}
 use Rattle.fort_set.specs.declared.member.Members.{Members}
 use Rattle.fort_over.specs.declared.places.BrokenPair.{BrokenPair}

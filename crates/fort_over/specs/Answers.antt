@@ -1,6 +1,7 @@
 -- The chapter "Overload rules": what the members of a component are, when they keep the rules, and which broken rule is reported. The code leaves
 -- 507 for the end.
 use Rattle.std.specs.Prelude.{◌≡◌, ◌⊎◌, ℕ, None, slice_get, get_or, Some}
+use Rattle.fort_base.specs.declared.rules.TheConstants.{ABSTRACT_NOT_COVERED}
 use Rattle.fort_base.specs.declared.ids.TypeId.{TypeId}
 use Rattle.fort_base.specs.declared.refusal.CheckFault.{CheckFault}
 use Rattle.fort_base.specs.declared.refusal.CheckFault.TheVariants as a_fault
@@ -8,7 +9,7 @@ use Rattle.fort_base.specs.declared.refusal.Place.{Place}
 use Rattle.fort_types.specs.Hierarchy as declarations
 use Rattle.fort_types.specs.Table.{HasRows}
 use Rattle.fort_hier.specs.declared.accepted.Hierarchy.{Hierarchy}
-use Rattle.fort_hier.specs.Earliest.{IsEarliest}
+use Rattle.fort_base.specs.Places.{IsEarliest}
 use Rattle.fort_set.specs.declared.member.Member.{Member}
 use Rattle.fort_set.specs.declared.member.MemberSet.{MemberSet}
 use Rattle.fort_set.specs.declared.member.Members.{Members}
@@ -50,7 +51,7 @@ IsPairFault h m rule place = (spot : Spot) × (place ≡ spot.later_place) × Is
 
 -- Where no pair breaks a rule, the earliest object that an abstract declaration isn't covered for.
 abbrev pub IsObjectFault : declarations.Hierarchy → Members → ℕ → Place → Type 0
-IsObjectFault h m rule place = (rule ≡ 507) × NoneBroken h (pairs_of m.sets) × IsEarliest (IsUncovered h m) place
+IsObjectFault h m rule place = (rule ≡ ABSTRACT_NOT_COVERED.0) × NoneBroken h (pairs_of m.sets) × IsEarliest (IsUncovered h m) place
 
 -- The rule that is reported, with its place: a pair's, or 507.
 abbrev pub IsReported : declarations.Hierarchy → Members → ℕ → Place → Type 0

@@ -1,7 +1,7 @@
 -- The chapter "Overload rules": where pairs of declarations stand, and which of those that break a rule stands first. The code walks the sets once.
 use Rattle.std.specs.Prelude.{◌≡◌, ◌⊎◌, ◌<◌, ℕ, List, Option, Some, None, slice_get}
 use Rattle.fort_base.specs.declared.refusal.Place.{Place}
-use Rattle.fort_tree.specs.Limits.{IsBefore}
+use Rattle.fort_base.specs.Places.{IsBefore}
 use Rattle.fort_types.specs.Hierarchy.{DeclaredTypes}
 use Rattle.fort_set.specs.declared.member.Member.{Member}
 use Rattle.fort_set.specs.declared.member.MemberSet.{MemberSet}

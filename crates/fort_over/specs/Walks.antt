@@ -4,11 +4,10 @@ use Rattle.fort_base.specs.declared.ids.TypeId.{TypeId}
 use Rattle.fort_base.specs.declared.refusal.Place.{Place}
 use Rattle.fort_base.specs.declared.table.TypeTable.{TypeTable}
 use Rattle.fort_base.specs.declared.ty.Ty.{Ty}
-use Rattle.fort_tree.specs.Limits.{IsBefore}
+use Rattle.fort_base.specs.Places.{IsBefore, IsFirst}
 use Rattle.fort_types.specs.Hierarchy.{DeclaredTypes, Sound}
 use Rattle.fort_types.specs.Types.{Below}
 use Rattle.fort_types.specs.Table.{HasRows}
-use Rattle.fort_hier.specs.Earliest.{IsFirst, Keeps as KeepsPlace}
 use Rattle.fort_set.specs.declared.member.Member.{Member}
 use Rattle.fort_set.specs.declared.member.MemberKind.TheVariants as a_kind
 use Rattle.fort_set.specs.declared.member.MemberSet.{MemberSet}
@@ -84,11 +83,6 @@ Covers h e d at object = (e.kind ≢ a_kind.Abstract) × IsMoreSpecific h e d ×
 -- Some of these declarations covers one.
 abbrev pub SomeCovers : DeclaredTypes → List Member → Member → ℕ → Ty → Type 0
 SomeCovers h members d at object = (k : ℕ) × (e : Member) × (slice_get members k ≡ Some e) × Covers h e d at object
-
--- What the code keeps of the place so far and of what was found behind it.
-abbrev pub EarlierOf : Option Place → Option Place → Option Place → Type 0
-EarlierOf best None kept = kept ≡ best
-EarlierOf best (Some place) kept = KeepsPlace best place kept
 
 -- An object that a declaration isn't covered for, and its place.
 abbrev pub UncoveredAt : DeclaredTypes → Members → MemberSet → Member → ℕ → TypeId → ℕ → Place → Type 0

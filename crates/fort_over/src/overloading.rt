@@ -5,13 +5,11 @@ ghost use Rattle.fort_over.specs.Answers.{AreOver, KeepAllRules, IsFault};
 
 use crate::pairs::first_broken;
 use crate::uncovered::first_uncovered;
-use fort_base::{CheckFault, Rule};
+use fort_base::CheckFault;
+use fort_base::rules::ABSTRACT_NOT_COVERED;
 use fort_hier::Hierarchy;
 use fort_set::Members;
 use std::alloc::Global;
-
-/// 507 AbstractNotCovered
-const ABSTRACT_NOT_COVERED: Rule = Rule(507);
 
 /// Checks the overload rules of a component's members, which its hierarchy's types are about.
 ///

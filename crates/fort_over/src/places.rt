@@ -1,6 +1,6 @@
 //! Where declarations and broken pairs stand, and which of two broken pairs stands first.
 ghost use Rattle.std.specs.Prelude.{◌≡◌, ◌↔◌, IsTrue};
-ghost use Rattle.fort_tree.specs.Limits.{IsBefore};
+ghost use Rattle.fort_base.specs.Places.{IsBefore};
 ghost use Rattle.fort_over.specs.Standing.{standing as place_of};
 ghost use Rattle.fort_over.specs.Walks.{IsSooner, Keeps};
 
@@ -41,15 +41,8 @@ pub fn sooner(best: Option<BrokenPair>, next: Option<BrokenPair>) -> Option<Brok
 fn is_sooner(a: BrokenPair, b: BrokenPair) -> bool
     ensures { IsTrue result ↔ IsSooner a b }
 {
-    if is_before(a.later, b.later) {
+    if a.later.is_before(b.later) {
         return true;
     }
-    a.later == b.later && is_before(a.earlier, b.earlier)
-}
-
-/// Whether one place stands before another in a file.
-fn is_before(a: Place, b: Place) -> bool
-    ensures { IsTrue result ↔ IsBefore a b }
-{
-    a.line < b.line || (a.line == b.line && a.column < b.column)
+    a.later == b.later && a.earlier.is_before(b.earlier)
 }

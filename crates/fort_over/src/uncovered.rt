@@ -1,12 +1,11 @@
 //! The earliest object that an abstract declaration isn't covered for.
 ghost use Rattle.std.specs.Prelude.{◌≡◌, ◌<◌, ◌≤◌, ◌^◌, None, false, length, get_or};
 ghost use Rattle.fort_over.specs.Standing.{standing as place_of};
-ghost use Rattle.fort_over.specs.Walks.{IsObjectOf, EarlierOf, ObjectsFirst, DeclarationFirst, SetFirst, SetsFirst};
+ghost use Rattle.fort_over.specs.Walks.{IsObjectOf, ObjectsFirst, DeclarationFirst, SetFirst, SetsFirst};
 
 use crate::covering::is_covered;
 use crate::places::standing;
-use fort_base::{Place, TypeId, TypeTable};
-use fort_hier::earlier;
+use fort_base::{Place, TypeId, TypeTable, earlier, earlier_of};
 use fort_set::{Member, MemberKind, MemberSet, Members};
 use fort_types::set_at;
 
@@ -102,15 +101,5 @@ fn object_place(members: &Members, ty: TypeId) -> Place
     match members.places.get(ty.0 as usize) {
         Some(held) => standing(*held),
         None => standing(None),
-    }
-}
-
-/// The earlier of two places.
-fn earlier_of(best: Option<Place>, next: Option<Place>) -> Option<Place>
-    ensures { EarlierOf best next result }
-{
-    match next {
-        Some(place) => earlier(best, place),
-        None => best,
     }
 }

@@ -1,5 +1,6 @@
 -- The chapter "Overload rules": what an answer for two declarations says. The code asks one case after another.
 use Rattle.std.specs.Prelude.{◌≡◌, ◌⊎◌, true, Bool, false, List, Option, Some, None, Contains}
+use Rattle.fort_base.specs.declared.rules.TheConstants.{RESULT_NOT_BELOW}
 use Rattle.fort_base.specs.declared.refusal.Rule.{Rule}
 use Rattle.fort_base.specs.declared.ty.Ty.{Ty}
 use Rattle.fort_types.specs.Hierarchy.{DeclaredTypes}
@@ -21,7 +22,7 @@ AreAside h s p q = (s.dotted ≡ true) × AreStrangers h p.parameters q.paramete
 -- An answer for two declarations the first of which is more specific: by the results.
 abbrev pub JudgesResults : DeclaredTypes → MemberSet → Member → Member → Option Rule → Type 0
 JudgesResults h s p q None = Below h p.result q.result ⊎ AreAside h s p q
-JudgesResults h s p q (Some rule) = (rule.0 ≡ 502) × (Below h p.result q.result → ⊥) × (AreAside h s p q → ⊥)
+JudgesResults h s p q (Some rule) = (rule.0 ≡ RESULT_NOT_BELOW.0) × (Below h p.result q.result → ⊥) × (AreAside h s p q → ⊥)
 
 -- An answer for two declarations of which the first three cases say nothing.
 abbrev pub JudgesMeets : DeclaredTypes → MemberSet → Member → Member → Option Rule → Type 0

@@ -10,6 +10,9 @@ use crate::counting::{TOO_MANY, count_all};
 use crate::covering::all_covered;
 use crate::listing::list_all;
 use crate::order::{are_apart, are_below, are_same, are_strangers};
+use fort_base::rules::{
+    ARROW_OVERLAP, MEET_NOT_DECLARED, NO_MEET, RESULT_NOT_BELOW, SAME_PARAMETERS, TOO_WIDE,
+};
 use fort_base::{Memory, Rule, TypeTable};
 use fort_set::{Member, MemberSet};
 use fort_types::below;
@@ -40,7 +43,7 @@ pub fn broken_rule(
         return Ok(None);
     }
     if are_same(&first.parameters, &second.parameters) {
-        return Ok(Some(Rule(501)));
+        return Ok(Some(SAME_PARAMETERS));
     }
     if are_apart(table, &first.parameters, &second.parameters) {
         return Ok(None);
@@ -67,7 +70,7 @@ fn by_results(table: &TypeTable, set: &MemberSet, first: &Member, second: &Membe
     if are_aside(table, set, first, second) {
         return None;
     }
-    Some(Rule(502))
+    Some(RESULT_NOT_BELOW)
 }
 
 /// Whether the declarations are dotted methods, and no declared type is below both receivers.
@@ -90,14 +93,14 @@ fn by_meets(
     ensures { IfOk result (λ rule. (h : Seq DeclaredType) → Sound h → HasRows h table.now → JudgesMeets h set.now first.now second.now rule) }
 {
     if arrows_clash(table, &first.parameters, &second.parameters) {
-        return Ok(Some(Rule(505)));
+        return Ok(Some(ARROW_OVERLAP));
     }
     let count = count_all(alloc, table, &first.parameters, &second.parameters)?;
     if count == 0 {
-        return Ok(Some(Rule(503)));
+        return Ok(Some(NO_MEET));
     }
     if count >= TOO_MANY {
-        return Ok(Some(Rule(506)));
+        return Ok(Some(TOO_WIDE));
     }
     let choices = list_all(alloc, table, &first.parameters, &second.parameters)?;
     if !all_covered(
@@ -107,7 +110,7 @@ fn by_meets(
         second,
         choices.as_slice(),
     ) {
-        return Ok(Some(Rule(504)));
+        return Ok(Some(MEET_NOT_DECLARED));
     }
     Ok(None)
 }

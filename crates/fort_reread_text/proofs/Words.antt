@@ -5,10 +5,10 @@ use Rattle.std.specs.List.{prefix_len}
 use Rattle.std.specs.Char.{is_ascii_digit}
 use Rattle.std.proofs.lemmas.Bool.Decides.{nat_tests}
 use Rattle.std.proofs.lemmas.List.{take_at, drop_at}
+use Rattle.fort_base.specs.declared.rules.TheConstants.{BAD_CHARACTER}
 use Rattle.unicode_ident.specs.Ident.{is_xid_continue}
 use Rattle.unicode_ident.proofs.IdentLemmas.{is_xid_continue-ascii}
 use Rattle.unicode_ident.proofs.Computing.{unicode_ident}
-use Rattle.fort_scan.specs.declared.TheConstants.{BAD_CHARACTER}
 use Rattle.fort_scan.specs.declared.word.Shape.{Shape}
 use Rattle.fort_scan.specs.declared.word.Shape.TheVariants as shape
 use Rattle.fort_scan.specs.declared.word.Read.TheVariants.{Whole, Fault}

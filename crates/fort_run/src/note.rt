@@ -1,6 +1,7 @@
 ghost use Rattle.std.specs.Prelude.{◌≡◌, ◌++◌, decimal, IfOk, OnOk};
-ghost use Rattle.fort_run.specs.Notes.{rule_name, refusal};
+ghost use Rattle.fort_run.specs.Notes.{name_of, refusal};
 
+use crate::run::NOT_BUILT;
 use fort_base::{Bytes, Memory, Place, Rule};
 use itoa::Buffer;
 
@@ -29,42 +30,13 @@ fn push_decimal(note: &mut Bytes, number: u32) -> Result<(), Memory>
     note.push_slice(buffer.format(number).as_bytes())
 }
 
-/// The name of a rule.
+/// The name of a rule, the one for what isn't built yet among them.
 fn name_of(rule: Rule) -> &'static [u8]
-    ensures { result.now ≡ rule_name rule.0 }
+    ensures { result.now ≡ name_of rule }
 {
-    match rule.0 {
-        101 => b"NotUtf8",
-        102 => b"BadCharacter",
-        103 => b"OpenComment",
-        104 => b"OpenText",
-        105 => b"BadEscape",
-        106 => b"NumberTooLarge",
-        107 => b"TooManyTokens",
-        201 => b"Syntax",
-        202 => b"TooDeep",
-        203 => b"TooMany",
-        301 => b"MixedSpacing",
-        302 => b"NoPrecedence",
-        303 => b"SpacingContradicts",
-        304 => b"BadChain",
-        401 => b"DuplicateName",
-        402 => b"UnknownType",
-        403 => b"CyclicExtends",
-        404 => b"ExtendsObject",
-        405 => b"ExtendsExcluded",
-        406 => b"NotComprised",
-        407 => b"ComprisedNotBelow",
-        451 => b"DuplicateMember",
-        452 => b"FieldNotBelow",
-        501 => b"SameParameters",
-        502 => b"ResultNotBelow",
-        503 => b"NoMeet",
-        504 => b"MeetNotDeclared",
-        505 => b"ArrowOverlap",
-        506 => b"TooWide",
-        507 => b"AbstractNotCovered",
-        901 => b"NotBuilt",
-        _ => b"",
+    if rule == NOT_BUILT {
+        b"NotBuilt"
+    } else {
+        rule.name()
     }
 }

@@ -16,7 +16,7 @@ use fort_lex::{Tokens, tokens};
 use std::alloc::Global;
 
 /// The rule that refuses what isn't built yet.
-const NOT_BUILT: Rule = Rule(901);
+pub(crate) const NOT_BUILT: Rule = Rule(901);
 
 /// The place of a refusal of the whole file.
 const WHOLE_FILE: Place = Place { line: 1, column: 1 };

@@ -3,9 +3,9 @@ use Rattle.std.proofs.Common.{◌≡◌, ◌⊎◌, ℕ, zero, suc, ◌≤◌, �
 use mathlib.Core.Logic.{inl, inr}
 use Rattle.std.proofs.lemmas.Bool.{cases_lt}
 use Rattle.std.proofs.lemmas.List.{drop-drop, drop_at}
+use Rattle.fort_base.specs.declared.rules.TheConstants.{BAD_CHARACTER, OPEN_COMMENT}
 use Rattle.fort_base.specs.declared.refusal.Rule.{Rule}
 use Rattle.fort_base.specs.declared.refusal.Place.{Place}
-use Rattle.fort_scan.specs.declared.TheConstants.{BAD_CHARACTER, OPEN_COMMENT}
 use Rattle.fort_scan.specs.declared.gap.PartEnd.{PartEnd}
 use Rattle.fort_scan.specs.declared.gap.PartEnd.TheVariants as end
 use Rattle.fort_scan.specs.declared.word.Read.{Read}

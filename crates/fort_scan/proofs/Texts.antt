@@ -3,8 +3,8 @@ use Rattle.std.proofs.Common.{◌≡◌, ℕ, suc, ◌≤◌, ◌+◌, Bool, tru
 use mathlib.Core.Logic.{inl, inr}
 use Rattle.std.proofs.lemmas.Bool.Decides.{nat_tests}
 use Rattle.std.specs.Option.{option_map}
+use Rattle.fort_base.specs.declared.rules.TheConstants.{BAD_CHARACTER, BAD_ESCAPE}
 use Rattle.fort_base.specs.declared.refusal.Rule.{Rule}
-use Rattle.fort_scan.specs.declared.TheConstants.{BAD_CHARACTER, BAD_ESCAPE}
 use Rattle.fort_scan.specs.Lists.{is_empty}
 use Rattle.fort_scan.specs.Spelling.{closes_text, is_control}
 use Rattle.fort_scan.specs.Scan.{text_end}

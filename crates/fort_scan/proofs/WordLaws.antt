@@ -6,10 +6,10 @@ use Rattle.std.proofs.lemmas.List.{take_at, drop_at, take-append-drop, length-ta
 use Rattle.std.specs.List.{prefix_len}
 use Rattle.std.specs.Char.{is_ascii_digit}
 use Rattle.std.specs.Option.{option_map_or}
+use Rattle.fort_base.specs.declared.rules.TheConstants.{BAD_CHARACTER, OPEN_TEXT, NUMBER_TOO_LARGE}
 use Rattle.unicode_ident.specs.Ident.{is_xid_continue}
 use Rattle.ucd_category.proofs.Computing.{ucd_category}
 use Rattle.fort_base.specs.declared.refusal.Rule.{Rule}
-use Rattle.fort_scan.specs.declared.TheConstants.{BAD_CHARACTER, OPEN_TEXT, NUMBER_TOO_LARGE}
 use Rattle.fort_scan.specs.declared.word.Shape.{Shape}
 use Rattle.fort_scan.specs.declared.word.Shape.TheVariants as shape
 use Rattle.fort_scan.specs.declared.word.Read.{Read}

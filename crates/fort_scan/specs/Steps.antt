@@ -1,7 +1,7 @@
 -- The chapter "Tokens", one step of the scan: what stands next in a text. The code reads a gap and then a word.
 use Rattle.std.specs.Prelude.{◌≡◌, ℕ, ◌≤◌, ◌<◌, ◌+◌, List, [], length, take, drop}
+use Rattle.fort_base.specs.declared.rules.TheConstants.{BAD_CHARACTER}
 use Rattle.fort_base.specs.declared.refusal.Rule.{Rule}
-use Rattle.fort_scan.specs.declared.TheConstants.{BAD_CHARACTER}
 use Rattle.fort_scan.specs.declared.word.Shape.{Shape}
 use Rattle.fort_scan.specs.declared.step.Step.{Step}
 use Rattle.fort_scan.specs.declared.step.Step.TheVariants as step

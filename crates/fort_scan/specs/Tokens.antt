@@ -1,8 +1,8 @@
 -- The chapter "Tokens", the token list of a text. The definition puts gaps and spellings together; the code scans once.
 use Rattle.std.specs.Prelude.{◌≡◌, ◌≢◌, ℕ, suc, ◌<◌, Bool, true, false, not, ◌&&◌, ◌||◌, ◌==◌, List, [], ◌∷◌, ◌++◌, length}
+use Rattle.fort_base.specs.declared.rules.TheConstants.{BAD_CHARACTER, OPEN_COMMENT, OPEN_TEXT, BAD_ESCAPE, NUMBER_TOO_LARGE}
 use Rattle.unicode_ident.specs.Ident.{is_xid_continue}
 use Rattle.fort_base.specs.declared.refusal.Rule.{Rule}
-use Rattle.fort_scan.specs.declared.TheConstants.{BAD_CHARACTER, OPEN_COMMENT, OPEN_TEXT, BAD_ESCAPE, NUMBER_TOO_LARGE}
 use Rattle.fort_scan.specs.Chain.{Chain}
 use Rattle.fort_scan.specs.Gaps.{Gap, IsOpenComment, opens, mark, body}
 use Rattle.fort_scan.specs.Spelling.{is_number, is_text, is_control, Longest, decimal}

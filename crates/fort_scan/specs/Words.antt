@@ -4,9 +4,9 @@ use Rattle.std.specs.Prelude.{ℕ, ◌+◌, max, Bool, true, false, cond, not, �
 use Rattle.std.specs.Option.{option_map_or}
 use Rattle.std.specs.List.{prefix_len}
 use Rattle.std.specs.Char.{is_ascii_digit}
+use Rattle.fort_base.specs.declared.rules.TheConstants.{BAD_CHARACTER, OPEN_TEXT, BAD_ESCAPE, NUMBER_TOO_LARGE}
 use Rattle.unicode_ident.specs.Ident.{is_xid_continue}
 use Rattle.fort_base.specs.declared.refusal.Rule.{Rule}
-use Rattle.fort_scan.specs.declared.TheConstants.{BAD_CHARACTER, OPEN_TEXT, BAD_ESCAPE, NUMBER_TOO_LARGE}
 use Rattle.fort_scan.specs.declared.word.Shape.{Shape}
 use Rattle.fort_scan.specs.declared.word.Shape.TheVariants as shape
 use Rattle.fort_scan.specs.declared.word.Read.{Read}

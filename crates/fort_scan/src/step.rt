@@ -1,10 +1,10 @@
 ghost use Rattle.std.specs.Prelude.{◌<◌, ◌^◌, length};
 ghost use Rattle.fort_scan.specs.Steps.{StepIs};
 
-use crate::OPEN_COMMENT;
 use crate::gap::gap_len;
 use crate::word::{Read, Shape, word_of};
 use fort_base::Rule;
+use fort_base::rules::OPEN_COMMENT;
 
 /// What stands next in a text.
 #[derive(Clone, Copy, Debug, PartialEq, Eq)]

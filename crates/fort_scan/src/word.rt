@@ -9,8 +9,8 @@ ghost use Rattle.fort_scan.specs.Tokens.{is_escape};
 ghost use Rattle.fort_scan.specs.Words.{symbol_len, text_fault, number_word, text_word, word_of};
 
 use crate::gap::at;
-use crate::{BAD_CHARACTER, BAD_ESCAPE, NUMBER_TOO_LARGE, OPEN_TEXT};
 use fort_base::Rule;
+use fort_base::rules::{BAD_CHARACTER, BAD_ESCAPE, NUMBER_TOO_LARGE, OPEN_TEXT};
 use unicode::properties::GeneralCategory;
 
 pub const MAX_NUMBER: u64 = 9_223_372_036_854_775_807;

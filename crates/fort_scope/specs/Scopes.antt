@@ -1,11 +1,11 @@
 -- The chapter "Names in scope": the names that bindings bind, and what `bind` refuses. The code keeps them in a map.
 use Rattle.std.specs.Prelude.{◌≡◌, ◌≢◌, ℕ, List, map, Contains, AllPairs}
+use Rattle.fort_base.specs.declared.rules.TheConstants.{SHADOWS}
 use Rattle.fort_base.specs.declared.ids.NameId.{NameId}
 use Rattle.fort_base.specs.declared.refusal.Place.{Place}
 use Rattle.fort_base.specs.declared.refusal.CheckFault.{CheckFault}
 use Rattle.fort_base.specs.declared.refusal.CheckFault.TheVariants as a_fault
 use Rattle.fort_scope.specs.declared.binding.Binding.{Binding}
-use Rattle.fort_scope.specs.declared.binding.TheConstants.{ALREADY_BOUND}
 
 -- the numbers of the names that are bound
 abbrev pub names : List Binding → List ℕ
@@ -21,5 +21,5 @@ AreDistinct bindings = AllPairs (λ m n. m ≢ n) (names bindings)
 
 -- A name that is bound is refused by 613 at its new place. Memory can only be wanting for one that isn't.
 abbrev pub IsFault : List Binding → NameId → Place → CheckFault → Type 0
-IsFault bindings name place (a_fault.Refused rule at) = (rule ≡ ALREADY_BOUND) × (at ≡ place) × IsBound bindings name
+IsFault bindings name place (a_fault.Refused rule at) = (rule ≡ SHADOWS) × (at ≡ place) × IsBound bindings name
 IsFault bindings name place a_fault.Memory = IsBound bindings name → ⊥

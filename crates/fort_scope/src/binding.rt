@@ -1,8 +1,5 @@
 //! A name that is bound.
-use fort_base::{NameId, Place, Rule, Ty};
-
-/// 613: a name that is bound already.
-pub const ALREADY_BOUND: Rule = Rule(613);
+use fort_base::{NameId, Place, Ty};
 
 /// What a name in scope stands for. The chapter "Names in scope".
 #[derive(Drop)]

@@ -6,5 +6,5 @@ mod scopes;
 #[cfg(test)]
 mod tests;
 
-pub use binding::{ALREADY_BOUND, Binding};
+pub use binding::Binding;
 pub use scopes::Scope;

@@ -2,7 +2,8 @@
 ghost use Rattle.std.specs.Prelude.{◌≡◌, ◌++◌, ◌∷◌, [], length, take, Contains, IfOk, OnOk, OnErr, IfErr, IfSome, IfNone, IsTrue, ◌↔◌};
 ghost use Rattle.fort_scope.specs.Scopes.{IsBound, AreDistinct, IsFault};
 
-use crate::binding::{ALREADY_BOUND, Binding};
+use crate::binding::Binding;
+use fort_base::rules::SHADOWS;
 use fort_base::{CheckFault, Memory, NameId, Place, Ty};
 use indexmap::IndexMap;
 use std::alloc::Global;
@@ -75,7 +76,7 @@ impl Scope {
         ensures unchanged { OnErr result (self.new ≡ self.old) }
     {
         if self.is_bound(name) {
-            return Err(CheckFault::Refused(ALREADY_BOUND, place));
+            return Err(CheckFault::Refused(SHADOWS, place));
         }
         self.add(Binding {
             name,

@@ -1,5 +1,6 @@
 -- The chapter "Overload rules": what is asked of two declarations of a set, by the four cases in their order. The code asks one case after another.
 use Rattle.std.specs.Prelude.{◌≡◌, ◌≢◌, ℕ, true, List, slice_get, Some}
+use Rattle.fort_base.specs.declared.rules.TheConstants.{SAME_PARAMETERS, RESULT_NOT_BELOW, NO_MEET, MEET_NOT_DECLARED, ARROW_OVERLAP, TOO_WIDE}
 use Rattle.fort_base.specs.declared.ids.TypeId.{TypeId}
 use Rattle.fort_base.specs.declared.ty.Ty.{Ty, out-Ty}
 use Rattle.fort_base.specs.declared.ty.Ty.TheOpen.{Ty-F}
@@ -46,14 +47,14 @@ pub data Passes (h : DeclaredTypes) (s : MemberSet) (p q : Member) : Type 0 wher
 
 -- Two declarations of a set break a rule.
 pub data Breaks (h : DeclaredTypes) (s : MemberSet) (p q : Member) (rule : ℕ) : Type 0 where
-  same_parameters : rule ≡ 501 → p.parameters ≡ q.parameters → Breaks h s p q rule
-  first_result : rule ≡ 502 → p.parameters ≢ q.parameters → (NeverMeet h s p q → ⊥) → IsMoreSpecific h p q → (Below h p.result q.result → ⊥) → Breaks h s p q rule
-  second_result : rule ≡ 502 → p.parameters ≢ q.parameters → (NeverMeet h s p q → ⊥) → IsMoreSpecific h q p → (Below h q.result p.result → ⊥) → Breaks h s p q rule
-  arrow_overlap : rule ≡ 505 → AreUnordered h s p q → Somewhere (ArrowsClash h) p.parameters q.parameters → Breaks h s p q rule
-  no_meet : rule ≡ 503 → AreUnordered h s p q → (Somewhere (ArrowsClash h) p.parameters q.parameters → ⊥)
+  same_parameters : rule ≡ SAME_PARAMETERS.0 → p.parameters ≡ q.parameters → Breaks h s p q rule
+  first_result : rule ≡ RESULT_NOT_BELOW.0 → p.parameters ≢ q.parameters → (NeverMeet h s p q → ⊥) → IsMoreSpecific h p q → (Below h p.result q.result → ⊥) → Breaks h s p q rule
+  second_result : rule ≡ RESULT_NOT_BELOW.0 → p.parameters ≢ q.parameters → (NeverMeet h s p q → ⊥) → IsMoreSpecific h q p → (Below h q.result p.result → ⊥) → Breaks h s p q rule
+  arrow_overlap : rule ≡ ARROW_OVERLAP.0 → AreUnordered h s p q → Somewhere (ArrowsClash h) p.parameters q.parameters → Breaks h s p q rule
+  no_meet : rule ≡ NO_MEET.0 → AreUnordered h s p q → (Somewhere (ArrowsClash h) p.parameters q.parameters → ⊥)
       → Somewhere (HasNone h) p.parameters q.parameters → Breaks h s p q rule
-  too_wide : rule ≡ 506 → AreUnordered h s p q → (Somewhere (ArrowsClash h) p.parameters q.parameters → ⊥)
+  too_wide : rule ≡ TOO_WIDE.0 → AreUnordered h s p q → (Somewhere (ArrowsClash h) p.parameters q.parameters → ⊥)
       → (Somewhere (HasNone h) p.parameters q.parameters → ⊥) → AreTooMany h p.parameters q.parameters → Breaks h s p q rule
-  not_declared : rule ≡ 504 → AreUnordered h s p q → (Somewhere (ArrowsClash h) p.parameters q.parameters → ⊥)
+  not_declared : rule ≡ MEET_NOT_DECLARED.0 → AreUnordered h s p q → (Somewhere (ArrowsClash h) p.parameters q.parameters → ⊥)
       → (Somewhere (HasNone h) p.parameters q.parameters → ⊥) → (AreTooMany h p.parameters q.parameters → ⊥)
       → (types : List Ty) → IsChoice h p.parameters q.parameters types → (AreCovered h s.members p q types → ⊥) → Breaks h s p q rule

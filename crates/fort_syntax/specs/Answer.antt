@@ -1,6 +1,7 @@
 -- The chapter "Grammar": what reading a token list answers: its one component, or the first broken rule of 202, 201 and 203 with
 -- its place. The code reads the tokens once, from left to right.
 use Rattle.std.specs.Prelude.{◌≡◌, ◌⊎◌, ℕ, List, [], ◌∷◌, ◌++◌, Option, Some, None, Result, Ok, Err}
+use Rattle.fort_base.specs.declared.rules.TheConstants.{SYNTAX, TOO_DEEP, TOO_MANY}
 use Rattle.fort_base.specs.declared.refusal.Place.{Place}
 use Rattle.fort_base.specs.declared.refusal.CheckFault.{CheckFault}
 use Rattle.fort_base.specs.declared.refusal.CheckFault.TheVariants as a_fault
@@ -58,14 +59,14 @@ pub record IsComponent (tokens : Tokens) (c : Component) : Type 0 where
 -- The token list breaks this rule, at this place: 202 where a token stands too deep; else 201 where it has no tree; else 203 where
 -- its tree passes a limit.
 pub data Breaks (tokens : Tokens) : ℕ → Place → Type 0 where
-  TooDeep : {at : Place} → FirstDeep tokens.list at → Breaks tokens 202 at
-  Syntax : {at : Place} → AllShallow tokens.list → HasNone tokens → IsFault tokens at → Breaks tokens 201 at
-  TooMany : {at : Place} → AllShallow tokens.list → (c : Component) → HasTree tokens c → BreaksLimit c at → Breaks tokens 203 at
+  TooDeep : {at : Place} → FirstDeep tokens.list at → Breaks tokens TOO_DEEP.0 at
+  Syntax : {at : Place} → AllShallow tokens.list → HasNone tokens → IsFault tokens at → Breaks tokens SYNTAX.0 at
+  TooMany : {at : Place} → AllShallow tokens.list → (c : Component) → HasTree tokens c → BreaksLimit c at → Breaks tokens TOO_MANY.0 at
 
 -- What reading answers, depth and limits aside: the one tree, or 201 at a fault of tokens that have none.
 abbrev pub Reading : Tokens → Result Component CheckFault → Type 0
 Reading tokens (Ok c) = HasTree tokens c × ((other : Component) → HasTree tokens other → other ≡ c)
-Reading tokens (Err (a_fault.Refused rule at)) = (rule.0 ≡ 201) × HasNone tokens × IsFault tokens at
+Reading tokens (Err (a_fault.Refused rule at)) = (rule.0 ≡ SYNTAX.0) × HasNone tokens × IsFault tokens at
 Reading tokens (Err a_fault.Memory) = Unit {0}
 
 -- the last of some tokens

@@ -2,16 +2,14 @@ ghost use Rattle.std.specs.Prelude.{◌≡◌, Some, None, option_map};
 ghost use Rattle.fort_reading.specs.Parser.{next_of};
 ghost use Rattle.fort_syntax.specs.Answer.{Answers, Reading, fault_place, last_token, place_or_first};
 
-use fort_base::{CheckFault, Place, Rule};
+use fort_base::rules::{SYNTAX, TOO_DEEP, TOO_MANY};
+use fort_base::{CheckFault, Place};
 use fort_declarations::whole;
-use fort_limits::{TOO_DEEP, TOO_MANY, first_crowded, first_deep};
+use fort_limits::{first_crowded, first_deep};
 use fort_reading::{Cursor, Fault};
 use fort_token::{Token, Tokens};
 use fort_tree::Component;
 use std::alloc::Global;
-
-/// No tree yields the tokens.
-pub const SYNTAX: Rule = Rule(201);
 
 /// How many parts may be open in one another before the stack is held to be too small for more.
 const MOST_NESTED: usize = 400;

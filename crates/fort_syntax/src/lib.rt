@@ -4,5 +4,5 @@
 mod answer;
 mod laws;
 
-pub use answer::{SYNTAX, component};
+pub use answer::component;
 pub use laws::at_most_one_tree;

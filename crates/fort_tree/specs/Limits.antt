@@ -2,6 +2,7 @@
 -- counts while it walks a component.
 use Rattle.std.specs.Prelude.{ℕ, ◌+◌, ◌<◌, ◌^◌, ◌≡◌, ◌≢◌, ◌⊎◌, List, [], ◌∷◌, ◌++◌, Option, Some, None, length, map, drop, take}
 use Rattle.std.specs.List.{AllPairs, Contains, flat_map}
+use Rattle.fort_base.specs.Places.{IsBefore}
 use Rattle.fort_base.specs.declared.refusal.Place.{Place}
 use Rattle.fort_tree.specs.declared.declarations.Component.{Component}
 use Rattle.fort_tree.specs.declared.declarations.Comprises.{Comprises}
@@ -169,10 +170,6 @@ flats c = all_flats (measured_declarations c)
 -- the places of a component's flat expressions
 abbrev pub flat_places : Component → List Place
 flat_places c = map (λ r. r.place) (flats c)
-
--- One place stands before another in a file.
-abbrev pub IsBefore : Place → Place → Type 0
-IsBefore a b = (a.line < b.line) ⊎ ((a.line ≡ b.line) × (a.column < b.column))
 
 -- A component passes a limit, and this is the earliest place of what passes one.
 abbrev pub BreaksLimit : Component → Place → Type 0

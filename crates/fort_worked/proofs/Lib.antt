@@ -10,3 +10,5 @@ pub mod LeftOut
 pub mod SleepingRun
 pub mod Waiting
 pub mod PassingRun
+pub mod WrittenForms
+pub mod AsWritten

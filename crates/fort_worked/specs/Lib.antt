@@ -6,3 +6,4 @@ pub mod Pieces
 pub mod Failing
 pub mod Sleeping
 pub mod Passing
+pub mod AsWritten

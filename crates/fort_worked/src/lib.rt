@@ -3,6 +3,7 @@
 //! Nothing is computed here. Each function names a law by its clause and does nothing.
 #![tactic(auto)]
 
+mod as_written;
 mod failing;
 mod letter;
 mod overflow;
@@ -10,6 +11,7 @@ mod passing;
 mod sleeping;
 mod two_threads;
 
+pub use as_written::worked_are_written;
 pub use failing::{inner_fails, inner_must_end, outer_completes, recovers};
 pub use letter::value_is_no_thread;
 pub use overflow::{overflows, sum_is_part_zero};

@@ -1,7 +1,7 @@
 use Rattle.std.proofs.Common.{◌≡◌, ◌≤◌, ◌∙◌, refl, sym, subst, length, None, IfOk, IfErr, OnOk}
 use Rattle.fort_types.specs.Hierarchy.{Sound}
 use Rattle.fort_types.specs.Table.{HasRows}
-use Rattle.fort_hier.specs.Earliest.{IsFirst}
+use Rattle.fort_base.specs.Places.{IsFirst}
 use Rattle.fort_hier.proofs.AcceptedLaws.{accepted_sound}
 use Rattle.fort_field.specs.Gathering.{HasAll}
 use Rattle.fort_field.specs.Rules.{IsDuplicate, IsNotBelow, IsFieldRefusal}

@@ -1,6 +1,6 @@
 use Rattle.std.proofs.Common.{refl, subst}
 use Rattle.std.proofs.lemmas.Option.{slice_get_read}
-use Rattle.fort_hier.specs.Earliest.{IsFirst}
+use Rattle.fort_base.specs.Places.{IsFirst}
 use Rattle.fort_field.specs.Rules.{IsRepeated}
 use Rattle.fort_field.proofs.DuplicateLaws.{twice_step, twice_all}
 use Rattle.fort_field.proofs.duplicates.first_declared_twice.Goals as goal

@@ -1,4 +1,4 @@
-use Rattle.fort_hier.specs.Earliest.{IsFirst}
+use Rattle.fort_base.specs.Places.{IsFirst}
 use Rattle.fort_hier.proofs.First.{Among}
 use Rattle.fort_field.proofs.RepeatLaws.{TwiceAt}
 use Rattle.fort_field.proofs.duplicates.first_declared_twice.Given as goal

@@ -1,5 +1,5 @@
 use Rattle.std.proofs.Common.{◌+◌}
-use Rattle.fort_hier.specs.Earliest.{IsFirst}
+use Rattle.fort_base.specs.Places.{IsFirst}
 use Rattle.fort_hier.proofs.First.{Among}
 use Rattle.fort_field.proofs.DuplicateLaws.{DuplicateAt}
 use Rattle.fort_field.proofs.duplicates.first_duplicate.Given as goal

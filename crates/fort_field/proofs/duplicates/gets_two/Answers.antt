@@ -1,6 +1,6 @@
 use Rattle.std.proofs.Common.{◌↔◌, IsTrue, None, refl, subst}
 use Rattle.std.proofs.lemmas.Option.{slice_get-get_or}
-use Rattle.fort_hier.specs.Earliest.{IsFirst}
+use Rattle.fort_base.specs.Places.{IsFirst}
 use Rattle.fort_field.specs.Rules.{IsRepeated}
 use Rattle.fort_field.specs.Walks.{SomeDiffer, fields_of}
 use Rattle.fort_field.proofs.DuplicateLaws.{gets_none, gets_told, kind_at}

@@ -1,6 +1,6 @@
 use Rattle.std.proofs.Common.{◌≡◌, ◌+◌, Some}
 use Rattle.std.specs.List.{slice_get}
-use Rattle.fort_hier.specs.Earliest.{IsFirst}
+use Rattle.fort_base.specs.Places.{IsFirst}
 use Rattle.fort_hier.proofs.First.{Among}
 use Rattle.fort_field.specs.Rules.{LacksField}
 use Rattle.fort_field.proofs.lacking.first_lacking.Given as goal

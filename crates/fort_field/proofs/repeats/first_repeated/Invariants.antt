@@ -1,5 +1,5 @@
 use Rattle.std.proofs.Common.{take}
-use Rattle.fort_hier.specs.Earliest.{IsFirst}
+use Rattle.fort_base.specs.Places.{IsFirst}
 use Rattle.fort_hier.proofs.First.{Among}
 use Rattle.fort_field.specs.Walks.{HoldsNames}
 use Rattle.fort_field.proofs.RepeatLaws.{RepeatedAt}

@@ -2,7 +2,7 @@ use Rattle.std.proofs.Common.{◌≡◌, ◌++◌, Err, None, List, length, map,
 use Rattle.std.specs.Prelude.{replicate}
 use Rattle.fort_types.specs.Table.{HasRows}
 use Rattle.fort_hier.specs.declared.heads.TypeHead.{TypeHead}
-use Rattle.fort_hier.specs.Earliest.{IsFirst}
+use Rattle.fort_base.specs.Places.{IsFirst}
 use Rattle.fort_hier.specs.Heads.{head_body}
 use Rattle.fort_hier.specs.Hierarchies.{IsRefusal, IsSentenceRefusal}
 use Rattle.fort_hier.specs.Lowest.{IsLowestFrom}

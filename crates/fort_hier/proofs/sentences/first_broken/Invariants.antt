@@ -1,7 +1,7 @@
 use Rattle.std.proofs.Common.{◌≡◌, ◌+◌, Some}
 use Rattle.std.specs.List.{slice_get}
 use Rattle.fort_hier.specs.Sentences.{Breaks}
-use Rattle.fort_hier.specs.Earliest.{IsFirst}
+use Rattle.fort_base.specs.Places.{IsFirst}
 use Rattle.fort_hier.proofs.First.{Among}
 use Rattle.fort_hier.proofs.sentences.first_broken.Given as goal
 

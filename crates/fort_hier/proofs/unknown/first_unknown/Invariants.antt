@@ -1,5 +1,5 @@
 use Rattle.std.proofs.Common.{List}
-use Rattle.fort_hier.specs.Earliest.{IsFirst}
+use Rattle.fort_base.specs.Places.{IsFirst}
 use Rattle.fort_hier.specs.Names.{Spelling}
 use Rattle.fort_hier.specs.Numbers.{HoldsNumbers}
 use Rattle.fort_hier.proofs.First.{Among}
