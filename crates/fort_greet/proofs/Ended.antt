@@ -37,7 +37,7 @@ nothing_behind : (xs : List ℕ) → xs ++ [] ≡ xs
 nothing_behind [] = refl
 nothing_behind (y ∷ ys) = ap (λ zs. y ∷ zs) (nothing_behind ys)
 
-length_line : (said : List ℕ) → length (line_of said) ≡ length said + 1
+pub length_line : (said : List ℕ) → length (line_of said) ≡ length said + 1
 length_line said = length-append said (10 ∷ [])
 
 module _ (said : List ℕ) (p : Program) (h : IsProgram said p) where
