@@ -1,0 +1,5 @@
+use Rattle.fort_typed.proofs.Reached.{reached_is_one}
+use Rattle.fort_typed.proofs.reached_is_one.Goals as goal
+
+pub returns : goal.returns
+returns c = reached_is_one

@@ -1,0 +1,5 @@
+use Rattle.fort_typed.proofs.Runs.{runs_keep}
+use Rattle.fort_typed.proofs.runs_keep.Goals as goal
+
+pub returns : goal.returns
+returns c = runs_keep

@@ -1,0 +1,154 @@
+-- What is taken of a program, and what is kept.
+use Rattle.std.specs.Prelude.{◌≡◌, ℕ, ◌+◌, ◌==◌, if◌then◌else◌, ◌⊎◌, IsTrue, List, [], ◌∷◌, ◌++◌, map, slice_get, Some, None}
+use Rattle.fort_base.specs.declared.ids.DeclId.{DeclId}
+use Rattle.fort_base.specs.declared.ids.Loc.{Loc}
+use Rattle.fort_base.specs.declared.ids.NameId.{NameId}
+use Rattle.fort_base.specs.declared.ids.SetId.{SetId}
+use Rattle.fort_base.specs.declared.ids.TypeId.{TypeId}
+use Rattle.fort_base.specs.declared.ty.Ty.{Ty, Tuple, out-Ty}
+use Rattle.fort_base.specs.declared.ty.Ty.TheVariants.{Named}
+use Rattle.fort_base.specs.declared.ty.Ty.TheOpen.{Ty-F}
+use Rattle.fort_core.specs.declared.primitive.Primitive.{Primitive}
+use Rattle.fort_core.specs.declared.program.CoreBody.TheVariants as body
+use Rattle.fort_core.specs.declared.program.CoreDecl.{CoreDecl}
+use Rattle.fort_core.specs.declared.program.CoreField.{CoreField}
+use Rattle.fort_core.specs.declared.program.CoreShape.{CoreShape}
+use Rattle.fort_core.specs.declared.term.Term.{Term}
+use Rattle.fort_core.specs.declared.value.Value.{Value}
+use Rattle.fort_core.specs.declared.program.Program.{Program}
+use Rattle.fort_machine.specs.Types.{below}
+use Rattle.fort_machine.specs.Primitives.{gives, makes_text, throws, prints, answer_of}
+use Rattle.fort_machine.specs.Acts.{single}
+use Rattle.fort_machine.specs.Calls.{IsApplicable, IsMoreSpecific, constants}
+use Rattle.fort_core.specs.declared.pick.Pick.{Pick}
+use Rattle.std.specs.Prelude.{Bool}
+use Rattle.fort_machine.specs.Effects.{Store, Effect, afterwards}
+use Rattle.fort_machine.specs.Attempts.{Ended, goes}
+use Rattle.fort_machine.specs.Runs.{Runs}
+use Rattle.fort_machine.specs.Journals.{opening_store, IsRun}
+use Rattle.fort_machine.specs.OneDefinition.{HasDefinition, IsOne}
+use Rattle.fort_typed.specs.Envs.{Sort, fixed, Sig, Env, none, binds}
+use Rattle.fort_typed.specs.Typing.{Below, unit_type, thrown_type, ShapeOf, Makes, FieldOf, Has, HasV, HasVs}
+
+-- The store's types grow.
+abbrev pub Up : Sig → Sig → Type 0
+Up S S' = (l : ℕ) (F : Ty) → S l ≡ Some F → S' l ≡ Some F
+
+-- The types of the opening store.
+abbrev pub typed_at : List (Loc × Ty) → Sig
+typed_at [] l = None
+typed_at (q ∷ qs) l = if q.0.0 == l then Some q.1 else typed_at qs l
+
+abbrev pub opening : Program → Sig
+opening p = typed_at p.opening_types
+
+-- One list of types below another, place by place.
+abbrev pub AllBelow : Program → List Ty → List Ty → Type 0
+AllBelow p [] [] = Unit {0}
+AllBelow p (A ∷ As) (B ∷ Bs) = Below p A B × AllBelow p As Bs
+AllBelow p _ _ = ⊥
+
+-- What stands below what, one level deep.
+abbrev pub Shape : Program → Ty-F Ty → Ty-F Ty → Type 0
+Shape p Ty-F.Nothing b = Unit {0}
+Shape p a Ty-F.Any = Unit {0}
+Shape p (Ty-F.Named i) (Ty-F.Named j) = Unit {0}
+Shape p (Ty-F.Tuple As) (Ty-F.Tuple Bs) = AllBelow p As Bs
+Shape p (Ty-F.Arrow A B) (Ty-F.Arrow C D) = Below p C A × Below p B D
+Shape p (Ty-F.Array A) (Ty-F.Array B) = Below p A B × Below p B A
+Shape p _ _ = ⊥
+
+-- The parameters of a declaration, numbered.
+abbrev pub numbered : ℕ → List Ty → List (ℕ × Sort)
+numbered n [] = []
+numbered n (A ∷ As) = (n, fixed A) ∷ numbered (n + 1) As
+
+-- The exceptions that steps and built-in declarations throw.
+abbrev pub IsFailure : Program → TypeId → Type 0
+IsFailure p id = let b = p.built_in in
+    (id ≡ b.integer_overflow) ⊎ (id ≡ b.division_by_zero) ⊎ (id ≡ b.negative_exponent) ⊎ (id ≡ b.index_out_of_range) ⊎ (id ≡ b.negative_size)
+    ⊎ (id ≡ b.depth_exceeded) ⊎ (id ≡ b.try_atomic_failure) ⊎ (id ≡ b.abort_outside)
+
+-- What a built-in declaration answers to typed values.
+pub record AnswerFits (p : Program) (S : Sig) (f : Primitive) (vs : List Value) (R : Ty) : Type 0 where
+  pub given : (v : Value) → answer_of p f vs ≡ gives v → HasV p S v R
+  pub text : (s : List ℕ) → answer_of p f vs ≡ makes_text s → Below p (Named p.built_in.text) R
+  pub printed : (s : List ℕ) → answer_of p f vs ≡ prints s → Below p unit_type R
+  pub thrown : (id : TypeId) → answer_of p f vs ≡ throws id → IsFailure p id
+
+-- What a constructor makes has its fields' types.
+pub record NewFits (p : Program) (id : TypeId) (decl : CoreDecl) : Type 0 where
+  pub shape : CoreShape
+  pub is_shape : ShapeOf p id shape
+  pub is_made : Makes shape.kind
+  pub types : List Ty
+  pub constants_have : HasVs p (opening p) (constants shape) types
+  pub fields : map (λ (c : CoreField). c.ty) shape.fields ≡ decl.parameters ++ types
+  pub result : Below p (Named id) decl.result
+
+-- A store has values of the types of its locations, and no others.
+pub record StoreOk (p : Program) (S : Sig) (s : Store) : Type 0 where
+  pub opened : Up (opening p) S
+  pub holds : (l : ℕ) (F : Ty) → S l ≡ Some F → (v : Value) × (s l ≡ Some v) × HasV p S v F
+  pub covers : (l : ℕ) (v : Value) → s l ≡ Some v → (F : Ty) × (S l ≡ Some F)
+
+-- An accepted program.
+pub record Sound (p : Program) : Type 0 where
+  pub reflexive : (A : Ty) → Below p A A
+  pub transitive : (A B C : Ty) → Below p A B → Below p B C → Below p A C
+  pub shape : (A B : Ty) → Below p A B → Shape p (out-Ty A) (out-Ty B)
+  pub absorbs : (A B C : Ty) → Below p A B → IsTrue (below p B C) → IsTrue (below p A C)
+  pub tuples : (As Bs : List Ty) → AllBelow p As Bs → Below p (Tuple As) (Tuple Bs)
+  pub leaf : (i j : TypeId) (s : CoreShape) → ShapeOf p j s → Makes s.kind → Below p (Named i) (Named j) → i ≡ j
+  pub fields : (i j : TypeId) (f : NameId) (A : Ty) (s : CoreShape) → FieldOf p j f A → ShapeOf p i s → Makes s.kind → Below p (Named i) (Named j) → (B : Ty) × FieldOf p i f B × Below p B A
+  pub results : (set : SetId) (ts us : List Ty) (d e : DeclId) (decl other : CoreDecl) → IsApplicable p set ts d decl → IsApplicable p set us e other
+      → IsMoreSpecific p decl other → Below p decl.result other.result
+  pub bodies : (d : DeclId) (decl : CoreDecl) (t : Term) → slice_get p.decls d.0 ≡ Some decl → decl.body ≡ body.Plain t → Has p (opening p) (binds (numbered 0 decl.parameters) none) t decl.result
+  pub primitives : (S : Sig) (d : DeclId) (decl : CoreDecl) (f : Primitive) (vs : List Value) → slice_get p.decls d.0 ≡ Some decl → decl.body ≡ body.Primitive f
+      → HasVs p S vs decl.parameters → AnswerFits p S f vs decl.result
+  pub constructors : (d : DeclId) (decl : CoreDecl) (id : TypeId) → slice_get p.decls d.0 ≡ Some decl → decl.body ≡ body.New id → NewFits p id decl
+  pub opened : StoreOk p (opening p) (opening_store p)
+  pub first : Has p (opening p) none p.first unit_type
+  pub failures : (id : TypeId) (v : Value) → IsFailure p id → single p id ≡ Some v → HasV p (opening p) v (thrown_type p)
+
+-- A closed term and its store.
+pub record Typed (p : Program) (t : Term) (s : Store) (T : Ty) : Type 0 where
+  pub types : Sig
+  pub store : StoreOk p types s
+  pub term : Has p types none t T
+
+-- What a step leaves: the store's types have grown, and the term has its type.
+pub record Kept (p : Program) (S : Sig) (b : Term) (s' : Store) (T : Ty) : Type 0 where
+  pub types : Sig
+  pub up : Up S types
+  pub store : StoreOk p types s'
+  pub term : Has p types none b T
+
+-- The same of a run that ends so.
+pub record KeptRun (p : Program) (S : Sig) (r : Ended) (s' : Store) (T : Ty) : Type 0 where
+  pub types : Sig
+  pub up : Up S types
+  pub store : StoreOk p types s'
+  pub term : (t : Term) → r ≡ goes t → Has p types none t T
+
+-- Each run from what is typed, one of an attempt's machine or of the root's, keeps its type, through attempts at any depth.
+abbrev pub RunsKeep : Type 0
+RunsKeep = (p : Program) → Sound p → (inner strict : Bool) (S : Sig) (s : Store) (picks : List Pick) (t : Term) (r : Ended) (d : Effect) (T : Ty)
+    → StoreOk p S s → Has p S none t T → Runs p inner strict s picks t r d → KeptRun p S r (afterwards d s) T
+
+-- So what is typed stays typed.
+abbrev pub StaysTyped : Type 0
+StaysTyped = (p : Program) → Sound p → (inner strict : Bool) (s : Store) (picks : List Pick) (t u : Term) (d : Effect) (T : Ty)
+    → Typed p t s T → Runs p inner strict s picks t (goes u) d → Typed p u (afterwards d s) T
+
+-- What the rules on overload sets give: where some declaration of a set is applicable to types of values, one declaration is the one that the values run, and it isn't abstract.
+abbrev pub Defined : Program → Type 0
+Defined p = (S : Sig) (set : SetId) (vs : List Value) (As : List Ty) (d : DeclId) (decl : CoreDecl) → HasVs p S vs As → IsApplicable p set As d decl → HasDefinition p set vs
+
+-- Each call of values in a typed term, wherever it stands in it or in its values, has one definition.
+abbrev pub OneDefinition : Type 0
+OneDefinition = (p : Program) → Sound p → Defined p → (S : Sig) (G : Env) (t : Term) (T : Ty) → Has p S G t T → IsOne p t
+
+-- Each run of an accepted program comes to a term and a store that are typed, the term at `()`.
+abbrev pub RunIsTyped : Type 0
+RunIsTyped = (p : Program) → Sound p → (picks : List Pick) (t : Term) (d : Effect) → IsRun p picks t d → Typed p t (afterwards d (opening_store p)) unit_type
