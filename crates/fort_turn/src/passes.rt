@@ -52,7 +52,8 @@ impl<B: Grows> Turn<B> {
         shared.load::<Settle>(&mut pass.seat, NEXT);
     }
 
-    /// Ends the turn, and hands the book out. It follows what the pass has seen, with no entry more of any number.
+    /// Ends the turn, and hands the book out. The book follows what the pass has seen: each pass's entries are those that
+    /// were seen, and no entry names a number that no pass had.
     ///
     /// The pass must be the first one, hold nothing, and have taken every other pass in. It takes no memory and waits for
     /// nobody.
@@ -60,7 +61,8 @@ impl<B: Grows> Turn<B> {
         requires idle { IsIdle self pass }
         requires first { is_first pass ≡ true }
         requires all { (k : ℕ) → k < made_by pass → has k (numbers_of pass) ≡ true }
-        ensures { Follows B.history B.origin B.by (seen_by pass) (numbers_of pass) result }
+        ensures book { Follows B.history B.origin B.by (seen_by pass) (numbers_of pass) result }
+        ensures others { (k : ℕ) → made_by pass ≤ k → entries_by B.by k (B.history result) ≡ [] }
     {
         let Pass { seat, .. } = pass;
         let Turn { table } = self;
