@@ -4,7 +4,7 @@ use Rattle.std.proofs.Math.ListN.{length-append}
 use Rattle.fort_base.specs.declared.refusal.Place.{Place}
 use Rattle.fort_tree.specs.declared.declarations.Component.{Component}
 use Rattle.fort_tree.specs.declared.spot.Name.{Name}
-use Rattle.fort_types.specs.Hierarchy as declarations
+use Rattle.fort_types.specs.Hierarchy.{DeclaredTypes, Sound}
 use Rattle.fort_hier.specs.declared.accepted.Hierarchy.{Hierarchy}
 use Rattle.fort_hier.specs.declared.heads.TypeHead.{TypeHead}
 use Rattle.fort_hier.specs.Heads.{heads_of, head_place}
@@ -16,7 +16,7 @@ use Rattle.fort_hier.proofs.NamesWalk.{as_long}
 use Rattle.fort_hier.proofs.Soundness.{sound, built_in_count}
 
 module _ (c : Component) where
-  pub types_by : {types : declarations.Hierarchy} {names : List Spelling} {heads : List TypeHead} → types ≡ hierarchy_of names heads → names ≡ c.names → heads ≡ heads_of c → types ≡ declares c
+  pub types_by : {types : DeclaredTypes} {names : List Spelling} {heads : List TypeHead} → types ≡ hierarchy_of names heads → names ≡ c.names → heads ≡ heads_of c → types ≡ declares c
   types_by {heads = heads} t e f = t ∙ ap (λ z. hierarchy_of z heads) e ∙ ap (hierarchy_of c.names) f
 
   pub names_by : {names : List Spelling} {heads : List TypeHead} → names ≡ c.names → heads ≡ heads_of c → declared_types names heads ≡ declared_types c.names (heads_of c)
@@ -27,7 +27,7 @@ module _ (c : Component) where
       → Q (IsUnknown (all_types names heads) names mentioned) → Q (IsUnknown (all_types c.names (heads_of c)) c.names mentioned)
   unknown_by mentioned Q {heads = heads} e f w = subst (λ z. Q (IsUnknown (all_types c.names z) c.names mentioned)) f (subst (λ z. Q (IsUnknown (all_types z heads) z mentioned)) e w)
 
-  pub sentences_by : (Q : declarations.Hierarchy → List Place → Type 0) {types : declarations.Hierarchy} {heads : List TypeHead} → types ≡ declares c → heads ≡ heads_of c
+  pub sentences_by : (Q : DeclaredTypes → List Place → Type 0) {types : DeclaredTypes} {heads : List TypeHead} → types ≡ declares c → heads ≡ heads_of c
       → Q types (map head_place heads) → Q (declares c) (places_of c)
   sentences_by Q {heads = heads} t f w = subst (λ z. Q (declares c) (map head_place z)) f (subst (λ z. Q z (map head_place heads)) t w)
 
@@ -35,7 +35,7 @@ module _ (c : Component) where
   few_declared n l e = let a = length-append built_in_declared (map (declared_by (all_types c.names (heads_of c)) c.names) (heads_of c)) in let b = built_in_count in
       let m = as_long (declared_by (all_types c.names (heads_of c)) c.names) (heads_of c) in omega arith
 
-  pub accepted_sound : (mentioned : List Name) (h : Hierarchy) → IsHierarchy c mentioned h → declarations.Sound (declares c)
+  pub accepted_sound : (mentioned : List Name) (h : Hierarchy) → IsHierarchy c mentioned h → Sound (declares c)
   accepted_sound mentioned h a = sound (map (declared_by (all_types c.names (heads_of c)) c.names) (heads_of c)) (places_of c) h.table
       (as_long head_place (heads_of c) ∙ sym (as_long (declared_by (all_types c.names (heads_of c)) c.names) (heads_of c)))
       a.rows (λ s place w. a.kept (rule_number s) place (sentence s refl w))

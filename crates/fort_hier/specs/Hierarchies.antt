@@ -7,7 +7,7 @@ use Rattle.fort_base.specs.declared.refusal.CheckFault.TheVariants as a_fault
 use Rattle.fort_base.specs.declared.refusal.Place.{Place}
 use Rattle.fort_tree.specs.declared.declarations.Component.{Component}
 use Rattle.fort_tree.specs.declared.spot.Name.{Name}
-use Rattle.fort_types.specs.Hierarchy as declarations
+use Rattle.fort_types.specs.Hierarchy.{DeclaredTypes}
 use Rattle.fort_types.specs.Table.{HasRows}
 use Rattle.fort_hier.specs.declared.accepted.Hierarchy.{Hierarchy}
 use Rattle.fort_hier.specs.declared.sentences.Sentence.{Sentence}
@@ -20,7 +20,7 @@ use Rattle.fort_hier.specs.Sentences.{BreaksAt}
 use Rattle.fort_hier.specs.Lowest.{rule_number, IsLowest}
 
 -- The declared types of a component, by their numbers.
-abbrev pub declares : Component → declarations.Hierarchy
+abbrev pub declares : Component → DeclaredTypes
 declares c = hierarchy_of c.names (heads_of c)
 
 -- The places of the names of a component's types.
@@ -60,6 +60,6 @@ IsRefusal number Breaks (a_fault.Refused rule place) = (rule.0 ≡ number) × Is
 IsRefusal number Breaks a_fault.Memory = Unit {0}
 
 -- A refusal by the broken sentence of the lowest number, at its earliest place.
-abbrev pub IsSentenceRefusal : declarations.Hierarchy → List Place → CheckFault → Type 0
+abbrev pub IsSentenceRefusal : DeclaredTypes → List Place → CheckFault → Type 0
 IsSentenceRefusal h places (a_fault.Refused rule place) = (s : Sentence) × (rule.0 ≡ rule_number s) × IsLowest h places CYCLIC_EXTENDS.0 (record { sentence = s; place = place })
 IsSentenceRefusal h places a_fault.Memory = Unit {0}

@@ -57,7 +57,7 @@ comes_from k (x ∷ es) d i e = from_step k x es i d (belongs k x) refl (comes_f
 width_is : (k : Key) (es : List Entry) (d : Member) → ComesFrom k es d → length d.parameters ≡ k.width
 width_is k es d (e, j, g, b, m) = ap (λ (z : Member). length z.parameters) (sym m) ∙ sym (ap (λ (z : Key). z.width) (key_told k (key_of e) b))
 
-well_made : (h : types.Hierarchy) (k : Key) (es : List Entry) → AllByRecursion (IsGood (length h)) es → IsWellMade h (set_of es k)
+well_made : (h : types.DeclaredTypes) (k : Key) (es : List Entry) → AllByRecursion (IsGood (length h)) es → IsWellMade h (set_of es k)
 well_made h k es all = record {
   width = λ i j p q a b. width_is k es p (comes_from k es p i a) ∙ sym (width_is k es q (comes_from k es q j b));
   receivers = λ dotted i d a. receivers d dotted (comes_from k es d i a);
@@ -85,7 +85,7 @@ well_made h k es all = record {
     results : (d : Member) → ComesFrom k es d → IsNumbered (length h) d.result
     results d (e, j, g, b, m) = subst (λ (z : Member). IsNumbered (length h) z.result) m (good e j g).result
 
-all_well_made : (h : types.Hierarchy) (es : List Entry) → AllByRecursion (IsGood (length h)) es → (i : ℕ) (s : MemberSet) → slice_get (sets_of es) i ≡ Some s → IsWellMade h s
+all_well_made : (h : types.DeclaredTypes) (es : List Entry) → AllByRecursion (IsGood (length h)) es → (i : ℕ) (s : MemberSet) → slice_get (sets_of es) i ≡ Some s → IsWellMade h s
 all_well_made h es all i s g = let k = get_mapped (set_of es) (keys_of es) i s g in subst (IsWellMade h) k.2 (well_made h k.0 es all)
 
 -- ---- the numbers of names
