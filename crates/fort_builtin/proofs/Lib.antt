@@ -1,0 +1,4 @@
+pub mod Lists
+pub mod TypeRows
+pub mod DeclarationRows
+pub mod TableLaws

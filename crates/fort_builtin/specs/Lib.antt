@@ -1,0 +1,5 @@
+pub mod Types
+pub mod Objects
+pub mod Declarations
+pub mod Rows
+pub mod Laws
