@@ -1,2 +1,4 @@
 mod Alongs
+pub mod Positions
 pub mod Walking
+pub mod Answering
