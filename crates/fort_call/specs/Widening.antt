@@ -1,6 +1,6 @@
 -- The chapter "Overload rules", widening: a call to which no declaration of its set is applicable may widen ZZ32 to ZZ64. The code
 -- asks position by position.
-use Rattle.std.specs.Prelude.{◌≡◌, ◌⊎◌, ℕ, List, slice_get, Some}
+use Rattle.std.specs.Prelude.{◌≡◌, ◌⊎◌, ℕ, List, length, slice_get, Some}
 use Rattle.fort_base.specs.declared.ty.Ty.{Ty, out-Ty}
 use Rattle.fort_base.specs.declared.ty.Ty.TheOpen.{Ty-F}
 use Rattle.fort_types.specs.Hierarchy.{DeclaredTypes}
@@ -62,3 +62,17 @@ abbrev pub Widens : DeclaredTypes → Widening → MemberSet → List Ty → Cho
 Widens h w s types (choice.At i) = IsLeast h w s types i
 Widens h w s types choice.Unclear = SomeWidened h w s types × ((i : ℕ) → IsLeast h w s types i → ⊥)
 Widens h w s types choice.NoneApplicable = SomeWidened h w s types → ⊥
+
+-- A type is what a call's types have at a position: ZZ64 where the position is widened, and else the type that stands there.
+abbrev pub StandsFor : Widening → List Ty → List Ty → ℕ → Ty → Type 0
+StandsFor w parameters types k t = (WidenedAmong w parameters types k → out-Ty t ≡ Ty-F.Named w.to)
+    × ((WidenedAmong w parameters types k → ⊥) → slice_get types k ≡ Some t)
+
+-- A list is a call's types, where these are the parameters: each has its place, and no other is there.
+pub record AllWidened (w : Widening) (parameters types list : List Ty) : Type 0 where
+  pub long : length list ≡ length types
+  pub each : (k : ℕ) (t : Ty) → slice_get list k ≡ Some t → StandsFor w parameters types k t
+
+-- A list is the types of a call that is widened for a declaration.
+abbrev pub AreWidened : Widening → Member → List Ty → List Ty → Type 0
+AreWidened w d types list = AllWidened w d.parameters types list

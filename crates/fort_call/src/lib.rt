@@ -7,4 +7,4 @@ mod widening;
 
 pub use choice::{Choice, Widening};
 pub use choosing::{least_widened, most_specific};
-pub use widening::is_widened;
+pub use widening::{is_widened, widened};

@@ -1,17 +1,18 @@
 //! Widening, position by position: which types of a call are ZZ32 where the parameter is ZZ64.
-ghost use Rattle.std.specs.Prelude.{◌≡◌, ◌↔◌, ◌⊎◌, IsTrue, IfOk, List as Seq, length};
+ghost use Rattle.std.specs.Prelude.{◌≡◌, ◌<◌, ◌↔◌, ◌⊎◌, IsTrue, IfOk, List as Seq, length};
 ghost use Rattle.fort_base.specs.declared.ty.Ty.{out-Ty};
 ghost use Rattle.fort_base.specs.declared.ty.Ty.TheOpen.{Ty-F};
 ghost use Rattle.fort_types.specs.declared.hierarchy.DeclaredType.{DeclaredType};
 ghost use Rattle.fort_types.specs.Table.{HasRows};
 ghost use Rattle.fort_types.specs.Types.{Below};
 ghost use Rattle.fort_set.specs.Applicable.{Along};
-ghost use Rattle.fort_call.specs.Widening.{AllKept, IsApplicableWidened, IsKept, IsWidened, Suits, WidenedAmong, WidensWithin};
+ghost use Rattle.fort_call.specs.Widening.{AllKept, AllWidened, AreWidened, IsApplicableWidened, IsKept, IsWidened, StandsFor, Suits, WidenedAmong, WidensWithin};
 
 use crate::choice::Widening;
-use fort_base::{Ty, TypeId, TypeTable};
+use fort_base::{List, Memory, Ty, TypeId, TypeTable};
 use fort_set::Member;
 use fort_types::below;
+use std::alloc::Global;
 
 /// Whether a type is ZZ32 and the parameter is ZZ64.
 pub fn is_widened(widening: Widening, ty: &Ty, parameter: &Ty) -> bool
@@ -100,5 +101,51 @@ fn is_widened_at(widening: Widening, types: &[Ty], parameters: &[Ty], at: usize)
     match (types.get(at), parameters.get(at)) {
         (Some(ty), Some(parameter)) => is_widened(widening, ty, parameter),
         _ => false,
+    }
+}
+
+/// The types of a call that is widened for a declaration: ZZ64 at the positions that are widened for it, and these types
+/// elsewhere. Its only error is want of memory.
+pub fn widened(
+    alloc: Global,
+    widening: Widening,
+    types: &[Ty],
+    member: &Member,
+) -> Result<List<Ty>, Memory>
+    ensures { IfOk result (λ list. AreWidened widening member.now types.now list) }
+{
+    all_widened(alloc, widening, types, member.parameters.as_slice())
+}
+
+fn all_widened(
+    alloc: Global,
+    widening: Widening,
+    types: &[Ty],
+    parameters: &[Ty],
+) -> Result<List<Ty>, Memory>
+    ensures { IfOk result (λ list. AllWidened widening parameters.now types.now list) }
+{
+    let mut list = List::new(alloc);
+    for at in 0..types.len() {
+        list.push(type_at(alloc, widening, types, parameters, at)?)?;
+    }
+    Ok(list)
+}
+
+/// What a call's types have at a position, where these are the parameters.
+fn type_at(
+    alloc: Global,
+    widening: Widening,
+    types: &[Ty],
+    parameters: &[Ty],
+    at: usize,
+) -> Result<Ty, Memory>
+    requires { at < length types.now }
+    ensures { IfOk result (λ ty. StandsFor widening parameters.now types.now at ty) }
+{
+    if is_widened_at(widening, types, parameters, at) {
+        Ok(Ty::Named(widening.to))
+    } else {
+        types[at].copy(alloc)
     }
 }
