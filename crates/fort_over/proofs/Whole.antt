@@ -3,8 +3,9 @@ use Rattle.std.proofs.Common.{◌≡◌, List, Option, Some, None, length, refl,
 use Rattle.std.specs.List.{slice_get}
 use Rattle.std.specs.Prelude.{get_or}
 use Rattle.std.proofs.lemmas.Option.{slice_get_within}
+use Rattle.fort_base.specs.declared.rules.TheConstants.{ABSTRACT_NOT_COVERED}
 use Rattle.fort_base.specs.declared.refusal.Place.{Place}
-use Rattle.fort_types.specs.Hierarchy as declarations
+use Rattle.fort_types.specs.Hierarchy.{DeclaredTypes}
 use Rattle.fort_hier.specs.declared.accepted.Hierarchy.{Hierarchy}
 use Rattle.fort_base.specs.Places.{IsFirst}
 use Rattle.fort_set.specs.declared.member.MemberSet.{MemberSet}
@@ -17,7 +18,7 @@ use Rattle.fort_over.proofs.PairLaws.{passes_not_breaks}
 use Rattle.fort_over.proofs.BestLaws.{sets_all}
 use Rattle.fort_over.proofs.PlaceLaws.{first_turn}
 
-module _ (h : declarations.Hierarchy) (hierarchy : Hierarchy) (m : Members) (over : AreOver h hierarchy m) where
+module _ (h : DeclaredTypes) (hierarchy : Hierarchy) (m : Members) (over : AreOver h hierarchy m) where
   -- the pairs of all sets
   best_of : (sets : List MemberSet) (best : Option BrokenPair) → sets ≡ m.sets → SetsBest hierarchy.table sets (length sets) best → IsBest h (pairs_of m.sets) best
   best_of sets best e f = subst (λ z. IsBest h (pairs_of z) best) e (sets_all h sets best (f.told h over.sound over.rows (λ n s g. over.made n s (sym (ap (λ (z : List MemberSet). slice_get z n) e) ∙ g))))
@@ -49,7 +50,7 @@ module _ (h : declarations.Hierarchy) (hierarchy : Hierarchy) (m : Members) (ove
 
   -- an object's fault
   pub object_fault : (sets : List MemberSet) (place : Place) → sets ≡ m.sets → SetsBest hierarchy.table sets (length sets) None → SetsFirst hierarchy.table m (length m.sets) (Some place)
-      → IsObjectFault h m 507 place
+      → IsObjectFault h m ABSTRACT_NOT_COVERED.0 place
   object_fault sets place e f g = (refl, (λ spot s p q rule w b. passes_not_breaks h over.sound s p q rule (best_of sets None e f spot s p q w) b), first_of (Some place) g)
 
   -- no fault

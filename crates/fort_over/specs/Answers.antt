@@ -6,7 +6,7 @@ use Rattle.fort_base.specs.declared.ids.TypeId.{TypeId}
 use Rattle.fort_base.specs.declared.refusal.CheckFault.{CheckFault}
 use Rattle.fort_base.specs.declared.refusal.CheckFault.TheVariants as a_fault
 use Rattle.fort_base.specs.declared.refusal.Place.{Place}
-use Rattle.fort_types.specs.Hierarchy as declarations
+use Rattle.fort_types.specs.Hierarchy.{DeclaredTypes, Sound}
 use Rattle.fort_types.specs.Table.{HasRows}
 use Rattle.fort_hier.specs.declared.accepted.Hierarchy.{Hierarchy}
 use Rattle.fort_base.specs.Places.{IsEarliest}
@@ -19,18 +19,18 @@ use Rattle.fort_set.specs.Rules.{StandsAt, IsWellMade, KeepsRules}
 use Rattle.fort_over.specs.Standing.{standing, Spot, pairs_of, IsFirstBroken, NoneBroken}
 
 -- A component's members are over its declared types, which are an accepted hierarchy with these rows.
-pub record AreOver (h : declarations.Hierarchy) (hierarchy : Hierarchy) (m : Members) : Type 0 where
-  pub sound : declarations.Sound h
+pub record AreOver (h : DeclaredTypes) (hierarchy : Hierarchy) (m : Members) : Type 0 where
+  pub sound : Sound h
   pub rows : HasRows h hierarchy.table
   pub objects : m.objects ≡ leaves_of h
   pub made : (n : ℕ) (s : MemberSet) → slice_get m.sets n ≡ Some s → IsWellMade h s
 
 -- Each set keeps the overload rules.
-abbrev pub KeepAllRules : declarations.Hierarchy → Members → Type 0
+abbrev pub KeepAllRules : DeclaredTypes → Members → Type 0
 KeepAllRules h m = (n : ℕ) (s : MemberSet) → slice_get m.sets n ≡ Some s → KeepsRules h s
 
 -- Some abstract declaration of a set isn't covered for an object below its type, and this is the object's place.
-pub record IsUncovered (h : declarations.Hierarchy) (m : Members) (place : Place) : Type 0 where
+pub record IsUncovered (h : DeclaredTypes) (m : Members) (place : Place) : Type 0 where
   pub n : ℕ
   pub i : ℕ
   pub at : ℕ
@@ -46,18 +46,18 @@ pub record IsUncovered (h : declarations.Hierarchy) (m : Members) (place : Place
   pub place_is : place ≡ standing (get_or m.places o.0 None)
 
 -- The first pair of all sets that breaks a rule, at the place of its later declaration.
-abbrev pub IsPairFault : declarations.Hierarchy → Members → ℕ → Place → Type 0
+abbrev pub IsPairFault : DeclaredTypes → Members → ℕ → Place → Type 0
 IsPairFault h m rule place = (spot : Spot) × (place ≡ spot.later_place) × IsFirstBroken h (pairs_of m.sets) rule spot
 
 -- Where no pair breaks a rule, the earliest object that an abstract declaration isn't covered for.
-abbrev pub IsObjectFault : declarations.Hierarchy → Members → ℕ → Place → Type 0
+abbrev pub IsObjectFault : DeclaredTypes → Members → ℕ → Place → Type 0
 IsObjectFault h m rule place = (rule ≡ ABSTRACT_NOT_COVERED.0) × NoneBroken h (pairs_of m.sets) × IsEarliest (IsUncovered h m) place
 
 -- The rule that is reported, with its place: a pair's, or 507.
-abbrev pub IsReported : declarations.Hierarchy → Members → ℕ → Place → Type 0
+abbrev pub IsReported : DeclaredTypes → Members → ℕ → Place → Type 0
 IsReported h m rule place = IsPairFault h m rule place ⊎ IsObjectFault h m rule place
 
 -- A refusal names the reported rule and its place; want of memory needs no cause.
-abbrev pub IsFault : declarations.Hierarchy → Members → CheckFault → Type 0
+abbrev pub IsFault : DeclaredTypes → Members → CheckFault → Type 0
 IsFault h m (a_fault.Refused rule place) = IsReported h m rule.0 place
 IsFault h m a_fault.Memory = Unit {0}
