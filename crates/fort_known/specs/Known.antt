@@ -1,0 +1,22 @@
+-- The chapter "Typing": what is known of a component where its expressions are typed.
+use Rattle.std.specs.Prelude.{List, Option}
+use Rattle.fort_base.specs.declared.ids.TypeId.{TypeId}
+use Rattle.fort_known.specs.Spellings.{Spelling}
+use Rattle.fort_set.specs.declared.member.Members.{Members}
+use Rattle.fort_types.specs.Hierarchy.{DeclaredTypes}
+
+-- What is known of a component where its expressions are typed.
+pub record Knows : Type 0 where
+  -- the declared types, and their names, by their numbers
+  pub declared : DeclaredTypes
+  pub types : List Spelling
+  -- the component's names, by their numbers
+  pub names : List Spelling
+  -- its fields, its overload sets, and its variables at the top
+  pub members : Members
+  -- the type in whose declaration the expressions stand, where they stand in one
+  pub owner : Option TypeId
+
+-- the same in the declaration of another type, or in none
+abbrev pub within : Knows → Option TypeId → Knows
+within k owner = record k { owner = owner }

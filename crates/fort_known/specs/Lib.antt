@@ -1,0 +1,4 @@
+pub mod Spellings
+pub mod Known
+pub mod Sets
+pub mod Names

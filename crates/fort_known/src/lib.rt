@@ -1,0 +1,6 @@
+//! What typing knows of a component: what a name stands for, the fields, the sets by name and number, and what a call has.
+#![tactic(auto)]
+
+mod fault;
+
+pub use fault::Fault;

@@ -1,0 +1,6 @@
+//! The rules of typing: which form has which type, and which rule a form breaks, as relations that the code is held against.
+#![tactic(auto)]
+
+mod part;
+
+pub use part::{Meaning, Part};
