@@ -1,5 +1,6 @@
 -- The cases of two declarations, put together.
 use Rattle.std.proofs.Common.{◌≡◌, ◌≢◌, ◌<◌, inl, inr, ℕ, true, false, List, length, Option, Some, None, Result, Ok, Err, IfOk, refl}
+use Rattle.fort_base.specs.declared.rules.TheConstants.{SAME_PARAMETERS, NO_MEET, MEET_NOT_DECLARED, ARROW_OVERLAP, TOO_WIDE}
 use Rattle.fort_base.specs.declared.refusal.Rule.{Rule}
 use Rattle.fort_base.specs.declared.ty.Ty.{Ty}
 use Rattle.fort_base.specs.declared.refusal.Memory.{Memory}
@@ -25,7 +26,7 @@ module _ (h : DeclaredTypes) (s : MemberSet) (p q : Member) where
   never m n (apart w) = m w
   never m n (strangers d w) = n (d, w)
 
-  pub alike : p.parameters ≡ q.parameters → Judges h s p q (Some (record { 0 = 501 }))
+  pub alike : p.parameters ≡ q.parameters → Judges h s p q (Some SAME_PARAMETERS)
   alike e = same_parameters refl e
 
   pub set_apart : p.parameters ≢ q.parameters → Somewhere (Apart h) p.parameters q.parameters → Judges h s p q None
@@ -53,21 +54,21 @@ module _ (h : DeclaredTypes) (s : MemberSet) (p q : Member) where
       → (AreAside h s p q → ⊥) → AreUnordered h s p q
   unordered n m l k a = record { unequal = n; may_meet = never m a; not_first = l; not_second = k }
 
-  pub overlap : PartsClash h p.parameters q.parameters → JudgesMeets h s p q (Some (record { 0 = 505 }))
+  pub overlap : PartsClash h p.parameters q.parameters → JudgesMeets h s p q (Some ARROW_OVERLAP)
   overlap w u = arrow_overlap refl u w.1
 
   module _ (long : length p.parameters ≡ length q.parameters) (n : ℕ) (c : CountsTo h p.parameters q.parameters (length p.parameters) n) (none : PartsClash h p.parameters q.parameters → ⊥) where
     no_clash : Somewhere (ArrowsClash h) p.parameters q.parameters → ⊥
     no_clash w = none (long, w)
 
-    pub meetless : n ≡ 0 → JudgesMeets h s p q (Some (record { 0 = 503 }))
+    pub meetless : n ≡ 0 → JudgesMeets h s p q (Some NO_MEET)
     meetless e u = no_meet refl u no_clash (none_somewhere h p.parameters q.parameters n long c e)
 
-    pub too_wide_at : (n ≡ 0 → ⊥) → 4096 < n → JudgesMeets h s p q (Some (record { 0 = 506 }))
+    pub too_wide_at : (n ≡ 0 → ⊥) → 4096 < n → JudgesMeets h s p q (Some TOO_WIDE)
     too_wide_at e l u = too_wide refl u no_clash (each_somewhere h p.parameters q.parameters n long c e) (too_many h p.parameters q.parameters n long c l)
 
     module _ (some : n ≡ 0 → ⊥) (few : 4096 < n → ⊥) (choices : List (List Ty)) (all : HasAll (IsChoice h p.parameters q.parameters) choices) where
-      pub uncovered : CoversAll h s.members p q choices false → JudgesMeets h s p q (Some (record { 0 = 504 }))
+      pub uncovered : CoversAll h s.members p q choices false → JudgesMeets h s p q (Some MEET_NOT_DECLARED)
       uncovered w u = let v = w.some refl in not_declared refl u no_clash (each_somewhere h p.parameters q.parameters n long c some)
           (not_too_many h p.parameters q.parameters n long c few) v.0 ((all v.0).0 v.1) v.2
 

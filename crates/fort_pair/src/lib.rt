@@ -9,4 +9,4 @@ mod listing;
 mod order;
 
 pub use judging::broken_rule;
-pub use order::are_below;
+pub use order::{all_below, are_below};

@@ -54,7 +54,8 @@ fn same_types(left: &[Ty], right: &[Ty]) -> bool
     true
 }
 
-fn all_below(table: &TypeTable, left: &[Ty], right: &[Ty]) -> bool
+/// Whether two slices are of one length, and each type of the first is below the one in its place of the second.
+pub fn all_below(table: &TypeTable, left: &[Ty], right: &[Ty]) -> bool
     ensures { (h : Seq DeclaredType) → HasRows h table.now → IsTrue result ↔ Along (Below h) left.now right.now }
 {
     if left.len() != right.len() {

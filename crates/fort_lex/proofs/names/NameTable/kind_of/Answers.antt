@@ -6,7 +6,7 @@ use Rattle.indexmap.specs.IndexMap.{get_by}
 use Rattle.fort_lex.specs.Meanings.{meaning_of, is_numbered}
 use Rattle.fort_lex.specs.Building.{KindAt}
 use Rattle.fort_lex.proofs.NameLaws.{known_kind_is, known_held, new_kind_is, new_held}
-use Rattle.fort_lex.proofs.names.Names.kind_of.Goals as goal
+use Rattle.fort_lex.proofs.names.NameTable.kind_of.Goals as goal
 
 pub returns-in-Some-clause-kind : goal.returns-in-Some-clause-kind
 returns-in-Some-clause-kind c = λ words h. known_kind_is words c.args.self.now c.args.word.now _ h (sym c.in-Some.ensures.value)
