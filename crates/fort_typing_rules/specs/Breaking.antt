@@ -63,15 +63,15 @@ mutual
         → Breaks k bs e x
     -- a call of an operator: 602 or 614
     no_operator : {bs : List Binding} {e : Form} {x : Fault} (p : Place) (op : Op) (es : List Form) (ts : List TypedForm) (rule : Rule) → out-Form e ≡ Form-F.Operator p op es
-        → Typing.HasEach k bs Typing.an_operand es ts → CallBreaks k (operator_set k op (length ts)) (types_of ts) rule → x ≡ fault rule p → Breaks k bs e x
+        → Typing.HasEach k (Calls k) bs Typing.an_operand es ts → CallBreaks k (operator_set k op (length ts)) (types_of ts) rule → x ≡ fault rule p → Breaks k bs e x
     in_chain : {bs : List Binding} {e : Form} {x : Fault} (p : Place) (ops : List Op) (es : List Form) → out-Form e ≡ Form-F.Chain p ops es → BreaksSome k bs Typing.an_operand es x
         → Breaks k bs e x
     no_comparison : {bs : List Binding} {e : Form} {x : Fault} (p : Place) (ops : List Op) (es : List Form) → out-Form e ≡ Form-F.Chain p ops es → ChainBreaks k bs ops es x → Breaks k bs e x
     in_beside : {bs : List Binding} {e : Form} {x : Fault} (p : Place) (es : List Form) → out-Form e ≡ Form-F.Beside p es → BreaksParts k bs es x → Breaks k bs e x
-    no_beside : {bs : List Binding} {e : Form} {x : Fault} (p : Place) (es : List Form) (ps : List Part) → out-Form e ≡ Form-F.Beside p es → AsksParts k bs es ps → BesideBreaks k ps x
+    no_beside : {bs : List Binding} {e : Form} {x : Fault} (p : Place) (es : List Form) (ps : List Part) → out-Form e ≡ Form-F.Beside p es → AsksParts k bs es ps → BesideBreaks k (Calls k) ps x
         → Breaks k bs e x
     in_run : {bs : List Binding} {e : Form} {x : Fault} (p : Place) (es : List Form) → out-Form e ≡ Form-F.Run p es → BreaksParts k bs es x → Breaks k bs e x
-    no_run : {bs : List Binding} {e : Form} {x : Fault} (p : Place) (es : List Form) (ps : List Part) → out-Form e ≡ Form-F.Run p es → AsksParts k bs es ps → RunBreaks k ps x → Breaks k bs e x
+    no_run : {bs : List Binding} {e : Form} {x : Fault} (p : Place) (es : List Form) (ps : List Part) → out-Form e ≡ Form-F.Run p es → AsksParts k bs es ps → RunBreaks k (Calls k) ps x → Breaks k bs e x
     in_size : {bs : List Binding} {e : Form} {x : Fault} (p : Place) (ty : Ty) (n v : Form) → out-Form e ≡ Form-F.Fill p ty n v → BreaksAs k bs (Typing.below zz32) n x → Breaks k bs e x
     in_fill : {bs : List Binding} {e : Form} {x : Fault} (p : Place) (ty : Ty) (n v : Form) → out-Form e ≡ Form-F.Fill p ty n v → BreaksAs k bs (Typing.below ty) v x → Breaks k bs e x
     in_block : {bs : List Binding} {e : Form} {x : Fault} (p : Place) (is : List Item) → out-Form e ≡ Form-F.Block p is → BreaksItems k bs is x → Breaks k bs e x
@@ -88,14 +88,14 @@ mutual
         → BreaksAs k bs Typing.a_value d x → Breaks k bs e x
     -- there is no widest type: 603
     no_widest_if : {bs : List Binding} {e : Form} {x : Fault} (p : Place) (branches : List Branch) (d : Form) (tests values : List TypedForm) (u : TypedForm)
-        → out-Form e ≡ Form-F.If p branches (Some d) → Typing.HasEach k bs Typing.a_truth (map Typing.test_of branches) tests
-        → Typing.HasEach k bs Typing.a_value (map Typing.value_of branches) values → Typing.HasAs k bs Typing.a_value d u
+        → out-Form e ≡ Form-F.If p branches (Some d) → Typing.HasEach k (Calls k) bs Typing.a_truth (map Typing.test_of branches) tests
+        → Typing.HasEach k (Calls k) bs Typing.a_value (map Typing.value_of branches) values → Typing.HasAs k (Calls k) bs Typing.a_value d u
         → HasNoWidest k (types_of values ++ type_of u ∷ []) → x ≡ fault MISMATCH p → Breaks k bs e x
     in_while_test : {bs : List Binding} {e : Form} {x : Fault} (p : Place) (c b : Form) → out-Form e ≡ Form-F.While p c b → BreaksAs k bs Typing.a_truth c x → Breaks k bs e x
     in_while : {bs : List Binding} {e : Form} {x : Fault} (p : Place) (c b : Form) → out-Form e ≡ Form-F.While p c b → BreaksAs k bs (Typing.below unit) b x → Breaks k bs e x
     in_sources : {bs : List Binding} {e : Form} {x : Fault} (p : Place) (gs : List Generator) (b : Form) → out-Form e ≡ Form-F.For p gs b → BreaksSources k bs gs x → Breaks k bs e x
     in_for : {bs : List Binding} {e : Form} {x : Fault} (p : Place) (gs : List Generator) (b : Form) (inner : List Binding) (us : List TypedForm) → out-Form e ≡ Form-F.For p gs b
-        → Typing.HasSources k bs gs inner us → BreaksAs k inner (Typing.below unit) b x → Breaks k bs e x
+        → Typing.HasSources k (Calls k) bs gs inner us → BreaksAs k inner (Typing.below unit) b x → Breaks k bs e x
     in_subject : {bs : List Binding} {e : Form} {x : Fault} (p : Place) (s : Form) (branches : List Branch) (other : Option Form) → out-Form e ≡ Form-F.Case p s branches other
         → BreaksAs k bs Typing.an_operand s x → Breaks k bs e x
     in_clauses : {bs : List Binding} {e : Form} {x : Fault} (p : Place) (s : Form) (branches : List Branch) (other : Option Form) → out-Form e ≡ Form-F.Case p s branches other
@@ -103,8 +103,8 @@ mutual
     in_case_else : {bs : List Binding} {e : Form} {x : Fault} (p : Place) (s : Form) (branches : List Branch) (d : Form) → out-Form e ≡ Form-F.Case p s branches (Some d)
         → BreaksAs k bs Typing.a_value d x → Breaks k bs e x
     no_widest_case : {bs : List Binding} {e : Form} {x : Fault} (p : Place) (s : Form) (branches : List Branch) (other : Option Form) (u : TypedForm) (cs : List Chosen)
-        (tests values : List TypedForm) (w : Option TypedForm) → out-Form e ≡ Form-F.Case p s branches other → Typing.HasAs k bs Typing.an_operand s u
-        → Typing.HasClauses k bs u branches cs tests values → Typing.HasElse k bs other w → HasNoWidest k (types_of values ++ Typing.else_types w)
+        (tests values : List TypedForm) (w : Option TypedForm) → out-Form e ≡ Form-F.Case p s branches other → Typing.HasAs k (Calls k) bs Typing.an_operand s u
+        → Typing.HasClauses k (Calls k) bs u branches cs tests values → Typing.HasElse k (Calls k) bs other w → HasNoWidest k (types_of values ++ Typing.else_types w)
         → x ≡ fault MISMATCH p → Breaks k bs e x
     -- the name of a `typecase` is visible: 613
     shadowing : {bs : List Binding} {e : Form} {x : Fault} (p at : Place) (name : NameId) (s : Form) (branches : List TypeBranch) (other : Option Form)
@@ -112,15 +112,15 @@ mutual
     in_typecase_subject : {bs : List Binding} {e : Form} {x : Fault} (p at : Place) (name : NameId) (s : Form) (branches : List TypeBranch) (other : Option Form)
         → out-Form e ≡ Form-F.Typecase p at name s branches other → BreaksAs k bs Typing.a_value s x → Breaks k bs e x
     in_typecase : {bs : List Binding} {e : Form} {x : Fault} (p at : Place) (name : NameId) (s : Form) (branches : List TypeBranch) (other : Option Form) (u : TypedForm)
-        → out-Form e ≡ Form-F.Typecase p at name s branches other → is_visible k bs name ≡ false → Typing.HasAs k bs Typing.a_value s u
+        → out-Form e ≡ Form-F.Typecase p at name s branches other → is_visible k bs name ≡ false → Typing.HasAs k (Calls k) bs Typing.a_value s u
         → BreaksCases k bs (Some (at, name)) branches x → Breaks k bs e x
     in_typecase_else : {bs : List Binding} {e : Form} {x : Fault} (p at : Place) (name : NameId) (s : Form) (branches : List TypeBranch) (d : Form) (u : TypedForm)
-        → out-Form e ≡ Form-F.Typecase p at name s branches (Some d) → is_visible k bs name ≡ false → Typing.HasAs k bs Typing.a_value s u
+        → out-Form e ≡ Form-F.Typecase p at name s branches (Some d) → is_visible k bs name ≡ false → Typing.HasAs k (Calls k) bs Typing.a_value s u
         → BreaksAs k (Typing.with_clause bs (Some (at, name)) (type_of u)) Typing.a_value d x → Breaks k bs e x
     no_widest_typecase : {bs : List Binding} {e : Form} {x : Fault} (p at : Place) (name : NameId) (s : Form) (branches : List TypeBranch) (other : Option Form) (u : TypedForm)
         (values : List TypedForm) (w : Option TypedForm) → out-Form e ≡ Form-F.Typecase p at name s branches other → is_visible k bs name ≡ false
-        → Typing.HasAs k bs Typing.a_value s u → Typing.HasCases k bs (Some (at, name)) branches values
-        → Typing.HasElse k (Typing.with_clause bs (Some (at, name)) (type_of u)) other w → HasNoWidest k (types_of values ++ Typing.else_types w) → x ≡ fault MISMATCH p → Breaks k bs e x
+        → Typing.HasAs k (Calls k) bs Typing.a_value s u → Typing.HasCases k (Calls k) bs (Some (at, name)) branches values
+        → Typing.HasElse k (Calls k) (Typing.with_clause bs (Some (at, name)) (type_of u)) other w → HasNoWidest k (types_of values ++ Typing.else_types w) → x ≡ fault MISMATCH p → Breaks k bs e x
     in_try : {bs : List Binding} {e : Form} {x : Fault} (p : Place) (b : Form) (name : Option (Place × NameId)) (branches : List TypeBranch) (last : Option Form)
         → out-Form e ≡ Form-F.Try p b name branches last → BreaksAs k bs Typing.a_value b x → Breaks k bs e x
     -- the name of a `catch` is visible: 613
@@ -133,8 +133,8 @@ mutual
     in_finally : {bs : List Binding} {e : Form} {x : Fault} (p : Place) (b : Form) (name : Option (Place × NameId)) (branches : List TypeBranch) (d : Form)
         → out-Form e ≡ Form-F.Try p b name branches (Some d) → BreaksAs k bs (Typing.below unit) d x → Breaks k bs e x
     no_widest_try : {bs : List Binding} {e : Form} {x : Fault} (p : Place) (b : Form) (name : Option (Place × NameId)) (branches : List TypeBranch) (last : Option Form)
-        (u : TypedForm) (values : List TypedForm) (w : Option TypedForm) → out-Form e ≡ Form-F.Try p b name branches last → Typing.HasAs k bs Typing.a_value b u
-        → Typing.is_fresh k bs name ≡ true → Typing.AreExceptions k branches → Typing.HasCases k bs name branches values → Typing.HasFinally k bs last w
+        (u : TypedForm) (values : List TypedForm) (w : Option TypedForm) → out-Form e ≡ Form-F.Try p b name branches last → Typing.HasAs k (Calls k) bs Typing.a_value b u
+        → Typing.is_fresh k bs name ≡ true → Typing.AreExceptions k branches → Typing.HasCases k (Calls k) bs name branches values → Typing.HasFinally k (Calls k) bs last w
         → HasNoWidest k (type_of u ∷ types_of values) → x ≡ fault MISMATCH p → Breaks k bs e x
     in_atomic : {bs : List Binding} {e : Form} {x : Fault} (p : Place) (d : Form) → out-Form e ≡ Form-F.Atomic p d → BreaksAs k bs Typing.a_value d x → Breaks k bs e x
     in_tryatomic : {bs : List Binding} {e : Form} {x : Fault} (p : Place) (d : Form) → out-Form e ≡ Form-F.Tryatomic p d → BreaksAs k bs Typing.a_value d x → Breaks k bs e x
@@ -146,34 +146,34 @@ mutual
     in_source : {bs : List Binding} {e : Form} {x : Fault} (p : Place) (r : Reduction) (g : Generator) (d : Form) → out-Form e ≡ Form-F.Reduce p r g d
         → BreaksSources k bs (g ∷ []) x → Breaks k bs e x
     in_reduced : {bs : List Binding} {e : Form} {x : Fault} (p : Place) (r : Reduction) (g : Generator) (d : Form) (inner : List Binding) (us : List TypedForm)
-        → out-Form e ≡ Form-F.Reduce p r g d → Typing.HasSources k bs (g ∷ []) inner us → BreaksAs k inner (Typing.reduction_want r) d x → Breaks k bs e x
+        → out-Form e ≡ Form-F.Reduce p r g d → Typing.HasSources k (Calls k) bs (g ∷ []) inner us → BreaksAs k inner (Typing.reduction_want r) d x → Breaks k bs e x
     -- the target is typed as an expression; then what can't be assigned to, a function set's name too, breaks 604
     in_target : {bs : List Binding} {e : Form} {x : Fault} (p : Place) (d v : Form) (sign : Update) → out-Form e ≡ Form-F.Assign p d sign v → Breaks k bs d x → Breaks k bs e x
-    fixed : {bs : List Binding} {e : Form} {x : Fault} (p : Place) (d v : Form) (sign : Update) (u : TypedForm) → out-Form e ≡ Form-F.Assign p d sign v → Typing.Has k bs d u
+    fixed : {bs : List Binding} {e : Form} {x : Fault} (p : Place) (d v : Form) (sign : Update) (u : TypedForm) → out-Form e ≡ Form-F.Assign p d sign v → Typing.Has k (Calls k) bs d u
         → Typing.is_target k d u ≡ false → x ≡ fault NOT_ASSIGNABLE (place_of d) → Breaks k bs e x
     fixed_name : {bs : List Binding} {e : Form} {x : Fault} (p : Place) (d v : Form) (sign : Update) (name : NameId) → out-Form e ≡ Form-F.Assign p d sign v
         → Typing.Names k bs d name → x ≡ fault NOT_ASSIGNABLE (place_of d) → Breaks k bs e x
     in_assigned : {bs : List Binding} {e : Form} {x : Fault} (p : Place) (d v : Form) (sign : Update) → out-Form e ≡ Form-F.Assign p d sign v → Typing.update_operator sign ≡ None
         → BreaksAs k bs Typing.a_value v x → Breaks k bs e x
     unlike_assigned : {bs : List Binding} {e : Form} {x : Fault} (p : Place) (d v : Form) (sign : Update) (u w : TypedForm) → out-Form e ≡ Form-F.Assign p d sign v
-        → Typing.update_operator sign ≡ None → Typing.Has k bs d u → Typing.is_target k d u ≡ true → Typing.Has k bs v w → (IsBelow k (type_of w) (type_of u) → ⊥)
+        → Typing.update_operator sign ≡ None → Typing.Has k (Calls k) bs d u → Typing.is_target k d u ≡ true → Typing.Has k (Calls k) bs v w → (IsBelow k (type_of w) (type_of u) → ⊥)
         → x ≡ fault MISMATCH (place_of v) → Breaks k bs e x
     in_updated : {bs : List Binding} {e : Form} {x : Fault} (p : Place) (d v : Form) (sign : Update) (op : Op) → out-Form e ≡ Form-F.Assign p d sign v
         → Typing.update_operator sign ≡ Some op → BreaksAs k bs Typing.an_operand v x → Breaks k bs e x
     -- the sum is a call, at the target, and below its type
     no_sum : {bs : List Binding} {e : Form} {x : Fault} (p : Place) (d v : Form) (sign : Update) (op : Op) (u w : TypedForm) (rule : Rule) → out-Form e ≡ Form-F.Assign p d sign v
-        → Typing.update_operator sign ≡ Some op → Typing.Has k bs d u → Typing.is_target k d u ≡ true → Typing.HasAs k bs Typing.an_operand v w
+        → Typing.update_operator sign ≡ Some op → Typing.Has k (Calls k) bs d u → Typing.is_target k d u ≡ true → Typing.HasAs k (Calls k) bs Typing.an_operand v w
         → CallBreaks k (operator_set k op 2) (type_of u ∷ type_of w ∷ []) rule → x ≡ fault rule (place_of d) → Breaks k bs e x
     unlike_sum : {bs : List Binding} {e : Form} {x : Fault} (p : Place) (d v : Form) (sign : Update) (op : Op) (u w : TypedForm) (result : Ty) (widened : List Bool)
-        → out-Form e ≡ Form-F.Assign p d sign v → Typing.update_operator sign ≡ Some op → Typing.Has k bs d u → Typing.is_target k d u ≡ true
-        → Typing.HasAs k bs Typing.an_operand v w → Calls k (operator_set k op 2) (type_of u ∷ type_of w ∷ []) result widened → (IsBelow k result (type_of u) → ⊥)
+        → out-Form e ≡ Form-F.Assign p d sign v → Typing.update_operator sign ≡ Some op → Typing.Has k (Calls k) bs d u → Typing.is_target k d u ≡ true
+        → Typing.HasAs k (Calls k) bs Typing.an_operand v w → Calls k (operator_set k op 2) (type_of u ∷ type_of w ∷ []) result widened → (IsBelow k result (type_of u) → ⊥)
         → x ≡ fault MISMATCH (place_of d) → Breaks k bs e x
 
   -- A part breaks a rule, is a function set's name where a value is wanted, or has a type that isn't as wanted.
   pub data BreaksAs (k : Knows) : List Binding → Typing.Want → Form → Fault → Type 0 where
     inside : {bs : List Binding} {want : Typing.Want} {e : Form} {x : Fault} → Breaks k bs e x → BreaksAs k bs want e x
     named : {bs : List Binding} {want : Typing.Want} {e : Form} {x : Fault} (name : NameId) → Typing.Names k bs e name → x ≡ fault FUNCTION_AS_VALUE (place_of e) → BreaksAs k bs want e x
-    unlike : {bs : List Binding} {want : Typing.Want} {e : Form} {x : Fault} (t : TypedForm) → Typing.Has k bs e t → (Typing.Suits k want (type_of t) → ⊥)
+    unlike : {bs : List Binding} {want : Typing.Want} {e : Form} {x : Fault} (t : TypedForm) → Typing.Has k (Calls k) bs e t → (Typing.Suits k want (type_of t) → ⊥)
         → x ≡ fault (rule_of want) (place_of e) → BreaksAs k bs want e x
 
   -- Some part of a list does.
@@ -184,10 +184,10 @@ mutual
   -- A comparison of a chain is no call, or isn't below `Boolean`, at its left side.
   pub data ChainBreaks (k : Knows) : List Binding → List Op → List Form → Fault → Type 0 where
     no_call : {bs : List Binding} {ops : List Op} {es : List Form} {x : Fault} (op : Op) (others : List Op) (a b : Form) (more : List Form) (u v : TypedForm) (rule : Rule)
-        → ops ≡ op ∷ others → es ≡ a ∷ b ∷ more → Typing.HasAs k bs Typing.an_operand a u → Typing.HasAs k bs Typing.an_operand b v
+        → ops ≡ op ∷ others → es ≡ a ∷ b ∷ more → Typing.HasAs k (Calls k) bs Typing.an_operand a u → Typing.HasAs k (Calls k) bs Typing.an_operand b v
         → CallBreaks k (operator_set k op 2) (type_of u ∷ type_of v ∷ []) rule → x ≡ fault rule (place_of a) → ChainBreaks k bs ops es x
     no_truth : {bs : List Binding} {ops : List Op} {es : List Form} {x : Fault} (op : Op) (others : List Op) (a b : Form) (more : List Form) (u v : TypedForm) (result : Ty) (widened : List Bool)
-        → ops ≡ op ∷ others → es ≡ a ∷ b ∷ more → Typing.HasAs k bs Typing.an_operand a u → Typing.HasAs k bs Typing.an_operand b v
+        → ops ≡ op ∷ others → es ≡ a ∷ b ∷ more → Typing.HasAs k (Calls k) bs Typing.an_operand a u → Typing.HasAs k (Calls k) bs Typing.an_operand b v
         → Calls k (operator_set k op 2) (type_of u ∷ type_of v ∷ []) result widened → (IsBelow k result boolean → ⊥) → x ≡ fault MISMATCH (place_of a) → ChainBreaks k bs ops es x
     next : {bs : List Binding} {ops : List Op} {es : List Form} {x : Fault} (op : Op) (others : List Op) (a : Form) (more : List Form) → ops ≡ op ∷ others → es ≡ a ∷ more
         → ChainBreaks k bs others more x → ChainBreaks k bs ops es x
@@ -224,9 +224,9 @@ mutual
     in_this : {bs : List Binding} {gs : List Generator} {x : Fault} (g : Generator) (more : List Generator) → gs ≡ g ∷ more → BreaksAs k bs Typing.an_operand (out-Generator g).source x
         → BreaksSources k bs gs x
     no_generator : {bs : List Binding} {gs : List Generator} {x : Fault} (g : Generator) (more : List Generator) (u : TypedForm) → gs ≡ g ∷ more
-        → Typing.HasAs k bs Typing.an_operand (out-Generator g).source u → given (type_of u) ≡ None → x ≡ fault NOT_A_GENERATOR (place_of (out-Generator g).source) → BreaksSources k bs gs x
+        → Typing.HasAs k (Calls k) bs Typing.an_operand (out-Generator g).source u → given (type_of u) ≡ None → x ≡ fault NOT_A_GENERATOR (place_of (out-Generator g).source) → BreaksSources k bs gs x
     in_next : {bs : List Binding} {gs : List Generator} {x : Fault} (g : Generator) (more : List Generator) (u : TypedForm) (ty : Ty) → gs ≡ g ∷ more
-        → is_visible k bs (out-Generator g).name ≡ false → Typing.HasAs k bs Typing.an_operand (out-Generator g).source u → given (type_of u) ≡ Some ty
+        → is_visible k bs (out-Generator g).name ≡ false → Typing.HasAs k (Calls k) bs Typing.an_operand (out-Generator g).source u → given (type_of u) ≡ Some ty
         → BreaksSources k (bs ++ Typing.binding (out-Generator g).place (out-Generator g).name ty ∷ []) more x → BreaksSources k bs gs x
 
   -- A clause of a `case` breaks a rule.
@@ -235,10 +235,10 @@ mutual
         → BreaksAs k bs Typing.an_operand (Typing.test_of b) x → BreaksClauses k bs s branches x
     -- the comparison is a call, at the clause, and below `Boolean`
     no_equality : {bs : List Binding} {s : Form} {branches : List Branch} {x : Fault} (b : Branch) (more : List Branch) (u v : TypedForm) (rule : Rule) → branches ≡ b ∷ more
-        → Typing.HasAs k bs Typing.an_operand s u → Typing.HasAs k bs Typing.an_operand (Typing.test_of b) v
+        → Typing.HasAs k (Calls k) bs Typing.an_operand s u → Typing.HasAs k (Calls k) bs Typing.an_operand (Typing.test_of b) v
         → CallBreaks k (operator_set k an_op.Eq 2) (type_of u ∷ type_of v ∷ []) rule → x ≡ fault rule (place_of (Typing.test_of b)) → BreaksClauses k bs s branches x
     no_truth_value : {bs : List Binding} {s : Form} {branches : List Branch} {x : Fault} (b : Branch) (more : List Branch) (u v : TypedForm) (result : Ty) (widened : List Bool)
-        → branches ≡ b ∷ more → Typing.HasAs k bs Typing.an_operand s u → Typing.HasAs k bs Typing.an_operand (Typing.test_of b) v
+        → branches ≡ b ∷ more → Typing.HasAs k (Calls k) bs Typing.an_operand s u → Typing.HasAs k (Calls k) bs Typing.an_operand (Typing.test_of b) v
         → Calls k (operator_set k an_op.Eq 2) (type_of u ∷ type_of v ∷ []) result widened → (IsBelow k result boolean → ⊥)
         → x ≡ fault MISMATCH (place_of (Typing.test_of b)) → BreaksClauses k bs s branches x
     in_value : {bs : List Binding} {s : Form} {branches : List Branch} {x : Fault} (b : Branch) (more : List Branch) → branches ≡ b ∷ more
@@ -256,7 +256,7 @@ mutual
   -- An element of a run or of a juxtaposition breaks a rule, or is `Nothing`.
   pub data BreaksPart (k : Knows) : List Binding → Form → Fault → Type 0 where
     in_atom : {bs : List Binding} {e : Form} {x : Fault} → Breaks k bs e x → BreaksPart k bs e x
-    a_nothing : {bs : List Binding} {e : Form} {x : Fault} (t : TypedForm) → Typing.Has k bs e t → is_nothing (type_of t) ≡ true → x ≡ fault MISMATCH (place_of e) → BreaksPart k bs e x
+    a_nothing : {bs : List Binding} {e : Form} {x : Fault} (t : TypedForm) → Typing.Has k (Calls k) bs e t → is_nothing (type_of t) ≡ true → x ≡ fault MISMATCH (place_of e) → BreaksPart k bs e x
     in_index : {bs : List Binding} {e : Form} {x : Fault} (p : Place) (i : Form) → out-Form e ≡ Form-F.Subscript p i → BreaksAs k bs (Typing.below zz32) i x → BreaksPart k bs e x
     in_exponent : {bs : List Binding} {e : Form} {x : Fault} (p : Place) (d : Form) → out-Form e ≡ Form-F.Power p d → BreaksAs k bs Typing.an_operand d x → BreaksPart k bs e x
     in_arguments : {bs : List Binding} {e : Form} {x : Fault} (p at : Place) (name : NameId) (es : List Form) → out-Form e ≡ Form-F.Method p at name es
@@ -271,6 +271,6 @@ mutual
   pub data AsksParts (k : Knows) : List Binding → List Form → List Part → Type 0 where
     asked_all : {bs : List Binding} {es : List Form} {ps : List Part} → es ≡ [] → ps ≡ [] → AsksParts k bs es ps
     known : {bs : List Binding} {es : List Form} {ps : List Part} (d : Form) (ds : List Form) (m : Meaning) (qs : List Part) → es ≡ d ∷ ds → ps ≡ Typing.part d m ∷ qs
-        → Typing.Means k bs d m → AsksParts k bs ds qs → AsksParts k bs es ps
+        → Typing.Means k (Calls k) bs d m → AsksParts k bs ds qs → AsksParts k bs es ps
     unknown : {bs : List Binding} {es : List Form} {ps : List Part} (d : Form) (ds : List Form) (x : Fault) (qs : List Part) → es ≡ d ∷ ds → ps ≡ Typing.part d a_meaning.Unknown ∷ qs
         → BreaksPart k bs d x → AsksParts k bs ds qs → AsksParts k bs es ps

@@ -29,7 +29,7 @@ use Rattle.fort_known.specs.declared.fault.Fault.{Fault}
 use Rattle.fort_known.specs.Known.{Knows, within}
 use Rattle.fort_known.specs.Sets.{set_of, operator_set}
 use Rattle.fort_typing_rules.specs.Types.{string, boolean, unit, number_type, IsBelow, type_of, place_of, fault}
-use Rattle.fort_typing_rules.specs.Calls.{set_at}
+use Rattle.fort_typing_rules.specs.Calls.{Calls, set_at}
 use Rattle.fort_typing_rules.specs.Elements.{chosen}
 use Rattle.fort_typing_rules.specs.Typing.{HasAs, Binds, below, parameter_binding}
 use Rattle.fort_typing_rules.specs.Breaking.{BreaksAs, BindingBreaks}
@@ -59,7 +59,7 @@ pub data InitialBreaks (k : Knows) (i : InitialForm) (x : Fault) : Type 0 where
 
 -- A body has a type below its written result, with its parameters bound.
 pub data HasBody (k : Knows) (b : BodyForm) (t : TypedForm) : Type 0 where
-  body : (inner : List Binding) → Binds (within k b.owner) [] (map parameter_binding b.parameters) inner → HasAs (within k b.owner) inner (below b.result) b.body t → HasBody k b t
+  body : (inner : List Binding) → Binds (within k b.owner) [] (map parameter_binding b.parameters) inner → HasAs (within k b.owner) (Calls k) inner (below b.result) b.body t → HasBody k b t
 
 -- A parameter of a body is visible (613), or the body breaks a rule.
 pub data BodyBreaks (k : Knows) (b : BodyForm) (x : Fault) : Type 0 where

@@ -4,3 +4,4 @@ pub mod Elements
 pub mod Typing
 pub mod Breaking
 pub mod Components
+pub mod EditionOne
