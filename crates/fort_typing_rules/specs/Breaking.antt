@@ -40,15 +40,15 @@ rule_of _ = MISMATCH
 
 -- One of several names to be bound is visible then: 613 at it.
 pub data BindingBreaks (k : Knows) : List Binding → List Binding → Fault → Type 0 where
-  visible : {bs new : List Binding} {x : Fault} (b : Binding) (more : List Binding) → new ≡ b ∷ more → is_visible k bs b.name ≡ true → x ≡ fault SHADOWS b.place → BindingBreaks k bs new x
-  next : {bs new : List Binding} {x : Fault} (b : Binding) (more : List Binding) → new ≡ b ∷ more → is_visible k bs b.name ≡ false
+  this_binding : {bs new : List Binding} {x : Fault} (b : Binding) (more : List Binding) → new ≡ b ∷ more → is_visible k bs b.name ≡ true → x ≡ fault SHADOWS b.place → BindingBreaks k bs new x
+  next_binding : {bs new : List Binding} {x : Fault} (b : Binding) (more : List Binding) → new ≡ b ∷ more → is_visible k bs b.name ≡ false
       → BindingBreaks k (bs ++ b ∷ []) more x → BindingBreaks k bs new x
 
 -- The type of a clause isn't below `Exception`: 612 at it.
 pub data ExceptionBreaks (k : Knows) : List TypeBranch → Fault → Type 0 where
-  here : {branches : List TypeBranch} {x : Fault} (b : TypeBranch) (more : List TypeBranch) → branches ≡ b ∷ more → (IsBelow k (Typing.clause_type b) exception → ⊥)
+  this_type : {branches : List TypeBranch} {x : Fault} (b : TypeBranch) (more : List TypeBranch) → branches ≡ b ∷ more → (IsBelow k (Typing.clause_type b) exception → ⊥)
       → x ≡ fault NOT_AN_EXCEPTION (out-TypeBranch b).place → ExceptionBreaks k branches x
-  next : {branches : List TypeBranch} {x : Fault} (b : TypeBranch) (more : List TypeBranch) → branches ≡ b ∷ more → ExceptionBreaks k more x → ExceptionBreaks k branches x
+  next_type : {branches : List TypeBranch} {x : Fault} (b : TypeBranch) (more : List TypeBranch) → branches ≡ b ∷ more → ExceptionBreaks k more x → ExceptionBreaks k branches x
 
 mutual
   -- In these bindings a form breaks a rule.
@@ -178,8 +178,8 @@ mutual
 
   -- Some part of a list does.
   pub data BreaksSome (k : Knows) : List Binding → Typing.Want → List Form → Fault → Type 0 where
-    here : {bs : List Binding} {want : Typing.Want} {es : List Form} {x : Fault} (d : Form) (ds : List Form) → es ≡ d ∷ ds → BreaksAs k bs want d x → BreaksSome k bs want es x
-    later : {bs : List Binding} {want : Typing.Want} {es : List Form} {x : Fault} (d : Form) (ds : List Form) → es ≡ d ∷ ds → BreaksSome k bs want ds x → BreaksSome k bs want es x
+    some_part : {bs : List Binding} {want : Typing.Want} {es : List Form} {x : Fault} (d : Form) (ds : List Form) → es ≡ d ∷ ds → BreaksAs k bs want d x → BreaksSome k bs want es x
+    some_later_part : {bs : List Binding} {want : Typing.Want} {es : List Form} {x : Fault} (d : Form) (ds : List Form) → es ≡ d ∷ ds → BreaksSome k bs want ds x → BreaksSome k bs want es x
 
   -- A comparison of a chain is no call, or isn't below `Boolean`, at its left side.
   pub data ChainBreaks (k : Knows) : List Binding → List Op → List Form → Fault → Type 0 where
@@ -189,7 +189,7 @@ mutual
     no_truth : {bs : List Binding} {ops : List Op} {es : List Form} {x : Fault} (op : Op) (others : List Op) (a b : Form) (more : List Form) (u v : TypedForm) (result : Ty) (widened : List Bool)
         → ops ≡ op ∷ others → es ≡ a ∷ b ∷ more → Typing.HasAs k (Calls k) bs Typing.an_operand a u → Typing.HasAs k (Calls k) bs Typing.an_operand b v
         → Calls k (operator_set k op 2) (type_of u ∷ type_of v ∷ []) result widened → (IsBelow k result boolean → ⊥) → x ≡ fault MISMATCH (place_of a) → ChainBreaks k bs ops es x
-    next : {bs : List Binding} {ops : List Op} {es : List Form} {x : Fault} (op : Op) (others : List Op) (a : Form) (more : List Form) → ops ≡ op ∷ others → es ≡ a ∷ more
+    next_comparison : {bs : List Binding} {ops : List Op} {es : List Form} {x : Fault} (op : Op) (others : List Op) (a : Form) (more : List Form) → ops ≡ op ∷ others → es ≡ a ∷ more
         → ChainBreaks k bs others more x → ChainBreaks k bs ops es x
 
   -- An item of a block breaks a rule.

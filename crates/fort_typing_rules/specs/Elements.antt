@@ -106,10 +106,10 @@ pub data Applies (k : Knows) (C : Calling) (f a : Part) (m : Made) : Type 0 wher
 
 -- Two elements are joined by the operator `juxtaposition`.
 pub data Joins (k : Knows) (C : Calling) (a b : Part) (m : Made) : Type 0 where
-  call : (u v : TypedForm) (result : Ty) (widened : List Bool) → a.meaning ≡ a_meaning.Value u → b.meaning ≡ a_meaning.Value v
+  joining : (u v : TypedForm) (result : Ty) (widened : List Bool) → a.meaning ≡ a_meaning.Value u → b.meaning ≡ a_meaning.Value v
       → C (operator_set k an_op.Juxt 2) (type_of u ∷ type_of v ∷ []) result widened
       → m ≡ gives (a_typed.Operation result (chosen (operator_set k an_op.Juxt 2) widened) (u ∷ v ∷ [])) → Joins k C a b m
-  no_call : (u v : TypedForm) (rule : Rule) → a.meaning ≡ a_meaning.Value u → b.meaning ≡ a_meaning.Value v
+  no_joining : (u v : TypedForm) (rule : Rule) → a.meaning ≡ a_meaning.Value u → b.meaning ≡ a_meaning.Value v
       → CallBreaks k (operator_set k an_op.Juxt 2) (type_of u ∷ type_of v ∷ []) rule → m ≡ breaks rule a.place → Joins k C a b m
 
 -- `a.size()` on an array
@@ -186,14 +186,14 @@ pub data Becomes (k : Knows) (C : Calling) : List Part → TypedForm → Type 0 
 -- A run breaks a rule.
 pub data RunBreaks (k : Knows) (C : Calling) : List Part → Fault → Type 0 where
   -- nothing rewrites: 606 or 607
-  refused : {ps : List Part} {x : Fault} (rule : Rule) (at : Place) → Rewrites (elements ps) (Err (a_fault.Refused rule at)) → x ≡ fault rule at → RunBreaks k C ps x
+  no_rewriting : {ps : List Part} {x : Fault} (rule : Rule) (at : Place) → Rewrites (elements ps) (Err (a_fault.Refused rule at)) → x ≡ fault rule at → RunBreaks k C ps x
   -- the next rewriting breaks a rule
-  here : {ps : List Part} {x : Fault} (before after : List Part) (place at : Place) (rule : Rule) → Rewritten k C ps before place (breaks rule at) after → x ≡ fault rule at → RunBreaks k C ps x
+  this_rewriting : {ps : List Part} {x : Fault} (before after : List Part) (place at : Place) (rule : Rule) → Rewritten k C ps before place (breaks rule at) after → x ≡ fault rule at → RunBreaks k C ps x
   -- what comes of it is `Nothing`, and isn't the whole: 603
-  barred_ : {ps : List Part} {x : Fault} (before after : List Part) (place : Place) (u : TypedForm) → Rewritten k C ps before place (gives u) after → is_whole before after ≡ false
+  a_nothing : {ps : List Part} {x : Fault} (before after : List Part) (place : Place) (u : TypedForm) → Rewritten k C ps before place (gives u) after → is_whole before after ≡ false
       → is_nothing (type_of u) ≡ true → x ≡ fault MISMATCH place → RunBreaks k C ps x
   -- the run after it breaks a rule
-  later : {ps : List Part} {x : Fault} (before after : List Part) (place : Place) (m : Made) → Rewritten k C ps before place m after
+  later_rewriting : {ps : List Part} {x : Fault} (before after : List Part) (place : Place) (m : Made) → Rewritten k C ps before place m after
       → RunBreaks k C (rewritten before place m after) x → RunBreaks k C ps x
 
 -- ---- juxtapositions
@@ -208,15 +208,15 @@ as_part p = record p { meaning = barred_by p.meaning }
 
 -- what comes of a grouping of elements
 pub data Grouped (k : Knows) (C : Calling) (ps : List Part) : Grouping → Part → Type 0 where
-  one : {g : Grouping} {q : Part} (i : ℕ) → out-Grouping g ≡ Grouping-F.One i → slice_get ps i ≡ Some q → Grouped k C ps g q
-  applied : {g : Grouping} {q : Part} (a b : Grouping) (p r : Part) (m : Made) → out-Grouping g ≡ Grouping-F.Apply a b → Grouped k C ps a p → Grouped k C ps b r
+  of_one : {g : Grouping} {q : Part} (i : ℕ) → out-Grouping g ≡ Grouping-F.One i → slice_get ps i ≡ Some q → Grouped k C ps g q
+  of_applied : {g : Grouping} {q : Part} (a b : Grouping) (p r : Part) (m : Made) → out-Grouping g ≡ Grouping-F.Apply a b → Grouped k C ps a p → Grouped k C ps b r
       → Applies k C (as_part p) (as_part r) m → q ≡ made p.place (meaning_of true m) → Grouped k C ps g q
-  joined : {g : Grouping} {q : Part} (a b : Grouping) (p r : Part) (m : Made) → out-Grouping g ≡ Grouping-F.Pair a b → Grouped k C ps a p → Grouped k C ps b r
+  of_joined : {g : Grouping} {q : Part} (a b : Grouping) (p r : Part) (m : Made) → out-Grouping g ≡ Grouping-F.Pair a b → Grouped k C ps a p → Grouped k C ps b r
       → Joins k C (as_part p) (as_part r) m → q ≡ made p.place (meaning_of true m) → Grouped k C ps g q
   -- a part has no type
-  not_applied : {g : Grouping} {q : Part} (a b : Grouping) (p r : Part) → out-Grouping g ≡ Grouping-F.Apply a b → Grouped k C ps a p → Grouped k C ps b r
+  of_unapplied : {g : Grouping} {q : Part} (a b : Grouping) (p r : Part) → out-Grouping g ≡ Grouping-F.Apply a b → Grouped k C ps a p → Grouped k C ps b r
       → is_unknown (as_part p) || is_unknown (as_part r) ≡ true → q ≡ made p.place a_meaning.Unknown → Grouped k C ps g q
-  not_joined : {g : Grouping} {q : Part} (a b : Grouping) (p r : Part) → out-Grouping g ≡ Grouping-F.Pair a b → Grouped k C ps a p → Grouped k C ps b r
+  of_unjoined : {g : Grouping} {q : Part} (a b : Grouping) (p r : Part) → out-Grouping g ≡ Grouping-F.Pair a b → Grouped k C ps a p → Grouped k C ps b r
       → is_unknown (as_part p) || is_unknown (as_part r) ≡ true → q ≡ made p.place a_meaning.Unknown → Grouped k C ps g q
 
 -- A part of a grouping is `Nothing`: 603 at it.
@@ -225,9 +225,9 @@ IsBarred k C ps g x = (q : Part) × (t : TypedForm) × Grouped k C ps g q × (q.
 
 -- A grouping breaks a rule.
 pub data GroupBreaks (k : Knows) (C : Calling) (ps : List Part) : Grouping → Fault → Type 0 where
-  application : {g : Grouping} {x : Fault} (a b : Grouping) (p r : Part) (rule : Rule) (at : Place) → out-Grouping g ≡ Grouping-F.Apply a b → Grouped k C ps a p → Grouped k C ps b r
+  group_application : {g : Grouping} {x : Fault} (a b : Grouping) (p r : Part) (rule : Rule) (at : Place) → out-Grouping g ≡ Grouping-F.Apply a b → Grouped k C ps a p → Grouped k C ps b r
       → Applies k C (as_part p) (as_part r) (breaks rule at) → x ≡ fault rule at → GroupBreaks k C ps g x
-  joining : {g : Grouping} {x : Fault} (a b : Grouping) (p r : Part) (rule : Rule) (at : Place) → out-Grouping g ≡ Grouping-F.Pair a b → Grouped k C ps a p → Grouped k C ps b r
+  group_joining : {g : Grouping} {x : Fault} (a b : Grouping) (p r : Part) (rule : Rule) (at : Place) → out-Grouping g ≡ Grouping-F.Pair a b → Grouped k C ps a p → Grouped k C ps b r
       → Joins k C (as_part p) (as_part r) (breaks rule at) → x ≡ fault rule at → GroupBreaks k C ps g x
   applied_first : {g : Grouping} {x : Fault} (a b : Grouping) → out-Grouping g ≡ Grouping-F.Apply a b → GroupBreaks k C ps a x → GroupBreaks k C ps g x
   applied_second : {g : Grouping} {x : Fault} (a b : Grouping) → out-Grouping g ≡ Grouping-F.Apply a b → GroupBreaks k C ps b x → GroupBreaks k C ps g x
@@ -245,5 +245,5 @@ pub data Stands (k : Knows) (C : Calling) (ps : List Part) (t : TypedForm) : Typ
 -- A juxtaposition breaks a rule.
 pub data BesideBreaks (k : Knows) (C : Calling) (ps : List Part) (x : Fault) : Type 0 where
   -- a function set's name ends its chunk: 606
-  refused : (rule : Rule) (at : Place) → Groups (elements ps) (Err (a_fault.Refused rule at)) → x ≡ fault rule at → BesideBreaks k C ps x
-  within : (g : Grouping) → Groups (elements ps) (Ok g) → GroupBreaks k C ps g x → BesideBreaks k C ps x
+  name_alone : (rule : Rule) (at : Place) → Groups (elements ps) (Err (a_fault.Refused rule at)) → x ≡ fault rule at → BesideBreaks k C ps x
+  in_group : (g : Grouping) → Groups (elements ps) (Ok g) → GroupBreaks k C ps g x → BesideBreaks k C ps x
