@@ -2,3 +2,4 @@ pub mod Spellings
 pub mod Known
 pub mod Sets
 pub mod Names
+pub mod Read

@@ -8,7 +8,7 @@ use Rattle.fort_ops.specs.declared.op.Op.{Op}
 use Rattle.fort_known.specs.Spellings.{Spelling, operator_spelling}
 use Rattle.fort_set.specs.declared.member.Member.{Member}
 use Rattle.fort_set.specs.declared.member.MemberSet.{MemberSet}
-use Rattle.fort_known.specs.Known.{Knows}
+use Rattle.fort_known.specs.Known.{Facts}
 
 -- the number of parameters of a set's declarations, which its first one tells
 abbrev pub width_of : List Member → ℕ
@@ -34,29 +34,29 @@ first_set test [] = 0
 first_set test (s ∷ ss) = cond (test s) 0 (suc (first_set test ss))
 
 -- the spelling of a name
-abbrev pub spelled : Knows → NameId → Spelling
+abbrev pub spelled : Facts → NameId → Spelling
 spelled k name = get_or k.names name.0 []
 
 -- The number of the set of a name, a kind and a number of parameters; that of no set where there is none.
-unfoldable pub set_of : Knows → Spelling → Bool → ℕ → SetId
+unfoldable pub set_of : Facts → Spelling → Bool → ℕ → SetId
 set_of k name dotted width = record { 0 = first_set (is_set_of name dotted width) k.members.sets }
 
 -- the set that a call of a function's name is of, by the number of its arguments
-abbrev pub function_set : Knows → NameId → ℕ → SetId
+abbrev pub function_set : Facts → NameId → ℕ → SetId
 function_set k name width = set_of k (spelled k name) false width
 
 -- the set that a call of a method is of, by the number of its arguments, the receiver included
-abbrev pub method_set : Knows → NameId → ℕ → SetId
+abbrev pub method_set : Facts → NameId → ℕ → SetId
 method_set k name width = set_of k (spelled k name) true width
 
 -- the set that a call of an operator is of, by the number of its operands
-abbrev pub operator_set : Knows → Op → ℕ → SetId
+abbrev pub operator_set : Facts → Op → ℕ → SetId
 operator_set k op width = set_of k (operator_spelling k.names op) false width
 
 -- some dotted method has the name
-abbrev pub is_method : Knows → NameId → Bool
+abbrev pub is_method : Facts → NameId → Bool
 is_method k name = any_set (has_name (spelled k name) true) k.members.sets
 
 -- some function has the name
-abbrev pub is_function : Knows → NameId → Bool
+abbrev pub is_function : Facts → NameId → Bool
 is_function k name = any_set (has_name (spelled k name) false) k.members.sets

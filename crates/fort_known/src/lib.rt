@@ -2,5 +2,7 @@
 #![tactic(auto)]
 
 mod fault;
+mod known;
 
 pub use fault::Fault;
+pub use known::Known;

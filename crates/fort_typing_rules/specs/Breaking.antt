@@ -40,8 +40,8 @@ rule_of _ = MISMATCH
 
 -- One of several names to be bound is visible then: 613 at it.
 pub data BindingBreaks (k : Knows) : List Binding → List Binding → Fault → Type 0 where
-  this_binding : {bs new : List Binding} {x : Fault} (b : Binding) (more : List Binding) → new ≡ b ∷ more → is_visible k bs b.name ≡ true → x ≡ fault SHADOWS b.place → BindingBreaks k bs new x
-  next_binding : {bs new : List Binding} {x : Fault} (b : Binding) (more : List Binding) → new ≡ b ∷ more → is_visible k bs b.name ≡ false
+  this_binding : {bs new : List Binding} {x : Fault} (b : Binding) (more : List Binding) → new ≡ b ∷ more → is_visible k.facts bs b.name ≡ true → x ≡ fault SHADOWS b.place → BindingBreaks k bs new x
+  next_binding : {bs new : List Binding} {x : Fault} (b : Binding) (more : List Binding) → new ≡ b ∷ more → is_visible k.facts bs b.name ≡ false
       → BindingBreaks k (bs ++ b ∷ []) more x → BindingBreaks k bs new x
 
 -- The type of a clause isn't below `Exception`: 612 at it.
@@ -54,8 +54,8 @@ mutual
   -- In these bindings a form breaks a rule.
   pub data Breaks (k : Knows) : List Binding → Form → Fault → Type 0 where
     -- `self` outside a type's declaration, and a name that stands for nothing: 601
-    no_receiver : {bs : List Binding} {e : Form} {x : Fault} (p : Place) → out-Form e ≡ Form-F.Receiver p → k.owner ≡ None → x ≡ fault UNKNOWN_NAME p → Breaks k bs e x
-    no_name : {bs : List Binding} {e : Form} {x : Fault} (p : Place) (name : NameId) → out-Form e ≡ Form-F.Name p name → standing k bs name ≡ nothing
+    no_receiver : {bs : List Binding} {e : Form} {x : Fault} (p : Place) → out-Form e ≡ Form-F.Receiver p → k.facts.owner ≡ None → x ≡ fault UNKNOWN_NAME p → Breaks k bs e x
+    no_name : {bs : List Binding} {e : Form} {x : Fault} (p : Place) (name : NameId) → out-Form e ≡ Form-F.Name p name → standing k.facts bs name ≡ nothing
         → x ≡ fault UNKNOWN_NAME p → Breaks k bs e x
     in_parens : {bs : List Binding} {e : Form} {x : Fault} (p : Place) (d : Form) → out-Form e ≡ Form-F.Parens p d → BreaksAs k bs Typing.a_value d x → Breaks k bs e x
     in_tuple : {bs : List Binding} {e : Form} {x : Fault} (p : Place) (es : List Form) → out-Form e ≡ Form-F.Tuple p es → BreaksSome k bs Typing.an_operand es x → Breaks k bs e x
@@ -63,7 +63,7 @@ mutual
         → Breaks k bs e x
     -- a call of an operator: 602 or 614
     no_operator : {bs : List Binding} {e : Form} {x : Fault} (p : Place) (op : Op) (es : List Form) (ts : List TypedForm) (rule : Rule) → out-Form e ≡ Form-F.Operator p op es
-        → Typing.HasEach k (Calls k) bs Typing.an_operand es ts → CallBreaks k (operator_set k op (length ts)) (types_of ts) rule → x ≡ fault rule p → Breaks k bs e x
+        → Typing.HasEach k (Calls k) bs Typing.an_operand es ts → CallBreaks k (operator_set k.facts op (length ts)) (types_of ts) rule → x ≡ fault rule p → Breaks k bs e x
     in_chain : {bs : List Binding} {e : Form} {x : Fault} (p : Place) (ops : List Op) (es : List Form) → out-Form e ≡ Form-F.Chain p ops es → BreaksSome k bs Typing.an_operand es x
         → Breaks k bs e x
     no_comparison : {bs : List Binding} {e : Form} {x : Fault} (p : Place) (ops : List Op) (es : List Form) → out-Form e ≡ Form-F.Chain p ops es → ChainBreaks k bs ops es x → Breaks k bs e x
@@ -108,24 +108,24 @@ mutual
         → x ≡ fault MISMATCH p → Breaks k bs e x
     -- the name of a `typecase` is visible: 613
     shadowing : {bs : List Binding} {e : Form} {x : Fault} (p at : Place) (name : NameId) (s : Form) (branches : List TypeBranch) (other : Option Form)
-        → out-Form e ≡ Form-F.Typecase p at name s branches other → is_visible k bs name ≡ true → x ≡ fault SHADOWS at → Breaks k bs e x
+        → out-Form e ≡ Form-F.Typecase p at name s branches other → is_visible k.facts bs name ≡ true → x ≡ fault SHADOWS at → Breaks k bs e x
     in_typecase_subject : {bs : List Binding} {e : Form} {x : Fault} (p at : Place) (name : NameId) (s : Form) (branches : List TypeBranch) (other : Option Form)
         → out-Form e ≡ Form-F.Typecase p at name s branches other → BreaksAs k bs Typing.a_value s x → Breaks k bs e x
     in_typecase : {bs : List Binding} {e : Form} {x : Fault} (p at : Place) (name : NameId) (s : Form) (branches : List TypeBranch) (other : Option Form) (u : TypedForm)
-        → out-Form e ≡ Form-F.Typecase p at name s branches other → is_visible k bs name ≡ false → Typing.HasAs k (Calls k) bs Typing.a_value s u
+        → out-Form e ≡ Form-F.Typecase p at name s branches other → is_visible k.facts bs name ≡ false → Typing.HasAs k (Calls k) bs Typing.a_value s u
         → BreaksCases k bs (Some (at, name)) branches x → Breaks k bs e x
     in_typecase_else : {bs : List Binding} {e : Form} {x : Fault} (p at : Place) (name : NameId) (s : Form) (branches : List TypeBranch) (d : Form) (u : TypedForm)
-        → out-Form e ≡ Form-F.Typecase p at name s branches (Some d) → is_visible k bs name ≡ false → Typing.HasAs k (Calls k) bs Typing.a_value s u
+        → out-Form e ≡ Form-F.Typecase p at name s branches (Some d) → is_visible k.facts bs name ≡ false → Typing.HasAs k (Calls k) bs Typing.a_value s u
         → BreaksAs k (Typing.with_clause bs (Some (at, name)) (type_of u)) Typing.a_value d x → Breaks k bs e x
     no_widest_typecase : {bs : List Binding} {e : Form} {x : Fault} (p at : Place) (name : NameId) (s : Form) (branches : List TypeBranch) (other : Option Form) (u : TypedForm)
-        (values : List TypedForm) (w : Option TypedForm) → out-Form e ≡ Form-F.Typecase p at name s branches other → is_visible k bs name ≡ false
+        (values : List TypedForm) (w : Option TypedForm) → out-Form e ≡ Form-F.Typecase p at name s branches other → is_visible k.facts bs name ≡ false
         → Typing.HasAs k (Calls k) bs Typing.a_value s u → Typing.HasCases k (Calls k) bs (Some (at, name)) branches values
         → Typing.HasElse k (Calls k) (Typing.with_clause bs (Some (at, name)) (type_of u)) other w → HasNoWidest k (types_of values ++ Typing.else_types w) → x ≡ fault MISMATCH p → Breaks k bs e x
     in_try : {bs : List Binding} {e : Form} {x : Fault} (p : Place) (b : Form) (name : Option (Place × NameId)) (branches : List TypeBranch) (last : Option Form)
         → out-Form e ≡ Form-F.Try p b name branches last → BreaksAs k bs Typing.a_value b x → Breaks k bs e x
     -- the name of a `catch` is visible: 613
     shadowing_catch : {bs : List Binding} {e : Form} {x : Fault} (p at : Place) (b : Form) (name : NameId) (branches : List TypeBranch) (last : Option Form)
-        → out-Form e ≡ Form-F.Try p b (Some (at, name)) branches last → is_visible k bs name ≡ true → x ≡ fault SHADOWS at → Breaks k bs e x
+        → out-Form e ≡ Form-F.Try p b (Some (at, name)) branches last → is_visible k.facts bs name ≡ true → x ≡ fault SHADOWS at → Breaks k bs e x
     no_exception : {bs : List Binding} {e : Form} {x : Fault} (p : Place) (b : Form) (name : Option (Place × NameId)) (branches : List TypeBranch) (last : Option Form)
         → out-Form e ≡ Form-F.Try p b name branches last → ExceptionBreaks k branches x → Breaks k bs e x
     in_catch : {bs : List Binding} {e : Form} {x : Fault} (p : Place) (b : Form) (name : Option (Place × NameId)) (branches : List TypeBranch) (last : Option Form)
@@ -163,10 +163,10 @@ mutual
     -- the sum is a call, at the target, and below its type
     no_sum : {bs : List Binding} {e : Form} {x : Fault} (p : Place) (d v : Form) (sign : Update) (op : Op) (u w : TypedForm) (rule : Rule) → out-Form e ≡ Form-F.Assign p d sign v
         → Typing.update_operator sign ≡ Some op → Typing.Has k (Calls k) bs d u → Typing.is_target k d u ≡ true → Typing.HasAs k (Calls k) bs Typing.an_operand v w
-        → CallBreaks k (operator_set k op 2) (type_of u ∷ type_of w ∷ []) rule → x ≡ fault rule (place_of d) → Breaks k bs e x
+        → CallBreaks k (operator_set k.facts op 2) (type_of u ∷ type_of w ∷ []) rule → x ≡ fault rule (place_of d) → Breaks k bs e x
     unlike_sum : {bs : List Binding} {e : Form} {x : Fault} (p : Place) (d v : Form) (sign : Update) (op : Op) (u w : TypedForm) (result : Ty) (widened : List Bool)
         → out-Form e ≡ Form-F.Assign p d sign v → Typing.update_operator sign ≡ Some op → Typing.Has k (Calls k) bs d u → Typing.is_target k d u ≡ true
-        → Typing.HasAs k (Calls k) bs Typing.an_operand v w → Calls k (operator_set k op 2) (type_of u ∷ type_of w ∷ []) result widened → (IsBelow k result (type_of u) → ⊥)
+        → Typing.HasAs k (Calls k) bs Typing.an_operand v w → Calls k (operator_set k.facts op 2) (type_of u ∷ type_of w ∷ []) result widened → (IsBelow k result (type_of u) → ⊥)
         → x ≡ fault MISMATCH (place_of d) → Breaks k bs e x
 
   -- A part breaks a rule, is a function set's name where a value is wanted, or has a type that isn't as wanted.
@@ -185,10 +185,10 @@ mutual
   pub data ChainBreaks (k : Knows) : List Binding → List Op → List Form → Fault → Type 0 where
     no_call : {bs : List Binding} {ops : List Op} {es : List Form} {x : Fault} (op : Op) (others : List Op) (a b : Form) (more : List Form) (u v : TypedForm) (rule : Rule)
         → ops ≡ op ∷ others → es ≡ a ∷ b ∷ more → Typing.HasAs k (Calls k) bs Typing.an_operand a u → Typing.HasAs k (Calls k) bs Typing.an_operand b v
-        → CallBreaks k (operator_set k op 2) (type_of u ∷ type_of v ∷ []) rule → x ≡ fault rule (place_of a) → ChainBreaks k bs ops es x
+        → CallBreaks k (operator_set k.facts op 2) (type_of u ∷ type_of v ∷ []) rule → x ≡ fault rule (place_of a) → ChainBreaks k bs ops es x
     no_truth : {bs : List Binding} {ops : List Op} {es : List Form} {x : Fault} (op : Op) (others : List Op) (a b : Form) (more : List Form) (u v : TypedForm) (result : Ty) (widened : List Bool)
         → ops ≡ op ∷ others → es ≡ a ∷ b ∷ more → Typing.HasAs k (Calls k) bs Typing.an_operand a u → Typing.HasAs k (Calls k) bs Typing.an_operand b v
-        → Calls k (operator_set k op 2) (type_of u ∷ type_of v ∷ []) result widened → (IsBelow k result boolean → ⊥) → x ≡ fault MISMATCH (place_of a) → ChainBreaks k bs ops es x
+        → Calls k (operator_set k.facts op 2) (type_of u ∷ type_of v ∷ []) result widened → (IsBelow k result boolean → ⊥) → x ≡ fault MISMATCH (place_of a) → ChainBreaks k bs ops es x
     next_comparison : {bs : List Binding} {ops : List Op} {es : List Form} {x : Fault} (op : Op) (others : List Op) (a : Form) (more : List Form) → ops ≡ op ∷ others → es ≡ a ∷ more
         → ChainBreaks k bs others more x → ChainBreaks k bs ops es x
 
@@ -201,11 +201,11 @@ mutual
         → BreaksItems k bs (j ∷ more) x → BreaksItems k bs is x
     -- the name of a local variable is visible: 613
     shadowing_local : {bs : List Binding} {is : List Item} {x : Fault} (i : Item) (more : List Item) (p : Place) (name : NameId) (mutable : Bool) (want : Ty) (d : Form) → is ≡ i ∷ more
-        → out-Item i ≡ Item-F.Local p name mutable want d → is_visible k bs name ≡ true → x ≡ fault SHADOWS p → BreaksItems k bs is x
+        → out-Item i ≡ Item-F.Local p name mutable want d → is_visible k.facts bs name ≡ true → x ≡ fault SHADOWS p → BreaksItems k bs is x
     in_initial : {bs : List Binding} {is : List Item} {x : Fault} (i : Item) (more : List Item) (p : Place) (name : NameId) (mutable : Bool) (want : Ty) (d : Form) → is ≡ i ∷ more
         → out-Item i ≡ Item-F.Local p name mutable want d → BreaksAs k bs (Typing.below want) d x → BreaksItems k bs is x
     behind_local : {bs : List Binding} {is : List Item} {x : Fault} (i : Item) (more : List Item) (p : Place) (name : NameId) (mutable : Bool) (want : Ty) (d : Form) → is ≡ i ∷ more
-        → out-Item i ≡ Item-F.Local p name mutable want d → is_visible k bs name ≡ false
+        → out-Item i ≡ Item-F.Local p name mutable want d → is_visible k.facts bs name ≡ false
         → BreaksItems k (bs ++ record { name = name; place = p; ty = want; mutable = mutable } ∷ []) more x → BreaksItems k bs is x
     -- the written type of several names is no tuple of as many parts: 603 at the `(`
     no_parts : {bs : List Binding} {is : List Item} {x : Fault} (i : Item) (more : List Item) (p : Place) (names : List (Place × NameId)) (want : Ty) (d : Form) → is ≡ i ∷ more
@@ -219,14 +219,14 @@ mutual
 
   -- A generator breaks a rule: its name is visible (613), its source breaks one, or is no generator (610).
   pub data BreaksSources (k : Knows) : List Binding → List Generator → Fault → Type 0 where
-    shadowing_name : {bs : List Binding} {gs : List Generator} {x : Fault} (g : Generator) (more : List Generator) → gs ≡ g ∷ more → is_visible k bs (out-Generator g).name ≡ true
+    shadowing_name : {bs : List Binding} {gs : List Generator} {x : Fault} (g : Generator) (more : List Generator) → gs ≡ g ∷ more → is_visible k.facts bs (out-Generator g).name ≡ true
         → x ≡ fault SHADOWS (out-Generator g).place → BreaksSources k bs gs x
     in_this : {bs : List Binding} {gs : List Generator} {x : Fault} (g : Generator) (more : List Generator) → gs ≡ g ∷ more → BreaksAs k bs Typing.an_operand (out-Generator g).source x
         → BreaksSources k bs gs x
     no_generator : {bs : List Binding} {gs : List Generator} {x : Fault} (g : Generator) (more : List Generator) (u : TypedForm) → gs ≡ g ∷ more
         → Typing.HasAs k (Calls k) bs Typing.an_operand (out-Generator g).source u → given (type_of u) ≡ None → x ≡ fault NOT_A_GENERATOR (place_of (out-Generator g).source) → BreaksSources k bs gs x
     in_next : {bs : List Binding} {gs : List Generator} {x : Fault} (g : Generator) (more : List Generator) (u : TypedForm) (ty : Ty) → gs ≡ g ∷ more
-        → is_visible k bs (out-Generator g).name ≡ false → Typing.HasAs k (Calls k) bs Typing.an_operand (out-Generator g).source u → given (type_of u) ≡ Some ty
+        → is_visible k.facts bs (out-Generator g).name ≡ false → Typing.HasAs k (Calls k) bs Typing.an_operand (out-Generator g).source u → given (type_of u) ≡ Some ty
         → BreaksSources k (bs ++ Typing.binding (out-Generator g).place (out-Generator g).name ty ∷ []) more x → BreaksSources k bs gs x
 
   -- A clause of a `case` breaks a rule.
@@ -236,10 +236,10 @@ mutual
     -- the comparison is a call, at the clause, and below `Boolean`
     no_equality : {bs : List Binding} {s : Form} {branches : List Branch} {x : Fault} (b : Branch) (more : List Branch) (u v : TypedForm) (rule : Rule) → branches ≡ b ∷ more
         → Typing.HasAs k (Calls k) bs Typing.an_operand s u → Typing.HasAs k (Calls k) bs Typing.an_operand (Typing.test_of b) v
-        → CallBreaks k (operator_set k an_op.Eq 2) (type_of u ∷ type_of v ∷ []) rule → x ≡ fault rule (place_of (Typing.test_of b)) → BreaksClauses k bs s branches x
+        → CallBreaks k (operator_set k.facts an_op.Eq 2) (type_of u ∷ type_of v ∷ []) rule → x ≡ fault rule (place_of (Typing.test_of b)) → BreaksClauses k bs s branches x
     no_truth_value : {bs : List Binding} {s : Form} {branches : List Branch} {x : Fault} (b : Branch) (more : List Branch) (u v : TypedForm) (result : Ty) (widened : List Bool)
         → branches ≡ b ∷ more → Typing.HasAs k (Calls k) bs Typing.an_operand s u → Typing.HasAs k (Calls k) bs Typing.an_operand (Typing.test_of b) v
-        → Calls k (operator_set k an_op.Eq 2) (type_of u ∷ type_of v ∷ []) result widened → (IsBelow k result boolean → ⊥)
+        → Calls k (operator_set k.facts an_op.Eq 2) (type_of u ∷ type_of v ∷ []) result widened → (IsBelow k result boolean → ⊥)
         → x ≡ fault MISMATCH (place_of (Typing.test_of b)) → BreaksClauses k bs s branches x
     in_value : {bs : List Binding} {s : Form} {branches : List Branch} {x : Fault} (b : Branch) (more : List Branch) → branches ≡ b ∷ more
         → BreaksAs k bs Typing.a_value (Typing.value_of b) x → BreaksClauses k bs s branches x

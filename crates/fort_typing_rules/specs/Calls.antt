@@ -27,7 +27,7 @@ pub record ArePositions (d : Member) (types : List Ty) (widened : List Bool) : T
 
 -- the set of a number
 abbrev pub set_at : Knows → SetId → Option MemberSet
-set_at k set = slice_get k.members.sets set.0
+set_at k set = slice_get k.facts.members.sets set.0
 
 -- What a call has: of a set with arguments of these types, a result, and which of them are widened.
 abbrev pub Calling : Type 1

@@ -41,7 +41,7 @@ pub data IsConstant (k : Knows) (e : Form) (t : TypedForm) : Type 0 where
   number : (p : Place) (n : ℕ) → out-Form e ≡ Form-F.Number p n → t ≡ a_typed.Number (number_type n) n → IsConstant k e t
   -- it has the type of the number
   negative : (p q : Place) (d : Form) (n : ℕ) → out-Form e ≡ Form-F.Operator p an_op.Minus (d ∷ []) → out-Form d ≡ Form-F.Number q n
-      → t ≡ a_typed.Operation (number_type n) (chosen (operator_set k an_op.Minus 1) (false ∷ [])) (a_typed.Number (number_type n) n ∷ []) → IsConstant k e t
+      → t ≡ a_typed.Operation (number_type n) (chosen (operator_set k.facts an_op.Minus 1) (false ∷ [])) (a_typed.Number (number_type n) n ∷ []) → IsConstant k e t
   words : (p : Place) (n : ℕ) → out-Form e ≡ Form-F.Text p n → t ≡ a_typed.Text string n → IsConstant k e t
   truth : (p : Place) (b : Bool) → out-Form e ≡ Form-F.Truth p b → t ≡ a_typed.Truth boolean b → IsConstant k e t
   nothing : (p : Place) → out-Form e ≡ Form-F.Tuple p [] → t ≡ a_typed.Tuple unit [] → IsConstant k e t
@@ -69,7 +69,7 @@ pub data BodyBreaks (k : Knows) (b : BodyForm) (x : Fault) : Type 0 where
 -- There is a function `run` without parameters and with the result `()`.
 pub record HasRun (k : Knows) : Type 0 where
   pub set : MemberSet
-  pub is : set_at k (set_of k (codes "run") false 0) ≡ Some set
+  pub is : set_at k (set_of k.facts (codes "run") false 0) ≡ Some set
   pub at : ℕ
   pub declaration : Member
   pub stands : StandsAt set at declaration

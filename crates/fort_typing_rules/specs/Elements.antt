@@ -94,10 +94,10 @@ chosen set widened = record { set = set; widened = widened }
 pub data Applies (k : Knows) (C : Calling) (f a : Part) (m : Made) : Type 0 where
   -- a function set's name: a call
   call : (name : NameId) (u : TypedForm) (result : Ty) (widened : List Bool) → f.meaning ≡ a_meaning.Functions name → a.meaning ≡ a_meaning.Value u
-      → C (function_set k name (length (arguments a u))) (types_of (arguments a u)) result widened
-      → m ≡ gives (a_typed.Call result (chosen (function_set k name (length (arguments a u))) widened) (arguments a u)) → Applies k C f a m
+      → C (function_set k.facts name (length (arguments a u))) (types_of (arguments a u)) result widened
+      → m ≡ gives (a_typed.Call result (chosen (function_set k.facts name (length (arguments a u))) widened) (arguments a u)) → Applies k C f a m
   no_call : (name : NameId) (u : TypedForm) (rule : Rule) → f.meaning ≡ a_meaning.Functions name → a.meaning ≡ a_meaning.Value u
-      → CallBreaks k (function_set k name (length (arguments a u))) (types_of (arguments a u)) rule → m ≡ breaks rule f.place → Applies k C f a m
+      → CallBreaks k (function_set k.facts name (length (arguments a u))) (types_of (arguments a u)) rule → m ≡ breaks rule f.place → Applies k C f a m
   -- a function value: the argument is below its domain, else 603 at it
   value : (g u : TypedForm) (domain result : Ty) → f.meaning ≡ a_meaning.Value g → out-Ty (type_of g) ≡ Ty-F.Arrow domain result → a.meaning ≡ a_meaning.Value u
       → IsBelow k (type_of u) domain → m ≡ gives (a_typed.Apply result g u) → Applies k C f a m
@@ -107,14 +107,14 @@ pub data Applies (k : Knows) (C : Calling) (f a : Part) (m : Made) : Type 0 wher
 -- Two elements are joined by the operator `juxtaposition`.
 pub data Joins (k : Knows) (C : Calling) (a b : Part) (m : Made) : Type 0 where
   joining : (u v : TypedForm) (result : Ty) (widened : List Bool) → a.meaning ≡ a_meaning.Value u → b.meaning ≡ a_meaning.Value v
-      → C (operator_set k an_op.Juxt 2) (type_of u ∷ type_of v ∷ []) result widened
-      → m ≡ gives (a_typed.Operation result (chosen (operator_set k an_op.Juxt 2) widened) (u ∷ v ∷ [])) → Joins k C a b m
+      → C (operator_set k.facts an_op.Juxt 2) (type_of u ∷ type_of v ∷ []) result widened
+      → m ≡ gives (a_typed.Operation result (chosen (operator_set k.facts an_op.Juxt 2) widened) (u ∷ v ∷ [])) → Joins k C a b m
   no_joining : (u v : TypedForm) (rule : Rule) → a.meaning ≡ a_meaning.Value u → b.meaning ≡ a_meaning.Value v
-      → CallBreaks k (operator_set k an_op.Juxt 2) (type_of u ∷ type_of v ∷ []) rule → m ≡ breaks rule a.place → Joins k C a b m
+      → CallBreaks k (operator_set k.facts an_op.Juxt 2) (type_of u ∷ type_of v ∷ []) rule → m ≡ breaks rule a.place → Joins k C a b m
 
 -- `a.size()` on an array
 abbrev pub is_size_of : Knows → Ty-F Ty → NameId → List TypedForm → Bool
-is_size_of k shape name [] = array_at shape && bytes_eq (spelled k name) (codes "size")
+is_size_of k shape name [] = array_at shape && bytes_eq (spelled k.facts name) (codes "size")
 is_size_of k shape name (t ∷ ts) = false
 
 abbrev pub is_size : Knows → TypedForm → NameId → List TypedForm → Bool
@@ -129,28 +129,28 @@ pub data Follows (k : Knows) (C : Calling) (a p : Part) (m : Made) : Type 0 wher
       → m ≡ breaks MISMATCH a.place → Follows k C a p m
   -- `a^e` is a call
   power : (u e : TypedForm) (result : Ty) (widened : List Bool) → a.meaning ≡ a_meaning.Value u → p.meaning ≡ a_meaning.Exponent e
-      → C (operator_set k an_op.Power 2) (type_of u ∷ type_of e ∷ []) result widened
-      → m ≡ gives (a_typed.Operation result (chosen (operator_set k an_op.Power 2) widened) (u ∷ e ∷ [])) → Follows k C a p m
+      → C (operator_set k.facts an_op.Power 2) (type_of u ∷ type_of e ∷ []) result widened
+      → m ≡ gives (a_typed.Operation result (chosen (operator_set k.facts an_op.Power 2) widened) (u ∷ e ∷ [])) → Follows k C a p m
   no_power : (u e : TypedForm) (rule : Rule) → a.meaning ≡ a_meaning.Value u → p.meaning ≡ a_meaning.Exponent e
-      → CallBreaks k (operator_set k an_op.Power 2) (type_of u ∷ type_of e ∷ []) rule → m ≡ breaks rule a.place → Follows k C a p m
+      → CallBreaks k (operator_set k.facts an_op.Power 2) (type_of u ∷ type_of e ∷ []) rule → m ≡ breaks rule a.place → Follows k C a p m
   -- `o.f`: the type has the field, else 601 at its name
   field : (u : TypedForm) (at : Place) (name : NameId) (f : Field) → a.meaning ≡ a_meaning.Value u → p.meaning ≡ a_meaning.Field at name
-      → field_at k (out-Ty (type_of u)) name ≡ Some f → m ≡ gives (a_typed.ReadField f.ty u name) → Follows k C a p m
+      → field_at k.facts (out-Ty (type_of u)) name ≡ Some f → m ≡ gives (a_typed.ReadField f.ty u name) → Follows k C a p m
   no_field : (u : TypedForm) (at : Place) (name : NameId) → a.meaning ≡ a_meaning.Value u → p.meaning ≡ a_meaning.Field at name
-      → field_at k (out-Ty (type_of u)) name ≡ None → m ≡ breaks UNKNOWN_NAME at → Follows k C a p m
+      → field_at k.facts (out-Ty (type_of u)) name ≡ None → m ≡ breaks UNKNOWN_NAME at → Follows k C a p m
   -- `a.size()` on an array
   size : (u : TypedForm) (at : Place) (name : NameId) (ts : List TypedForm) → a.meaning ≡ a_meaning.Value u → p.meaning ≡ a_meaning.Method at name ts
       → is_size k u name ts ≡ true → m ≡ gives (a_typed.Size zz32 u) → Follows k C a p m
   -- `o.m(e, ..)` is a call with o first; no dotted method of the name: 601 at it
   method : (u : TypedForm) (at : Place) (name : NameId) (ts : List TypedForm) (result : Ty) (widened : List Bool) → a.meaning ≡ a_meaning.Value u
       → p.meaning ≡ a_meaning.Method at name ts → is_size k u name ts ≡ false
-      → C (method_set k name (suc (length ts))) (type_of u ∷ types_of ts) result widened
-      → m ≡ gives (a_typed.Call result (chosen (method_set k name (suc (length ts))) widened) (u ∷ ts)) → Follows k C a p m
+      → C (method_set k.facts name (suc (length ts))) (type_of u ∷ types_of ts) result widened
+      → m ≡ gives (a_typed.Call result (chosen (method_set k.facts name (suc (length ts))) widened) (u ∷ ts)) → Follows k C a p m
   no_method : (u : TypedForm) (at : Place) (name : NameId) (ts : List TypedForm) → a.meaning ≡ a_meaning.Value u
-      → p.meaning ≡ a_meaning.Method at name ts → is_size k u name ts ≡ false → is_method k name ≡ false → m ≡ breaks UNKNOWN_NAME at → Follows k C a p m
+      → p.meaning ≡ a_meaning.Method at name ts → is_size k u name ts ≡ false → is_method k.facts name ≡ false → m ≡ breaks UNKNOWN_NAME at → Follows k C a p m
   no_method_call : (u : TypedForm) (at : Place) (name : NameId) (ts : List TypedForm) (rule : Rule) → a.meaning ≡ a_meaning.Value u
-      → p.meaning ≡ a_meaning.Method at name ts → is_size k u name ts ≡ false → is_method k name ≡ true
-      → CallBreaks k (method_set k name (suc (length ts))) (type_of u ∷ types_of ts) rule → m ≡ breaks rule a.place → Follows k C a p m
+      → p.meaning ≡ a_meaning.Method at name ts → is_size k u name ts ≡ false → is_method k.facts name ≡ true
+      → CallBreaks k (method_set k.facts name (suc (length ts))) (type_of u ∷ types_of ts) rule → m ≡ breaks rule a.place → Follows k C a p m
 
 -- ---- runs
 

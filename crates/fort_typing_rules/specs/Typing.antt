@@ -74,7 +74,7 @@ parameter_binding p = binding p.place p.name p.ty
 -- Names are bound one after another, none of which is visible then.
 pub data Binds (k : Knows) : List Binding → List Binding → List Binding → Type 0 where
   none : {bs new all : List Binding} → new ≡ [] → all ≡ bs → Binds k bs new all
-  next : {bs new all : List Binding} (b : Binding) (more : List Binding) → new ≡ b ∷ more → is_visible k bs b.name ≡ false
+  next : {bs new all : List Binding} (b : Binding) (more : List Binding) → new ≡ b ∷ more → is_visible k.facts bs b.name ≡ false
       → Binds k (bs ++ b ∷ []) more all → Binds k bs new all
 
 -- names with the parts of a tuple as their types, where there are as many
@@ -102,7 +102,7 @@ with_clause bs (Some (place, name)) ty = bs ++ binding place name ty ∷ []
 -- a name, if there is one, can be bound
 abbrev pub is_fresh : Knows → List Binding → Option (Place × NameId) → Bool
 is_fresh k bs None = true
-is_fresh k bs (Some (place, name)) = cond (is_visible k bs name) false true
+is_fresh k bs (Some (place, name)) = cond (is_visible k.facts bs name) false true
 
 abbrev pub bound_name : Option (Place × NameId) → Option NameId
 bound_name None = None
@@ -177,8 +177,8 @@ is_mutable None = false
 -- a variable, a field or an element that can be assigned to
 abbrev pub takes_at : Knows → TypedForm-F TypedForm → Bool
 takes_at k (TypedForm-F.Local ty name mutable) = mutable
-takes_at k (TypedForm-F.Top ty n) = is_mutable (slice_get k.members.variables n)
-takes_at k (TypedForm-F.ReadField ty o name) = is_mutable (field_at k (out-Ty (type_of o)) name)
+takes_at k (TypedForm-F.Top ty n) = is_mutable (slice_get k.facts.members.variables n)
+takes_at k (TypedForm-F.ReadField ty o name) = is_mutable (field_at k.facts (out-Ty (type_of o)) name)
 takes_at k (TypedForm-F.ReadElement ty a i) = true
 takes_at k _ = false
 
@@ -188,14 +188,14 @@ is_target k e t = target_at (out-Form e) && takes_at k (out-TypedForm t)
 
 -- A form is the name of a function set.
 pub data Names (k : Knows) (bs : List Binding) (e : Form) (name : NameId) : Type 0 where
-  names : (p : Place) → out-Form e ≡ Form-F.Name p name → standing k bs name ≡ functions → Names k bs e name
+  names : (p : Place) → out-Form e ≡ Form-F.Name p name → standing k.facts bs name ≡ functions → Names k bs e name
 
 -- The comparisons of a chain of typed sides: each is a call that is below `Boolean`.
 pub data Compares (k : Knows) (C : Calling) : List Op → List TypedForm → List Chosen → Type 0 where
   no_more : {ops : List Op} {ts : List TypedForm} {cs : List Chosen} (a : TypedForm) → ops ≡ [] → ts ≡ a ∷ [] → cs ≡ [] → Compares k C ops ts cs
   more : {ops : List Op} {ts : List TypedForm} {cs : List Chosen} (op : Op) (others : List Op) (a b : TypedForm) (us : List TypedForm) (result : Ty) (widened : List Bool) (ds : List Chosen)
-      → ops ≡ op ∷ others → ts ≡ a ∷ b ∷ us → C (operator_set k op 2) (type_of a ∷ type_of b ∷ []) result widened → IsBelow k result boolean
-      → Compares k C others (b ∷ us) ds → cs ≡ chosen (operator_set k op 2) widened ∷ ds → Compares k C ops ts cs
+      → ops ≡ op ∷ others → ts ≡ a ∷ b ∷ us → C (operator_set k.facts op 2) (type_of a ∷ type_of b ∷ []) result widened → IsBelow k result boolean
+      → Compares k C others (b ∷ us) ds → cs ≡ chosen (operator_set k.facts op 2) widened ∷ ds → Compares k C ops ts cs
 
 -- the type behind `else`, if there is one
 abbrev pub else_types : Option TypedForm → List Ty
@@ -215,27 +215,27 @@ mutual
     number : {bs : List Binding} {e : Form} {t : TypedForm} (p : Place) (n : ℕ) → out-Form e ≡ Form-F.Number p n → t ≡ a_typed.Number (number_type n) n → Has k C bs e t
     words : {bs : List Binding} {e : Form} {t : TypedForm} (p : Place) (n : ℕ) → out-Form e ≡ Form-F.Text p n → t ≡ a_typed.Text string n → Has k C bs e t
     truth : {bs : List Binding} {e : Form} {t : TypedForm} (p : Place) (b : Bool) → out-Form e ≡ Form-F.Truth p b → t ≡ a_typed.Truth boolean b → Has k C bs e t
-    receiver : {bs : List Binding} {e : Form} {t : TypedForm} (p : Place) (o : TypeId) → out-Form e ≡ Form-F.Receiver p → k.owner ≡ Some o
+    receiver : {bs : List Binding} {e : Form} {t : TypedForm} (p : Place) (o : TypeId) → out-Form e ≡ Form-F.Receiver p → k.facts.owner ≡ Some o
         → t ≡ a_typed.Receiver (a_type.Named o) → Has k C bs e t
     local : {bs : List Binding} {e : Form} {t : TypedForm} (p : Place) (name : NameId) (b : Binding) → out-Form e ≡ Form-F.Name p name
-        → standing k bs name ≡ a_binding b → t ≡ a_typed.Local b.ty name b.mutable → Has k C bs e t
+        → standing k.facts bs name ≡ a_binding b → t ≡ a_typed.Local b.ty name b.mutable → Has k C bs e t
     -- a field of the enclosing type: `self.name`
     own : {bs : List Binding} {e : Form} {t : TypedForm} (p : Place) (name : NameId) (o : TypeId) (f : Field) → out-Form e ≡ Form-F.Name p name
-        → standing k bs name ≡ a_field o f → t ≡ a_typed.ReadField f.ty (a_typed.Receiver (a_type.Named o)) name → Has k C bs e t
+        → standing k.facts bs name ≡ a_field o f → t ≡ a_typed.ReadField f.ty (a_typed.Receiver (a_type.Named o)) name → Has k C bs e t
     top : {bs : List Binding} {e : Form} {t : TypedForm} (p : Place) (name : NameId) (n : ℕ) (v : Field) → out-Form e ≡ Form-F.Name p name
-        → standing k bs name ≡ a_variable n v → t ≡ a_typed.Top v.ty n → Has k C bs e t
+        → standing k.facts bs name ≡ a_variable n v → t ≡ a_typed.Top v.ty n → Has k C bs e t
     single : {bs : List Binding} {e : Form} {t : TypedForm} (p : Place) (name : NameId) (o : TypeId) → out-Form e ≡ Form-F.Name p name
-        → standing k bs name ≡ a_single o → t ≡ a_typed.Single (a_type.Named o) o → Has k C bs e t
+        → standing k.facts bs name ≡ a_single o → t ≡ a_typed.Single (a_type.Named o) o → Has k C bs e t
     parens : {bs : List Binding} {e : Form} {t : TypedForm} (p : Place) (d : Form) → out-Form e ≡ Form-F.Parens p d → HasAs k C bs a_value d t → Has k C bs e t
     tuple : {bs : List Binding} {e : Form} {t : TypedForm} (p : Place) (es : List Form) (ts : List TypedForm) → out-Form e ≡ Form-F.Tuple p es
         → HasEach k C bs an_operand es ts → t ≡ a_typed.Tuple (a_type.Tuple (types_of ts)) ts → Has k C bs e t
     -- an operator is a call of its set
     operator : {bs : List Binding} {e : Form} {t : TypedForm} (p : Place) (op : Op) (es : List Form) (ts : List TypedForm) (result : Ty) (widened : List Bool)
-        → out-Form e ≡ Form-F.Operator p op es → HasEach k C bs an_operand es ts → C (operator_set k op (length ts)) (types_of ts) result widened
-        → t ≡ a_typed.Operation result (chosen (operator_set k op (length ts)) widened) ts → Has k C bs e t
+        → out-Form e ≡ Form-F.Operator p op es → HasEach k C bs an_operand es ts → C (operator_set k.facts op (length ts)) (types_of ts) result widened
+        → t ≡ a_typed.Operation result (chosen (operator_set k.facts op (length ts)) widened) ts → Has k C bs e t
     chain : {bs : List Binding} {e : Form} {t : TypedForm} (p : Place) (ops : List Op) (es : List Form) (ts : List TypedForm) (cs : List Chosen)
         → out-Form e ≡ Form-F.Chain p ops es → HasEach k C bs an_operand es ts → Compares k C ops ts cs
-        → t ≡ a_typed.Chain boolean (operator_set k an_op.And 2) cs ts → Has k C bs e t
+        → t ≡ a_typed.Chain boolean (operator_set k.facts an_op.And 2) cs ts → Has k C bs e t
     beside : {bs : List Binding} {e : Form} {t : TypedForm} (p : Place) (es : List Form) (ps : List Part) → out-Form e ≡ Form-F.Beside p es
         → HasParts k C bs es ps → Stands k C ps t → Has k C bs e t
     run : {bs : List Binding} {e : Form} {t : TypedForm} (p : Place) (es : List Form) (ps : List Part) → out-Form e ≡ Form-F.Run p es
@@ -262,7 +262,7 @@ mutual
         → HasClauses k C bs u branches cs tests values → HasElse k C bs other w → IsWidest k (types_of values ++ else_types w) ty
         → t ≡ a_typed.Case ty u cs tests values w → Has k C bs e t
     typecase : {bs : List Binding} {e : Form} {t : TypedForm} (p at : Place) (name : NameId) (s : Form) (branches : List TypeBranch) (other : Option Form) (u : TypedForm)
-        (values : List TypedForm) (w : Option TypedForm) (ty : Ty) → out-Form e ≡ Form-F.Typecase p at name s branches other → is_visible k bs name ≡ false
+        (values : List TypedForm) (w : Option TypedForm) (ty : Ty) → out-Form e ≡ Form-F.Typecase p at name s branches other → is_visible k.facts bs name ≡ false
         → HasAs k C bs a_value s u → HasCases k C bs (Some (at, name)) branches values → HasElse k C (with_clause bs (Some (at, name)) (type_of u)) other w
         → IsWidest k (types_of values ++ else_types w) ty → t ≡ a_typed.Typecase ty name u (map clause_type branches) values w → Has k C bs e t
     try_catch : {bs : List Binding} {e : Form} {t : TypedForm} (p : Place) (b : Form) (name : Option (Place × NameId)) (branches : List TypeBranch) (last : Option Form)
@@ -280,13 +280,13 @@ mutual
         → t ≡ a_typed.Fn (a_type.Arrow (tuple_of (map parameter_type ps)) (type_of u)) ps u → Has k C bs e t
     reduce : {bs : List Binding} {e : Form} {t : TypedForm} (p : Place) (r : Reduction) (g : Generator) (d : Form) (inner : List Binding) (s u : TypedForm)
         → out-Form e ≡ Form-F.Reduce p r g d → HasSources k C bs (g ∷ []) inner (s ∷ []) → HasAs k C inner (reduction_want r) d u
-        → t ≡ a_typed.Reduce (type_of u) r (operator_set k (reduction_operator r) 2) (out-Generator g).name (out-Generator g).sequential s u → Has k C bs e t
+        → t ≡ a_typed.Reduce (type_of u) r (operator_set k.facts (reduction_operator r) 2) (out-Generator g).name (out-Generator g).sequential s u → Has k C bs e t
     assign : {bs : List Binding} {e : Form} {t : TypedForm} (p : Place) (d v : Form) (sign : Update) (u w : TypedForm) → out-Form e ≡ Form-F.Assign p d sign v
         → update_operator sign ≡ None → Has k C bs d u → is_target k d u ≡ true → HasAs k C bs (below (type_of u)) v w → t ≡ a_typed.Assign unit u w → Has k C bs e t
     update : {bs : List Binding} {e : Form} {t : TypedForm} (p : Place) (d v : Form) (sign : Update) (op : Op) (u w : TypedForm) (result : Ty) (widened : List Bool)
         → out-Form e ≡ Form-F.Assign p d sign v → update_operator sign ≡ Some op → Has k C bs d u → is_target k d u ≡ true → HasAs k C bs an_operand v w
-        → C (operator_set k op 2) (type_of u ∷ type_of w ∷ []) result widened → IsBelow k result (type_of u)
-        → t ≡ a_typed.Update unit u (chosen (operator_set k op 2) widened) w → Has k C bs e t
+        → C (operator_set k.facts op 2) (type_of u ∷ type_of w ∷ []) result widened → IsBelow k result (type_of u)
+        → t ≡ a_typed.Update unit u (chosen (operator_set k.facts op 2) widened) w → Has k C bs e t
 
   -- A part has a type, as wanted.
   pub data HasAs (k : Knows) (C : Calling) : List Binding → Want → Form → TypedForm → Type 0 where
@@ -308,7 +308,7 @@ mutual
         → out-Item i ≡ Item-F.Expression d → HasAs k C bs (below unit) d u → HasItems k C bs (j ∷ more) us ty → ts ≡ u ∷ us → HasItems k C bs is ts ty
     -- a local variable is in scope behind its initial
     declared : {bs : List Binding} {is : List Item} {ts : List TypedForm} {ty : Ty} (i : Item) (more : List Item) (p : Place) (name : NameId) (mutable : Bool) (want : Ty) (d : Form) (u : TypedForm)
-        (us : List TypedForm) → is ≡ i ∷ more → out-Item i ≡ Item-F.Local p name mutable want d → is_visible k bs name ≡ false → HasAs k C bs (below want) d u
+        (us : List TypedForm) → is ≡ i ∷ more → out-Item i ≡ Item-F.Local p name mutable want d → is_visible k.facts bs name ≡ false → HasAs k C bs (below want) d u
         → HasItems k C (bs ++ record { name = name; place = p; ty = want; mutable = mutable } ∷ []) more us ty → ts ≡ a_typed.Bind unit name mutable want u ∷ us → HasItems k C bs is ts ty
     declared_all : {bs : List Binding} {is : List Item} {ts : List TypedForm} {ty : Ty} (i : Item) (more : List Item) (p : Place) (names : List (Place × NameId)) (want : Ty) (d : Form)
         (new inner : List Binding) (u : TypedForm) (us : List TypedForm) → is ≡ i ∷ more → out-Item i ≡ Item-F.Locals p names want d → named_parts names want ≡ Some new
@@ -318,7 +318,7 @@ mutual
   pub data HasSources (k : Knows) (C : Calling) : List Binding → List Generator → List Binding → List TypedForm → Type 0 where
     no_source : {bs inner : List Binding} {gs : List Generator} {us : List TypedForm} → gs ≡ [] → inner ≡ bs → us ≡ [] → HasSources k C bs gs inner us
     source : {bs inner : List Binding} {gs : List Generator} {us : List TypedForm} (g : Generator) (more : List Generator) (u : TypedForm) (vs : List TypedForm) (ty : Ty) → gs ≡ g ∷ more → us ≡ u ∷ vs
-        → is_visible k bs (out-Generator g).name ≡ false → HasAs k C bs an_operand (out-Generator g).source u → given (type_of u) ≡ Some ty
+        → is_visible k.facts bs (out-Generator g).name ≡ false → HasAs k C bs an_operand (out-Generator g).source u → given (type_of u) ≡ Some ty
         → HasSources k C (bs ++ binding (out-Generator g).place (out-Generator g).name ty ∷ []) more inner vs → HasSources k C bs gs inner us
 
   -- The clauses of a `case`: each comparison with the subject is a call that is below `Boolean`.
@@ -327,8 +327,8 @@ mutual
         → HasClauses k C bs s branches cs tests values
     clause : {bs : List Binding} {s : TypedForm} {branches : List Branch} {cs : List Chosen} {tests values : List TypedForm} (b : Branch) (more : List Branch) (u v : TypedForm) (result : Ty)
         (widened : List Bool) (ds : List Chosen) (us vs : List TypedForm) → branches ≡ b ∷ more → HasAs k C bs an_operand (test_of b) u
-        → C (operator_set k an_op.Eq 2) (type_of s ∷ type_of u ∷ []) result widened → IsBelow k result boolean → HasAs k C bs a_value (value_of b) v
-        → HasClauses k C bs s more ds us vs → cs ≡ chosen (operator_set k an_op.Eq 2) widened ∷ ds → tests ≡ u ∷ us → values ≡ v ∷ vs → HasClauses k C bs s branches cs tests values
+        → C (operator_set k.facts an_op.Eq 2) (type_of s ∷ type_of u ∷ []) result widened → IsBelow k result boolean → HasAs k C bs a_value (value_of b) v
+        → HasClauses k C bs s more ds us vs → cs ≡ chosen (operator_set k.facts an_op.Eq 2) widened ∷ ds → tests ≡ u ∷ us → values ≡ v ∷ vs → HasClauses k C bs s branches cs tests values
 
   -- The clauses of a `typecase` or of a `catch`: in each the name has the clause's type.
   pub data HasCases (k : Knows) (C : Calling) : List Binding → Option (Place × NameId) → List TypeBranch → List TypedForm → Type 0 where
