@@ -1,0 +1,5 @@
+pub mod Spellings
+pub mod Known
+pub mod Sets
+pub mod Names
+pub mod Read
