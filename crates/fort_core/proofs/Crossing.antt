@@ -2,15 +2,11 @@
 use mathlib.Core.List.{◌∷◌, []}
 use denote.Builtin.{u8, u32}
 use denote.RattleType.{RattleType}
-use denote.Struct.Field.{u32-field, i32-field, i64-field, u64-field, bool-field}
 use denote.Struct.Tuple.{Tuple}
 use denote.Param.Send.{IsSend, IsSync, sendable}
 use Rattle.std.specs.contracts.option.Option as option
 use Rattle.fort_base.proofs.boxed.Boxed.TheSendSync as boxed
 use Rattle.fort_base.proofs.ids.Loc.TheSendSync as loc
-use Rattle.fort_base.proofs.ids.NameId.TheSendSync as name
-use Rattle.fort_base.proofs.ids.SetId.TheSendSync as set
-use Rattle.fort_base.proofs.ids.TypeId.TheSendSync as type
 use Rattle.fort_base.proofs.list.List.TheSendSync as list
 use Rattle.fort_base.proofs.shared.Shared.TheSendSync as shared
 use Rattle.fort_base.proofs.ty.Ty.TheLaws.TheKnot as types
@@ -21,10 +17,6 @@ use Rattle.fort_base.specs.contracts.ids.TypeId.{the_field as a_type}
 use Rattle.fort_base.specs.contracts.list.List.{the_row as list_of}
 use Rattle.fort_base.specs.contracts.shared.Shared.{the_row as shared_of, the_field as a_shared}
 use Rattle.fort_base.specs.contracts.ty.Ty.{the_row as ty, the_field as a_ty}
-use Rattle.fort_core.proofs.form.Mode.TheSendSync as mode
-use Rattle.fort_core.proofs.form.Order.TheSendSync as order
-use Rattle.fort_core.proofs.form.Slot.TheSendSync as slot
-use Rattle.fort_core.proofs.form.Span.TheSendSync as span
 use Rattle.fort_core.proofs.term.Term.TheLaws.TheKnot as terms
 use Rattle.fort_core.specs.contracts.form.Mode.{the_field as a_mode}
 use Rattle.fort_core.specs.contracts.form.Order.{the_field as a_order}
@@ -63,52 +55,52 @@ option_sync A a = search sendable depth 9
 -- ---- the small words, as they stand in terms
 
 set_send : IsSend a_set.row
-set_send = search (sendable, set.the_send) depth 9
+set_send = search sendable depth 9
 
 set_sync : IsSync a_set.row
-set_sync = search (sendable, set.the_sync) depth 9
+set_sync = search sendable depth 9
 
 name_send : IsSend a_name.row
-name_send = search (sendable, name.the_send) depth 9
+name_send = search sendable depth 9
 
 name_sync : IsSync a_name.row
-name_sync = search (sendable, name.the_sync) depth 9
+name_sync = search sendable depth 9
 
 type_send : IsSend a_type.row
-type_send = search (sendable, type.the_send) depth 9
+type_send = search sendable depth 9
 
 type_sync : IsSync a_type.row
-type_sync = search (sendable, type.the_sync) depth 9
+type_sync = search sendable depth 9
 
 loc_send : IsSend a_loc.row
-loc_send = search (sendable, loc.the_send) depth 9
+loc_send = search sendable depth 9
 
 loc_sync : IsSync a_loc.row
-loc_sync = search (sendable, loc.the_sync) depth 9
+loc_sync = search sendable depth 9
 
 mode_send : IsSend a_mode.row
-mode_send = search (sendable, mode.the_send) depth 9
+mode_send = search sendable depth 9
 
 mode_sync : IsSync a_mode.row
-mode_sync = search (sendable, mode.the_sync) depth 9
+mode_sync = search sendable depth 9
 
 order_send : IsSend a_order.row
-order_send = search (sendable, order.the_send) depth 9
+order_send = search sendable depth 9
 
 order_sync : IsSync a_order.row
-order_sync = search (sendable, order.the_sync) depth 9
+order_sync = search sendable depth 9
 
 slot_send : IsSend a_slot.row
-slot_send = search (sendable, slot.the_send) depth 9
+slot_send = search sendable depth 9
 
 slot_sync : IsSync a_slot.row
-slot_sync = search (sendable, slot.the_sync) depth 9
+slot_sync = search sendable depth 9
 
 span_send : IsSend a_span.row
-span_send = search (sendable, span.the_send) depth 9
+span_send = search sendable depth 9
 
 span_sync : IsSync a_span.row
-span_sync = search (sendable, span.the_sync) depth 9
+span_sync = search sendable depth 9
 
 -- ---- types, and lists of variables with their types
 

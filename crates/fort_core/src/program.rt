@@ -1,4 +1,4 @@
-//! An accepted component, as the machine runs it.
+//! An accepted component, as the machine runs it. What is large in it is let go here, once for all crates above.
 use crate::primitive::Primitive;
 use crate::term::Term;
 use crate::value::Value;
@@ -18,7 +18,6 @@ pub enum CoreKind {
 }
 
 /// A field of a declared type.
-#[derive(Drop)]
 pub struct CoreField {
     pub name: NameId,
     pub ty: Ty,
@@ -27,13 +26,32 @@ pub struct CoreField {
     pub initial: Option<Value>,
 }
 
+impl Drop for CoreField {
+    fn drop(self) {
+        let CoreField {
+            name: _,
+            ty: _ty,
+            mutable: _,
+            initial: _initial,
+        } = self;
+    }
+}
+
 /// A declared type.
-#[derive(Drop)]
 pub struct CoreShape {
     pub kind: CoreKind,
     /// Of an object the fields that it declares, in this order: its parameters, then the fields of its body; it has
     /// one location for each. Of a trait all its fields, inherited ones included. Of a leaf none.
     pub fields: List<CoreField>,
+}
+
+impl Drop for CoreShape {
+    fn drop(self) {
+        let CoreShape {
+            kind: _,
+            fields: _fields,
+        } = self;
+    }
 }
 
 /// An overload set, by its declarations.
@@ -56,11 +74,20 @@ pub enum CoreBody {
 }
 
 /// A declaration that can be called; the receiver or `self` is one of the parameters.
-#[derive(Drop)]
 pub struct CoreDecl {
     pub parameters: List<Ty>,
     pub result: Ty,
     pub body: CoreBody,
+}
+
+impl Drop for CoreDecl {
+    fn drop(self) {
+        let CoreDecl {
+            parameters: _parameters,
+            result: _result,
+            body: _body,
+        } = self;
+    }
 }
 
 /// The numbers of the built-in types that values and steps name.
@@ -99,7 +126,6 @@ pub struct BuiltIn {
 }
 
 /// A program: its types, overload sets and declarations by number, its first term and its opening store.
-#[derive(Drop)]
 pub struct Program {
     /// Which declared types are below each other, and which are apart.
     pub types: TypeTable,
@@ -119,4 +145,20 @@ pub struct Program {
     pub opening: List<(Loc, Value)>,
     /// The type of each of these locations, in the same order.
     pub opening_types: List<(Loc, Ty)>,
+}
+
+impl Drop for Program {
+    fn drop(self) {
+        let Program {
+            types: _types,
+            built_in: _,
+            type_names: _type_names,
+            shapes: _shapes,
+            sets: _sets,
+            decls: _decls,
+            first: _first,
+            opening: _opening,
+            opening_types: _opening_types,
+        } = self;
+    }
 }
