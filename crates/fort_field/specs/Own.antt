@@ -21,6 +21,7 @@ use Rattle.fort_tree.specs.declared.declarations.TraitMember.TheVariants as trai
 use Rattle.fort_tree.specs.declared.declarations.Variable.{Variable}
 use Rattle.fort_tree.specs.declared.spot.Name.{Name}
 use Rattle.fort_tree.specs.declared.spot.Spot.{Spot}
+use Rattle.fort_builtin.specs.declared.types.TheConstants.{TYPE_COUNT}
 use Rattle.fort_hier.specs.Heads.{heads_of}
 use Rattle.fort_hier.specs.Names.{Spelling}
 use Rattle.fort_hier.specs.Numbers.{all_types}
@@ -93,7 +94,7 @@ types_of c = all_types c.names (heads_of c)
 
 -- The fields that each type of a component declares, by the types' numbers; a built-in type declares none.
 abbrev pub own_fields : Component → List (List Field)
-own_fields c = replicate 17 [] ++ flat_map (declared_own (types_of c) c.names) c.declarations
+own_fields c = replicate TYPE_COUNT [] ++ flat_map (declared_own (types_of c) c.names) c.declarations
 
 -- The variables at the top of a component, in source order.
 abbrev pub variables_at : List Spelling → List Spelling → Declaration → List Field

@@ -1,10 +1,8 @@
 -- The chapter "Members": what the code's walks over lists of fields find, and what it keeps of the fields of one trait.
-use Rattle.std.specs.Prelude.{◌≡◌, ◌≢◌, ◌⊎◌, ◌<◌, ◌≤◌, ◌++◌, ◌↔◌, nat_eq, ℕ, Bool, IsTrue, List, [], filter, length, slice_get, get_or, Option, Some, None, Contains}
+use Rattle.std.specs.Prelude.{◌≡◌, ◌≢◌, ◌⊎◌, ◌<◌, ◌≤◌, ◌++◌, ◌↔◌, nat_eq, ℕ, Bool, IsTrue, List, [], filter, length, slice_get, get_or, Some, None, Contains}
 use Rattle.indexmap.specs.IndexMap.{get}
 use Rattle.indexmap.specs.IndexSet.{contains, IndexSet}
 use Rattle.fort_base.specs.declared.ids.NameId.{NameId}
-use Rattle.fort_base.specs.declared.refusal.Place.{Place}
-use Rattle.fort_base.specs.Places.{Keeps}
 use Rattle.fort_types.specs.declared.hierarchy.DeclaredType.{DeclaredType}
 use Rattle.fort_types.specs.declared.hierarchy.TypeKind.TheVariants as a_kind
 use Rattle.fort_types.specs.Hierarchy.{DeclaredTypes, Extends}

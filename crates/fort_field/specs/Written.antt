@@ -9,7 +9,8 @@ use Rattle.fort_tree.specs.declared.types.NextType.{NextType}
 use Rattle.fort_tree.specs.declared.types.TypeList.{TypeList}
 use Rattle.fort_tree.specs.declared.types.SimpleType.TheOpen.{SimpleType-F, TypeTree-F, NextType-F, TypeList-F}
 use Rattle.fort_tree.specs.declared.types.SimpleType.TheFolds.{fold-SimpleType, fold-TypeTree, fold-NextType, fold-TypeList}
-use Rattle.fort_hier.specs.Names.{Spelling, spelling, any_spelling}
+use Rattle.fort_builtin.specs.Types.{any_spelling}
+use Rattle.fort_hier.specs.Names.{Spelling, spelling}
 use Rattle.fort_hier.specs.Numbers.{number_of}
 
 -- The type that a spelling names: `Any`, or the declared type with its number.

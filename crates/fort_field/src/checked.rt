@@ -17,6 +17,7 @@ use crate::lacking::first_lacking;
 use crate::own::own_in;
 use fort_base::rules::{DUPLICATE_MEMBER, FIELD_NOT_BELOW};
 use fort_base::{CheckFault, List, Place, TypeTable};
+use fort_builtin::TYPE_NAME_COUNT;
 use fort_hier::{Hierarchy, Numbers, TypeHead, heads_in, numbers_in, places_in, types_in};
 use fort_set::Field;
 use fort_tree::Component;
@@ -25,8 +26,6 @@ use std::alloc::Global;
 
 /// More types than this have no numbers.
 const MOST_TYPES: usize = 0x4000_0000;
-/// How many names of types are built in, `Any` among them.
-const TYPE_NAMES: usize = 18;
 
 /// The fields of the types of a component, by the types' numbers, over the hierarchy that its types are.
 ///
@@ -66,7 +65,7 @@ fn checked_fields(
     ensures err { IfErr result (IsFault component.now) }
 {
     let names = component.names.as_slice();
-    let size = TYPE_NAMES + heads.len();
+    let size = TYPE_NAME_COUNT + heads.len();
     let types = types_in(alloc, names, numbers, size, heads)?;
     let own = own_in(
         alloc,

@@ -7,6 +7,7 @@ ghost use Rattle.fort_field.specs.Own.{first_place, becomes, variable_field, par
 
 use crate::written::written_type;
 use fort_base::{Bytes, List, Memory, Place};
+use fort_builtin::TYPE_COUNT;
 use fort_hier::Numbers;
 use fort_set::Field;
 use fort_tree::{
@@ -15,9 +16,6 @@ use fort_tree::{
     Variable,
 };
 use std::alloc::Global;
-
-/// How many declared types are built in.
-const DECLARED_NAMES: usize = 17;
 
 /// The fields that each type declares, by the types' numbers; the size is that of the list of numbered names.
 pub fn own_in(
@@ -28,7 +26,7 @@ pub fn own_in(
     declarations: &[Declared],
 ) -> Result<List<List<Field>>, Memory>
     ensures { IfOk result (λ own. (list : Seq Spelling) → HoldsNumbers list numbers.now → length list ≡ size
-        → own ≡ replicate 17 [] ++ flat_map (declared_own list names.now) declarations.now) }
+        → own ≡ replicate TYPE_COUNT [] ++ flat_map (declared_own list names.now) declarations.now) }
 {
     let mut own = none_built_in(alloc)?;
     for declared in declarations {
@@ -39,10 +37,10 @@ pub fn own_in(
 
 /// The built-in types declare no field.
 fn none_built_in(alloc: Global) -> Result<List<List<Field>>, Memory>
-    ensures { IfOk result (λ own. own ≡ replicate 17 []) }
+    ensures { IfOk result (λ own. own ≡ replicate TYPE_COUNT []) }
 {
     let mut own = List::new(alloc);
-    for number in 0..DECLARED_NAMES {
+    for number in 0..TYPE_COUNT {
         own.push(List::new(alloc))?;
     }
     Ok(own)

@@ -1,17 +1,16 @@
 //! The types that are written.
 ghost use Rattle.std.specs.Prelude.{◌≡◌, ◌++◌, length, map, option_map, IfOk, OnOk, List as Seq};
 ghost use Rattle.std.specs.Str.{bytes_eq};
-ghost use Rattle.fort_hier.specs.Names.{Spelling, spelling, any_spelling};
+ghost use Rattle.fort_builtin.specs.Types.{any_spelling};
+ghost use Rattle.fort_hier.specs.Names.{Spelling, spelling};
 ghost use Rattle.fort_hier.specs.Numbers.{HoldsNumbers};
 ghost use Rattle.fort_field.specs.Written.{named, parts, written, written_simple, written_next, written_list};
 
 use fort_base::{Boxed, Bytes, List, Memory, Ty, TypeId};
+use fort_builtin::ANY;
 use fort_hier::{Numbers, spelled};
 use fort_tree::{Name, NextType, SimpleType, TypeList, TypeTree};
 use std::alloc::Global;
-
-/// The one type that is no declared one.
-const ANY: &[u8] = b"Any";
 
 /// The type that a tree writes; the size is that of the list of numbered names.
 #[cycle(written)]
@@ -131,7 +130,7 @@ fn named_type(names: &[Bytes], numbers: &Numbers, size: usize, name: Name) -> Re
 }
 
 /// Whether a spelling is that of `Any`.
-#[tactic(auto, unfolding(fort_hier::specs::Names::any_spelling))]
+#[tactic(auto, unfolding(fort_builtin::specs::Types::any_spelling))]
 fn is_any(spelling: &[u8]) -> bool
     ensures { result ≡ bytes_eq spelling.now any_spelling }
 {

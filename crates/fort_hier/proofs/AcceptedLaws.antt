@@ -9,11 +9,13 @@ use Rattle.fort_hier.specs.declared.accepted.Hierarchy.{Hierarchy}
 use Rattle.fort_hier.specs.declared.heads.TypeHead.{TypeHead}
 use Rattle.fort_hier.specs.Heads.{heads_of, head_place}
 use Rattle.fort_hier.specs.Names.{Spelling}
-use Rattle.fort_hier.specs.Numbers.{all_types, built_in_declared, declared_by, declared_types, hierarchy_of, IsUnknown}
+use Rattle.fort_builtin.specs.Types.{built_in_declared}
+use Rattle.fort_builtin.proofs.PlainTypes.{built_in_count}
+use Rattle.fort_hier.specs.Numbers.{all_types, declared_by, declared_types, hierarchy_of, IsUnknown}
 use Rattle.fort_hier.specs.Lowest.{rule_number}
 use Rattle.fort_hier.specs.Hierarchies.{declares, places_of, IsHierarchy, sentence}
 use Rattle.fort_hier.proofs.NamesWalk.{as_long}
-use Rattle.fort_hier.proofs.Soundness.{sound, built_in_count}
+use Rattle.fort_hier.proofs.Soundness.{sound}
 
 module _ (c : Component) where
   pub types_by : {types : DeclaredTypes} {names : List Spelling} {heads : List TypeHead} → types ≡ hierarchy_of names heads → names ≡ c.names → heads ≡ heads_of c → types ≡ declares c

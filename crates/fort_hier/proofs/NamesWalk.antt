@@ -7,7 +7,13 @@ use Rattle.std.proofs.Math.ListN.{length-append}
 use Rattle.fort_base.specs.declared.refusal.Place.{Place}
 use Rattle.fort_hier.specs.declared.tops.Top.{Top}
 use Rattle.fort_base.specs.Places.{IsFirst, Keeps}
-use Rattle.fort_hier.specs.Names.{Spelling, spelling, Called, type_called, function_called, declared_spellings, any_spelling, type_spellings, function_spellings, built_in, called, all_called, ClashesWith, DuplicateAt, IsDuplicate}
+use Rattle.fort_builtin.specs.declared.table.TheConstants.{FUNCTION_COUNT}
+use Rattle.fort_builtin.specs.declared.types.TheConstants.{TYPE_NAME_COUNT}
+use Rattle.fort_builtin.specs.Declarations.{function_spellings}
+use Rattle.fort_builtin.specs.Types.{type_spellings}
+use Rattle.fort_builtin.proofs.DeclarationRows.{functions_long}
+use Rattle.fort_builtin.proofs.TypeRows.{names_long}
+use Rattle.fort_hier.specs.Names.{Spelling, spelling, Called, type_called, function_called, built_in, called, all_called, ClashesWith, DuplicateAt, IsDuplicate}
 use Rattle.fort_hier.specs.declared.seen.Seen.{Seen}
 use Rattle.fort_hier.specs.Seen.{HoldsSeen}
 use Rattle.fort_hier.proofs.First.{Among, first_same, first_more, first_all}
@@ -114,32 +120,24 @@ take_all [] (suc n) l = refl
 take_all (x ∷ xs) zero l = absurd (omega arith)
 take_all (x ∷ xs) (suc n) l = ap (λ z. x ∷ z) (take_all xs n (omega arith))
 
-pub types_count : length type_spellings ≡ 18
-unfolding type_spellings declared_spellings any_spelling
-types_count = refl
-
-pub functions_count : length function_spellings ≡ 6
-unfolding function_spellings
-functions_count = refl
-
 next_of : (f : Spelling → Called) (xs : List Spelling) (n : ℕ) → n < length xs → map f (take n xs) ++ f (get_or xs n []) ∷ [] ≡ map f (take (n + 1) xs)
 next_of f xs n l = sym (ap (map f) (take_more xs n [] l) ∙ map-append f (take n xs) (get_or xs n [] ∷ []))
 
 -- one built-in type more, and all of them
-pub types_step : (old new : Seen) (n : ℕ) (word : Spelling) → n < 18 → word ≡ get_or type_spellings n []
+pub types_step : (old new : Seen) (n : ℕ) (word : Spelling) → n < TYPE_NAME_COUNT → word ≡ get_or type_spellings n []
     → ((before : List Called) (x : Called) → HoldsSeen before old → x.spelling ≡ word → x.is_function ≡ false → HoldsSeen (before ++ x ∷ []) new)
     → HoldsSeen (map type_called (take n type_spellings)) old → HoldsSeen (map type_called (take (n + 1) type_spellings)) new
-types_step old new n word l e h s = let k = types_count in subst (λ z. HoldsSeen z new) (next_of type_called type_spellings n (omega arith))
+types_step old new n word l e h s = let k = names_long in subst (λ z. HoldsSeen z new) (next_of type_called type_spellings n (omega arith))
     (h (map type_called (take n type_spellings)) (type_called (get_or type_spellings n [])) s (sym e) refl)
 
-pub types_done : (seen : Seen) (n : ℕ) → 18 ≤ n → HoldsSeen (map type_called (take n type_spellings)) seen → HoldsSeen (map type_called type_spellings) seen
-types_done seen n l s = let k = types_count in subst (λ z. HoldsSeen (map type_called z) seen) (take_all type_spellings n (omega arith)) s
+pub types_done : (seen : Seen) (n : ℕ) → TYPE_NAME_COUNT ≤ n → HoldsSeen (map type_called (take n type_spellings)) seen → HoldsSeen (map type_called type_spellings) seen
+types_done seen n l s = let k = names_long in subst (λ z. HoldsSeen (map type_called z) seen) (take_all type_spellings n (omega arith)) s
 
-pub functions_step : (old new : Seen) (n : ℕ) (word : Spelling) → n < 6 → word ≡ get_or function_spellings n []
+pub functions_step : (old new : Seen) (n : ℕ) (word : Spelling) → n < FUNCTION_COUNT → word ≡ get_or function_spellings n []
     → ((before : List Called) (x : Called) → HoldsSeen before old → x.spelling ≡ word → x.is_function ≡ true → HoldsSeen (before ++ x ∷ []) new)
     → HoldsSeen (map type_called type_spellings ++ map function_called (take n function_spellings)) old
     → HoldsSeen (map type_called type_spellings ++ map function_called (take (n + 1) function_spellings)) new
-functions_step old new n word l e h s = let k = functions_count in
+functions_step old new n word l e h s = let k = functions_long in
     subst (λ z. HoldsSeen z new) (append_assoc (map type_called type_spellings) (map function_called (take n function_spellings)) (function_called (get_or function_spellings n []) ∷ [])
     ∙ ap (λ z. map type_called type_spellings ++ z) (next_of function_called function_spellings n (omega arith)))
     (h (map type_called type_spellings ++ map function_called (take n function_spellings)) (function_called (get_or function_spellings n [])) s (sym e) refl)
@@ -147,8 +145,8 @@ functions_step old new n word l e h s = let k = functions_count in
 pub functions_first : (seen : Seen) → HoldsSeen (map type_called type_spellings) seen → HoldsSeen (map type_called type_spellings ++ map function_called (take 0 function_spellings)) seen
 functions_first seen s = subst (λ z. HoldsSeen z seen) (sym (append-nil (map type_called type_spellings))) s
 
-pub functions_done : (seen : Seen) (n : ℕ) → 6 ≤ n → HoldsSeen (map type_called type_spellings ++ map function_called (take n function_spellings)) seen → HoldsSeen built_in seen
-functions_done seen n l s = let k = functions_count in subst (λ z. HoldsSeen (map type_called type_spellings ++ map function_called z) seen) (take_all function_spellings n (omega arith)) s
+pub functions_done : (seen : Seen) (n : ℕ) → FUNCTION_COUNT ≤ n → HoldsSeen (map type_called type_spellings ++ map function_called (take n function_spellings)) seen → HoldsSeen built_in seen
+functions_done seen n l s = let k = functions_long in subst (λ z. HoldsSeen (map type_called type_spellings ++ map function_called z) seen) (take_all function_spellings n (omega arith)) s
 
 -- where the walk over the names of a component stands
 pub record Walked (names : List Spelling) (tops : List Top) (i : ℕ) (held : Seen) (best : Option Place) : Type 0 where

@@ -1,7 +1,6 @@
 -- The numbers of spellings.
-use Rattle.std.proofs.Common.{◌≡◌, ◌<◌, ◌≤◌, ◌+◌, ◌↔◌, ℕ, zero, suc, Bool, true, false, cond, IsTrue, List, [], ◌∷◌, ◌++◌, length, get_or, map, take, Option, Some, None, refl, sym, ap, ◌∙◌, subst, append_assoc, add-one, arith}
+use Rattle.std.proofs.Common.{◌≡◌, ◌<◌, ◌≤◌, ◌+◌, ◌↔◌, ℕ, zero, suc, Bool, true, false, cond, IsTrue, List, [], ◌∷◌, ◌++◌, length, get_or, map, take, Option, Some, None, refl, sym, ap, ◌∙◌, subst, append_assoc, arith}
 use Rattle.std.specs.Str.{bytes_eq}
-use Rattle.std.specs.Prelude.{replicate}
 use Rattle.std.specs.List.{slice_get, Contains}
 use Rattle.std.specs.Cmp.Lexicographic.{bytes_decides}
 use Rattle.std.proofs.lemmas.Option.{slice_get_within}
@@ -12,7 +11,10 @@ use Rattle.fort_tree.specs.declared.spot.Name.{Name}
 use Rattle.fort_hier.specs.declared.heads.TypeHead.{TypeHead}
 use Rattle.fort_hier.specs.declared.numbers.Numbers.{Numbers}
 use Rattle.fort_base.specs.Places.{IsFirst, Keeps}
-use Rattle.fort_hier.specs.Names.{Spelling, spelling, declared_spellings, any_spelling, type_spellings}
+use Rattle.fort_builtin.specs.declared.types.TheConstants.{TYPE_COUNT, TYPE_NAME_COUNT}
+use Rattle.fort_builtin.specs.Types.{declared_spellings, any_spelling, type_spellings}
+use Rattle.fort_builtin.proofs.PlainTypes.{declared_count}
+use Rattle.fort_hier.specs.Names.{Spelling, spelling}
 use Rattle.fort_hier.specs.Numbers.{head_spelling, number_of, NumberIs, numbered_as, HoldsNumbers, IsUnknown, all_types}
 use Rattle.fort_hier.proofs.First.{Among, first_same, first_more, first_all}
 use Rattle.fort_hier.proofs.NamesWalk.{more_of, take_all}
@@ -105,10 +107,6 @@ unknown_told list s word q w = (λ e. let f : false ≡ true = e in absurd cc, �
 
 -- ---- the loops
 
-pub declared_count : length declared_spellings ≡ 17
-unfolding declared_spellings
-declared_count = refl
-
 get_front : (xs : List Spelling) (y : Spelling) (n : ℕ) → n < length xs → get_or (xs ++ y ∷ []) n [] ≡ get_or xs n []
 get_front [] y n l = absurd (omega arith)
 get_front (x ∷ xs) y zero l = refl
@@ -118,11 +116,11 @@ get_end : (xs : List Spelling) (y : Spelling) → get_or (xs ++ y ∷ []) (lengt
 get_end [] y = refl
 get_end (x ∷ xs) y = get_end xs y
 
-pub type_is : (n : ℕ) → n < 17 → get_or type_spellings n [] ≡ get_or declared_spellings n []
+pub type_is : (n : ℕ) → n < TYPE_COUNT → get_or type_spellings n [] ≡ get_or declared_spellings n []
 unfolding type_spellings
 type_is n l = let c = declared_count in get_front declared_spellings any_spelling n (omega arith)
 
-pub any_is : get_or type_spellings 17 [] ≡ any_spelling
+pub any_is : get_or type_spellings TYPE_COUNT [] ≡ any_spelling
 unfolding type_spellings
 any_is = ap (λ n. get_or (declared_spellings ++ any_spelling ∷ []) n []) (sym declared_count) ∙ get_end declared_spellings any_spelling
 
@@ -131,14 +129,14 @@ taken_long xs zero l = refl
 taken_long [] (suc n) l = absurd (omega arith)
 taken_long (x ∷ xs) (suc n) l = let e = taken_long xs n (omega arith) in omega arith
 
-pub built_in_step : (old new : Numbers) (n : ℕ) (word : Spelling) → n < 17 → word ≡ get_or type_spellings n []
+pub built_in_step : (old new : Numbers) (n : ℕ) (word : Spelling) → n < TYPE_COUNT → word ≡ get_or type_spellings n []
     → ((list : List Spelling) → HoldsNumbers list old → length list ≡ n → HoldsNumbers (list ++ word ∷ []) new)
     → HoldsNumbers (take n declared_spellings) old → HoldsNumbers (take (n + 1) declared_spellings) new
 built_in_step old new n word l e h s = let c = declared_count in
     subst (λ z. HoldsNumbers z new) (ap (λ z. take n declared_spellings ++ z ∷ []) (e ∙ type_is n l) ∙ sym (take_more declared_spellings n [] (omega arith)))
     (h (take n declared_spellings) s (taken_long declared_spellings n (omega arith)))
 
-pub built_in_done : (numbers : Numbers) (n : ℕ) → 17 ≤ n → HoldsNumbers (take n declared_spellings) numbers → HoldsNumbers declared_spellings numbers
+pub built_in_done : (numbers : Numbers) (n : ℕ) → TYPE_COUNT ≤ n → HoldsNumbers (take n declared_spellings) numbers → HoldsNumbers declared_spellings numbers
 built_in_done numbers n l s = let c = declared_count in subst (λ z. HoldsNumbers z numbers) (take_all declared_spellings n (omega arith)) s
 
 as_long : {X Y : Type 0} (f : X → Y) (xs : List X) → length (map f xs) ≡ length xs
@@ -154,7 +152,7 @@ pub heads_start : (names : List Spelling) (heads : List TypeHead) (numbers : Num
 heads_start names heads numbers s = subst (λ z. HoldsNumbers z numbers) (sym (append-nil declared_spellings)) s
 
 pub heads_next : (names : List Spelling) (heads : List TypeHead) (old new : Numbers) (i : ℕ) (head : TypeHead) (word : Spelling) → slice_get heads i ≡ Some head → word ≡ spelling names head.name
-    → ((list : List Spelling) → HoldsNumbers list old → length list ≡ 17 + i → HoldsNumbers (list ++ word ∷ []) new)
+    → ((list : List Spelling) → HoldsNumbers list old → length list ≡ TYPE_COUNT + i → HoldsNumbers (list ++ word ∷ []) new)
     → HoldsNumbers (declared_spellings ++ map (head_spelling names) (take i heads)) old → HoldsNumbers (declared_spellings ++ map (head_spelling names) (take (i + 1) heads)) new
 heads_next names heads old new i head word e w h s = let c = declared_count in let l = slice_get_within heads i head e in
     let a = length-append declared_spellings (map (head_spelling names) (take i heads)) in let m = as_long (head_spelling names) (take i heads) in let n = heads_long heads i (omega arith) in
@@ -170,8 +168,8 @@ pub heads_done : (names : List Spelling) (heads : List TypeHead) (numbers : Numb
     → HoldsNumbers (declared_spellings ++ map (head_spelling names) heads) numbers
 heads_done names heads numbers i l s = subst (λ z. HoldsNumbers (declared_spellings ++ map (head_spelling names) z) numbers) (heads_whole heads i l) s
 
-pub any_last : (names : List Spelling) (heads : List TypeHead) (old new : Numbers) (word : Spelling) → word ≡ get_or type_spellings 17 []
-    → ((list : List Spelling) → HoldsNumbers list old → length list ≡ 17 + length heads → HoldsNumbers (list ++ word ∷ []) new)
+pub any_last : (names : List Spelling) (heads : List TypeHead) (old new : Numbers) (word : Spelling) → word ≡ get_or type_spellings TYPE_COUNT []
+    → ((list : List Spelling) → HoldsNumbers list old → length list ≡ TYPE_COUNT + length heads → HoldsNumbers (list ++ word ∷ []) new)
     → HoldsNumbers (declared_spellings ++ map (head_spelling names) heads) old → HoldsNumbers (all_types names heads) new
 any_last names heads old new word e h s = let c = declared_count in let a = length-append declared_spellings (map (head_spelling names) heads) in let m = as_long (head_spelling names) heads in
     subst (λ z. HoldsNumbers ((declared_spellings ++ map (head_spelling names) heads) ++ z ∷ []) new) (e ∙ any_is) (h (declared_spellings ++ map (head_spelling names) heads) s (omega arith))
@@ -200,19 +198,6 @@ unknown_all list names mentioned k best l f = first_all (UnknownAt list names me
 
 -- ---- lists of types
 
-pub repeated : {X : Type 0} (n : ℕ) (x : X) → replicate n x ++ x ∷ [] ≡ replicate (n + 1) x
-repeated n x = more n ∙ ap (λ z. replicate z x) (sym (add-one n))
-  where
-    more : (n : ℕ) → replicate n x ++ x ∷ [] ≡ replicate (suc n) x
-    more zero = refl
-    more (suc n) = ap (λ l. x ∷ l) (more n)
-
-pub repeat_step : {X : Type 0} (front done new : List X) (n : ℕ) (x : X) → done ≡ front ++ replicate n x → new ≡ done ++ x ∷ [] → new ≡ front ++ replicate (n + 1) x
-repeat_step front done new n x d e = e ∙ ap (λ l. l ++ x ∷ []) d ∙ append_assoc front (replicate n x) (x ∷ []) ∙ ap (λ l. front ++ l) (repeated n x)
-
-pub repeat_all : {X : Type 0} (front done : List X) (n count : ℕ) (x : X) → n ≡ count → done ≡ front ++ replicate n x → done ≡ front ++ replicate count x
-repeat_all front done n count x e d = d ∙ ap (λ z. front ++ replicate z x) e
-
 -- a mapped list behind a front, one more and all
 pub mapped_step : {X Y : Type 0} (f : X → Y) (front done new : List Y) (xs : List X) (i : ℕ) (x : X) (y : Y) → slice_get xs i ≡ Some x → y ≡ f x → new ≡ done ++ y ∷ [] → done ≡ front ++ map f (take i xs)
     → new ≡ front ++ map f (take (i + 1) xs)
@@ -222,16 +207,7 @@ mapped_step f front done new xs i x y e q n d = n ∙ ap (λ z. done ++ z ∷ []
 pub mapped_all : {X Y : Type 0} (f : X → Y) (front done : List Y) (xs : List X) (i : ℕ) → length xs ≤ i → done ≡ front ++ map f (take i xs) → done ≡ front ++ map f xs
 mapped_all f front done xs i l d = d ∙ ap (λ z. front ++ map f z) (take_all xs i l)
 
--- the names of the built-in declared types, one more and all
-pub declared_step : (done new : List Spelling) (n : ℕ) (word : Spelling) → n < 17 → word ≡ get_or type_spellings n [] → new ≡ done ++ word ∷ [] → done ≡ take n declared_spellings
-    → new ≡ take (n + 1) declared_spellings
-declared_step done new n word l e q d = let c = declared_count in
-    q ∙ ap (λ z. z ++ word ∷ []) d ∙ ap (λ z. take n declared_spellings ++ z ∷ []) (e ∙ type_is n l) ∙ sym (take_more declared_spellings n [] (omega arith))
-
-pub declared_all : (done : List Spelling) (n : ℕ) → 17 ≤ n → done ≡ take n declared_spellings → done ≡ declared_spellings
-declared_all done n l d = let c = declared_count in d ∙ take_all declared_spellings n (omega arith)
-
 -- how many names of types there are
-pub all_long : (names : List Spelling) (heads : List TypeHead) → length (all_types names heads) ≡ 18 + length heads
+pub all_long : (names : List Spelling) (heads : List TypeHead) → length (all_types names heads) ≡ TYPE_NAME_COUNT + length heads
 all_long names heads = let c = declared_count in let a = length-append (declared_spellings ++ map (head_spelling names) heads) (any_spelling ∷ []) in
     let b = length-append declared_spellings (map (head_spelling names) heads) in let m = as_long (head_spelling names) heads in omega arith

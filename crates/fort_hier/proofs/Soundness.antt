@@ -1,67 +1,24 @@
 -- An accepted component's declared types keep the rules of a sound hierarchy, the built-in ones among them.
-use Rattle.std.proofs.Common.{◌≡◌, ◌<◌, ◌≤◌, ◌+◌, ◌-◌, ◌⊎◌, inl, inr, ℕ, zero, suc, Bool, true, false, List, [], ◌∷◌, ◌++◌, length, get_or, Some, refl, sym, ap, subst, arith}
-use Rattle.std.specs.Prelude.{replicate}
+use Rattle.std.proofs.Common.{◌≡◌, ◌<◌, ◌≤◌, ◌+◌, ◌-◌, ◌⊎◌, inl, inr, ℕ, zero, suc, Bool, true, false, List, [], ◌∷◌, ◌++◌, length, get_or, Some, refl, subst, arith}
 use Rattle.std.specs.List.{slice_get, Contains}
 use Rattle.std.proofs.lemmas.Option.{slice_get_within, slice_get-get_or}
-use Rattle.std.proofs.lemmas.List.{length-replicate}
 use Rattle.std.proofs.Math.ListN.{length-append}
 use Rattle.fort_base.specs.declared.refusal.Place.{Place}
 use Rattle.fort_base.specs.declared.table.TypeTable.{TypeTable}
 use Rattle.fort_types.specs.declared.hierarchy.DeclaredType.{DeclaredType}
-use Rattle.fort_types.specs.declared.hierarchy.TypeKind.TheVariants as a_kind
 use Rattle.fort_types.specs.Hierarchy.{DeclaredTypes, Path, stop, along, Extends, Leaf, Excludes, Lists, Sound}
 use Rattle.fort_types.specs.Table.{is_set, HasRows}
 use Rattle.fort_types.proofs.Paths.{start_inside}
+use Rattle.fort_builtin.specs.declared.types.TheConstants.{TYPE_COUNT}
+use Rattle.fort_builtin.specs.Types.{built_in_declared}
+use Rattle.fort_builtin.proofs.PlainTypes.{IsPlain, plain_at, low_is_trait, built_in_count}
 use Rattle.fort_hier.specs.declared.sentences.Sentence.{Sentence}
 use Rattle.fort_hier.specs.declared.sentences.Sentence.TheVariants as sentence
-use Rattle.fort_hier.specs.Numbers.{plain, built_in_declared}
 use Rattle.fort_hier.specs.Sentences.{Breaks, BreaksAt}
 use Rattle.fort_hier.proofs.ByRows.{path_of, set_to}
 
--- ---- built-in types
-
--- what a built-in type of that number is like
-record IsPlain (a : ℕ) (d : DeclaredType) : Type 0 where
-  upwards : (b : ℕ) → Contains d.extends b → (b < a) × (b < 2)
-  nothing_excluded : (b : ℕ) → Contains d.excludes b → ⊥
-  nothing_listed : (b : ℕ) → Contains d.comprises b → ⊥
-
 none : (b : ℕ) → Contains [] b → ⊥
 none b w = let l = w.1 in omega arith
-
-only_one : (x b : ℕ) → Contains (x ∷ []) b → x ≡ b
-only_one x b (zero, l, e) = e
-only_one x b (suc k, l, e) = absurd (omega arith)
-
--- a front of equal items, and the rest
-in_front : {X : Type 0} (n : ℕ) (x : X) (ys : List X) (k : ℕ) (d : X) → slice_get (replicate n x ++ ys) k ≡ Some d → (x ≡ d) ⊎ ((j : ℕ) × (slice_get ys j ≡ Some d))
-in_front zero x ys k d e = inr (k, e)
-in_front (suc n) x ys zero d e = inl (let s : x ≡ d = cc in s)
-in_front (suc n) x ys (suc k) d e = in_front n x ys k d e
-
-all_same : {X : Type 0} (n : ℕ) (x : X) (k : ℕ) (d : X) → slice_get (replicate n x) k ≡ Some d → x ≡ d
-all_same zero x k d e = absurd cc
-all_same (suc n) x zero d e = let s : x ≡ d = cc in s
-all_same (suc n) x (suc k) d e = all_same n x k d e
-
-object : (kind : _) (a x : ℕ) → x < 2 → x < a → IsPlain a (plain kind (x ∷ []))
-object kind a x l m = record {
-  upwards = λ b w. let e = only_one x b w in (omega arith, omega arith);
-  nothing_excluded = none;
-  nothing_listed = none;
-}
-
-plain_at : (a : ℕ) (d : DeclaredType) → slice_get built_in_declared a ≡ Some d → IsPlain a d
-plain_at zero d e = subst (IsPlain 0) (let s : plain a_kind.Trait [] ≡ d = cc in s) (record { upwards = λ b w. absurd (none b w); nothing_excluded = none; nothing_listed = none })
-plain_at (suc zero) d e = subst (IsPlain 1) (let s : plain a_kind.Trait (0 ∷ []) ≡ d = cc in s) (object a_kind.Trait 1 0 (omega arith) (omega arith))
-plain_at (suc (suc k)) d e = elim (in_front 5 (plain a_kind.Leaf (0 ∷ [])) (replicate 10 (plain a_kind.Object (1 ∷ []))) k d e) as (λ _. IsPlain (suc (suc k)) d) [
-  | inl s ↦ subst (IsPlain (suc (suc k))) s (object a_kind.Leaf (suc (suc k)) 0 (omega arith) (omega arith))
-  | inr w ↦ subst (IsPlain (suc (suc k))) (all_same 10 (plain a_kind.Object (1 ∷ [])) w.0 d w.1) (object a_kind.Object (suc (suc k)) 1 (omega arith) (omega arith))
-]
-
-pub built_in_count : length built_in_declared ≡ 17
-built_in_count = let a = length-append (replicate 5 (plain a_kind.Leaf (0 ∷ []))) (replicate 10 (plain a_kind.Object (1 ∷ []))) in
-    let b = length-replicate 5 (plain a_kind.Leaf (0 ∷ [])) in let c = length-replicate 10 (plain a_kind.Object (1 ∷ [])) in omega arith
 
 from_front : (xs ys : DeclaredTypes) (k : ℕ) (d : DeclaredType) → k < length xs → slice_get (xs ++ ys) k ≡ Some d → slice_get xs k ≡ Some d
 from_front [] ys k d l e = absurd (omega arith)
@@ -97,54 +54,52 @@ module _ (rest : DeclaredTypes) (places : List Place) (table : TypeTable) (long 
   abbrev h : DeclaredTypes
   h = built_in_declared ++ rest
 
-  count : length h ≡ 17 + length rest
+  count : length h ≡ TYPE_COUNT + length rest
   count = let a = length-append built_in_declared rest in let b = built_in_count in omega arith
 
-  built_in_at : (a : ℕ) (d : DeclaredType) → a < 17 → slice_get h a ≡ Some d → IsPlain a d
+  built_in_at : (a : ℕ) (d : DeclaredType) → a < TYPE_COUNT → slice_get h a ≡ Some d → IsPlain a d
   built_in_at a d l e = let b = built_in_count in plain_at a d (from_front built_in_declared rest a d (omega arith) e)
 
   -- a path from a built-in type goes to none of a greater number
-  falls : (a b : ℕ) → a < 17 → Path h a b → b ≤ a
+  falls : (a b : ℕ) → a < TYPE_COUNT → Path h a b → b ≤ a
   falls a b l stop = omega arith
   falls a b l (along {b = x} e p) = let u = (built_in_at a e.0 l e.1).upwards x e.2 in let m = falls x b (let v = u.0 in omega arith) p in let v = u.0 in omega arith
 
   no_leaf : (b : ℕ) → b < 2 → Leaf h b → ⊥
-  no_leaf zero l (d, e, n) = n (let s : plain a_kind.Trait [] ≡ d = cc in ap (λ (z : DeclaredType). z.kind) (sym s))
-  no_leaf (suc zero) l (d, e, n) = n (let s : plain a_kind.Trait (0 ∷ []) ≡ d = cc in ap (λ (z : DeclaredType). z.kind) (sym s))
-  no_leaf (suc (suc b)) l w = omega arith
+  no_leaf b l (d, e, n) = let c = built_in_count in n (low_is_trait b d l (from_front built_in_declared rest b d (omega arith) e))
 
   -- a type of the component breaks no sentence
-  none_breaks : (s : Sentence) (a : ℕ) → 17 ≤ a → a < length h → Breaks s h a → ⊥
+  none_breaks : (s : Sentence) (a : ℕ) → TYPE_COUNT ≤ a → a < length h → Breaks s h a → ⊥
   none_breaks s a l m w = let n = count in
-      kept s (get_or places (a - 17) (record { line = 0; column = 0 })) (
-        a - 17,
-        slice_get-get_or places (a - 17) (record { line = 0; column = 0 }) (omega arith),
+      kept s (get_or places (a - TYPE_COUNT) (record { line = 0; column = 0 })) (
+        a - TYPE_COUNT,
+        slice_get-get_or places (a - TYPE_COUNT) (record { line = 0; column = 0 }) (omega arith),
         subst (Breaks s h) (number a l m) w,
       )
     where
-      number : (a : ℕ) → 17 ≤ a → a < length h → a ≡ length h - length places + (a - 17)
+      number : (a : ℕ) → TYPE_COUNT ≤ a → a < length h → a ≡ length h - length places + (a - TYPE_COUNT)
       number a l m = let n = count in omega arith
 
   acyclic : (a b : ℕ) → Extends h a b → Path h b a → ⊥
-  acyclic a b e p = elim (low_or a 17) as (λ _. ⊥) [
+  acyclic a b e p = elim (low_or a TYPE_COUNT) as (λ _. ⊥) [
     | inl l ↦ (let u = (built_in_at a e.0 l e.1).upwards b e.2 in let v = u.0 in let m = falls b a (omega arith) p in omega arith)
     | inr l ↦ none_breaks sentence.Cyclic a l (slice_get_within h a e.0 e.1) (b, e, p)
   ]
 
   only_traits : (a b : ℕ) → Extends h a b → Leaf h b → ⊥
-  only_traits a b e k = elim (low_or a 17) as (λ _. ⊥) [
+  only_traits a b e k = elim (low_or a TYPE_COUNT) as (λ _. ⊥) [
     | inl l ↦ no_leaf b ((built_in_at a e.0 l e.1).upwards b e.2).1 k
     | inr l ↦ none_breaks sentence.ExtendsObject a l (slice_get_within h a e.0 e.1) (b, e, k)
   ]
 
   below_one : (a b x : ℕ) → Excludes h a b → Path h x a → Path h x b → ⊥
-  below_one a b x e p q = elim (low_or x 17) as (λ _. ⊥) [
+  below_one a b x e p q = elim (low_or x TYPE_COUNT) as (λ _. ⊥) [
     | inl l ↦ (let m = falls x a l p in (built_in_at a e.0 (omega arith) e.1).nothing_excluded b e.2)
     | inr l ↦ none_breaks sentence.ExtendsExcluded x l (start_inside h x a p (slice_get_within h a e.0 e.1)) (a, b, e, p, inr q)
   ]
 
   all_listed : (x t u : ℕ) → Extends h x t → Lists h t u → Lists h t x
-  all_listed x t u e k = elim (low_or x 17) as (λ _. Lists h t x) [
+  all_listed x t u e k = elim (low_or x TYPE_COUNT) as (λ _. Lists h t x) [
     | inl l ↦ (let v = (built_in_at x e.0 l e.1).upwards t e.2 in let m = v.1 in absurd ((built_in_at t k.0 (omega arith) k.1).nothing_listed u k.2))
     | inr l ↦ elim (has_or k.0.comprises x) as (λ _. Lists h t x) [
       | inl w ↦ (k.0, k.1, w)
@@ -163,7 +118,7 @@ module _ (rest : DeclaredTypes) (places : List Place) (table : TypeTable) (long 
       at false e = inr (λ p. let f : is_set table.below u t ≡ true = set_to h table.below u t rows.below l p in cc)
 
   listed_below : (t u : ℕ) → Lists h t u → Path h u t
-  listed_below t u k = elim (low_or t 17) as (λ _. Path h u t) [
+  listed_below t u k = elim (low_or t TYPE_COUNT) as (λ _. Path h u t) [
     | inl l ↦ absurd ((built_in_at t k.0 l k.1).nothing_listed u k.2)
     | inr l ↦ (let m = slice_get_within h t k.0 k.1 in elim (path_or u t m) as (λ _. Path h u t) [
       | inl p ↦ p

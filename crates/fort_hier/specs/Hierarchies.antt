@@ -9,6 +9,7 @@ use Rattle.fort_tree.specs.declared.declarations.Component.{Component}
 use Rattle.fort_tree.specs.declared.spot.Name.{Name}
 use Rattle.fort_types.specs.Hierarchy.{DeclaredTypes}
 use Rattle.fort_types.specs.Table.{HasRows}
+use Rattle.fort_builtin.specs.declared.types.TheConstants.{TYPE_COUNT}
 use Rattle.fort_hier.specs.declared.accepted.Hierarchy.{Hierarchy}
 use Rattle.fort_hier.specs.declared.sentences.Sentence.{Sentence}
 use Rattle.fort_base.specs.Places.{IsEarliest}
@@ -49,7 +50,7 @@ pub record IsHierarchy (c : Component) (mentioned : List Name) (h : Hierarchy) :
   pub kept : (rule : ℕ) (place : Place) → Broken c mentioned rule place → ⊥
   pub rows : HasRows (declares c) h.table
   pub names : h.names ≡ declared_types c.names (heads_of c)
-  pub bodies : h.bodies ≡ replicate 17 None ++ map head_body (heads_of c)
+  pub bodies : h.bodies ≡ replicate TYPE_COUNT None ++ map head_body (heads_of c)
   pub few : length (declares c) ≤ 2 ^ 32
 
 -- ---- one rule alone

@@ -1,7 +1,9 @@
 -- The chapter "Types", names at the top: which names clash. The code keeps the spellings that stood so far in a map.
-use Rattle.std.specs.Prelude.{◌≡◌, ℕ, Bool, true, false, ◌&&◌, List, [], ◌∷◌, ◌++◌, Option, Some, None, map, take, slice_get, get_or, codes, Contains}
+use Rattle.std.specs.Prelude.{◌≡◌, ℕ, Bool, true, false, ◌&&◌, List, [], ◌++◌, Option, Some, None, map, take, slice_get, get_or, Contains}
 use Rattle.fort_base.specs.declared.refusal.Place.{Place}
 use Rattle.fort_tree.specs.declared.spot.Name.{Name}
+use Rattle.fort_builtin.specs.Declarations.{function_spellings}
+use Rattle.fort_builtin.specs.Types.{type_spellings}
 use Rattle.fort_hier.specs.declared.tops.Top.{Top}
 
 -- a name, as its bytes
@@ -11,24 +13,6 @@ Spelling = List ℕ
 -- The spelling of a name of a component.
 abbrev pub spelling : List Spelling → Name → Spelling
 spelling names name = get_or names name.id.0 []
-
--- The names of the built-in declared types, in the order of their numbers.
-unfoldable pub declared_spellings : List Spelling
-declared_spellings = codes "Object" ∷ codes "Exception" ∷ codes "ZZ32" ∷ codes "ZZ64" ∷ codes "String" ∷ codes "Boolean" ∷ codes "Range"
-    ∷ codes "IntegerOverflow" ∷ codes "DivisionByZero" ∷ codes "NegativeExponent" ∷ codes "IndexOutOfRange" ∷ codes "NegativeSize"
-    ∷ codes "EmptyReduction" ∷ codes "MatchFailure" ∷ codes "DepthExceeded" ∷ codes "TryAtomicFailure" ∷ codes "AbortOutside" ∷ []
-
--- `Any`, which is a type but no declared one.
-unfoldable pub any_spelling : Spelling
-any_spelling = codes "Any"
-
--- The names of the built-in types, `Any` among them.
-unfoldable pub type_spellings : List Spelling
-type_spellings = declared_spellings ++ any_spelling ∷ []
-
--- The names of the built-in functions.
-unfoldable pub function_spellings : List Spelling
-function_spellings = codes "println" ∷ codes "print" ∷ codes "abort" ∷ codes "widen" ∷ codes "narrow" ∷ codes "length" ∷ []
 
 -- A name at the top: its spelling, whether it is a function's, and its place, which a built-in one has not.
 pub record Called : Type 0 where

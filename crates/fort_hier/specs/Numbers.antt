@@ -1,16 +1,16 @@
 -- The chapter "Types", names at the top: the numbers of types, and the hierarchy that a component declares. The code looks names up in a map.
-use Rattle.std.specs.Prelude.{◌≡◌, ◌<◌, ℕ, suc, List, [], ◌∷◌, ◌++◌, Option, Some, None, cond, map, length, replicate, slice_get, Contains}
+use Rattle.std.specs.Prelude.{◌≡◌, ◌<◌, ℕ, suc, List, [], ◌∷◌, ◌++◌, Option, Some, None, cond, map, length, slice_get, Contains}
 use Rattle.std.specs.Str.{bytes_eq}
 use Rattle.indexmap.specs.IndexMap.{get_by}
 use Rattle.fort_base.specs.declared.refusal.Place.{Place}
 use Rattle.fort_types.specs.declared.hierarchy.DeclaredType.{DeclaredType}
-use Rattle.fort_types.specs.declared.hierarchy.TypeKind.{TypeKind}
-use Rattle.fort_types.specs.declared.hierarchy.TypeKind.TheVariants as a_kind
 use Rattle.fort_types.specs.Hierarchy.{DeclaredTypes}
 use Rattle.fort_tree.specs.declared.spot.Name.{Name}
 use Rattle.fort_hier.specs.declared.heads.TypeHead.{TypeHead}
 use Rattle.fort_hier.specs.declared.numbers.Numbers.{Numbers}
-use Rattle.fort_hier.specs.Names.{Spelling, spelling, declared_spellings, any_spelling}
+use Rattle.fort_builtin.specs.declared.types.TheConstants.{OBJECT}
+use Rattle.fort_builtin.specs.Types.{declared_spellings, any_spelling, built_in_declared}
+use Rattle.fort_hier.specs.Names.{Spelling, spelling}
 
 -- the spelling of a declared type
 abbrev pub head_spelling : List Spelling → TypeHead → Spelling
@@ -33,9 +33,9 @@ number_of (x ∷ list) s = cond (bytes_eq s x) 0 (suc (number_of list s))
 abbrev pub number : List Spelling → List Spelling → Name → ℕ
 number list names name = number_of list (spelling names name)
 
--- A type without `extends` extends `Object`, which has the number 0.
+-- A type without `extends` extends `Object`.
 abbrev pub extends_numbers : List Spelling → List Spelling → Option (List Name) → List ℕ
-extends_numbers list names None = 0 ∷ []
+extends_numbers list names None = OBJECT.0 ∷ []
 extends_numbers list names (Some extends) = map (number list names) extends
 
 -- What a head declares, by numbers.
@@ -46,14 +46,6 @@ declared_by list names head = record {
   excludes = map (number list names) head.excludes;
   comprises = map (number list names) head.comprises;
 }
-
--- a built-in type, which extends these, excludes nothing and has no list
-abbrev pub plain : TypeKind → List ℕ → DeclaredType
-plain kind extends = record { kind = kind; extends = extends; excludes = []; comprises = [] }
-
--- The built-in declared types: `Object`; `Exception`, which extends it; five leaves below `Object`; ten objects that extend `Exception`.
-abbrev pub built_in_declared : List DeclaredType
-built_in_declared = plain a_kind.Trait [] ∷ plain a_kind.Trait (0 ∷ []) ∷ (replicate 5 (plain a_kind.Leaf (0 ∷ [])) ++ replicate 10 (plain a_kind.Object (1 ∷ [])))
 
 -- The hierarchy that heads declare.
 abbrev pub hierarchy_of : List Spelling → List TypeHead → DeclaredTypes

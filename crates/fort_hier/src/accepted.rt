@@ -1,12 +1,12 @@
 //! What an accepted component declares.
 ghost use Rattle.std.specs.Prelude.{◌≡◌, ◌≤◌, ◌++◌, IfOk, map, replicate, None};
 ghost use Rattle.fort_hier.specs.Heads.{head_place, head_body};
-ghost use Rattle.fort_hier.specs.Names.{declared_spellings};
 ghost use Rattle.fort_hier.specs.Numbers.{declared_types};
 
 use crate::heads::TypeHead;
-use crate::spellings::{DECLARED_NAMES, spelled, type_name};
+use crate::spellings::spelled;
 use fort_base::{Bytes, List, Memory, Place, TypeTable};
+use fort_builtin::{TYPE_COUNT, names as built_in_names};
 use std::alloc::Global;
 
 /// The declared types of an accepted component by their numbers, built-in ones first and then the
@@ -43,20 +43,9 @@ pub fn names_in(alloc: Global, names: &[Bytes], heads: &[TypeHead]) -> Result<Li
     Ok(list)
 }
 
-/// The names of the built-in declared types.
-fn built_in_names(alloc: Global) -> Result<List<Bytes>, Memory>
-    ensures { IfOk result (λ list. list ≡ declared_spellings) }
-{
-    let mut list = List::new(alloc);
-    for number in 0..DECLARED_NAMES {
-        list.push(List::from_slice(alloc, type_name(number))?)?;
-    }
-    Ok(list)
-}
-
 /// The declarations of the declared types, by their numbers.
 pub fn bodies_in(alloc: Global, heads: &[TypeHead]) -> Result<List<Option<u32>>, Memory>
-    ensures { IfOk result (λ bodies. bodies ≡ replicate 17 None ++ map head_body heads.now) }
+    ensures { IfOk result (λ bodies. bodies ≡ replicate TYPE_COUNT None ++ map head_body heads.now) }
 {
     let mut bodies = built_in_bodies(alloc)?;
     for i in 0..heads.len() {
@@ -67,10 +56,10 @@ pub fn bodies_in(alloc: Global, heads: &[TypeHead]) -> Result<List<Option<u32>>,
 
 /// The built-in types have no declaration.
 fn built_in_bodies(alloc: Global) -> Result<List<Option<u32>>, Memory>
-    ensures { IfOk result (λ bodies. bodies ≡ replicate 17 None) }
+    ensures { IfOk result (λ bodies. bodies ≡ replicate TYPE_COUNT None) }
 {
     let mut bodies = List::new(alloc);
-    for number in 0..DECLARED_NAMES {
+    for number in 0..TYPE_COUNT {
         bodies.push(None)?;
     }
     Ok(bodies)

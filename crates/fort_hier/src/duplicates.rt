@@ -1,13 +1,15 @@
 //! Two names at the top that are one.
 ghost use Rattle.std.specs.Prelude.{◌++◌, [], map, IfOk, OnOk};
 ghost use Rattle.fort_base.specs.Places.{IsFirst};
-ghost use Rattle.fort_hier.specs.Names.{IsDuplicate, all_called, built_in, type_called, type_spellings};
+ghost use Rattle.fort_builtin.specs.Types.{type_spellings};
+ghost use Rattle.fort_hier.specs.Names.{IsDuplicate, all_called, built_in, type_called};
 ghost use Rattle.fort_hier.specs.Seen.{HoldsSeen};
 
 use crate::seen::Seen;
-use crate::spellings::{FUNCTION_NAMES, TYPE_NAMES, function_name, spelled, type_name};
+use crate::spellings::spelled;
 use crate::tops::Top;
 use fort_base::{Bytes, Memory, Place, earlier};
+use fort_builtin::{FUNCTION_COUNT, TYPE_NAME_COUNT, function_name, type_name};
 use std::alloc::Global;
 
 /// The earliest place of a name at the top that clashes with one before it, or `None` where none does.
@@ -44,7 +46,7 @@ fn add_types<'a>(seen: &mut Seen<'a>) -> Result<(), Memory>
     requires { HoldsSeen [] seen.old }
     ensures { OnOk result (HoldsSeen (map type_called type_spellings) seen.new) }
 {
-    for number in 0..TYPE_NAMES {
+    for number in 0..TYPE_NAME_COUNT {
         let _ = seen.add(type_name(number), false)?;
     }
     Ok(())
@@ -55,7 +57,7 @@ fn add_functions<'a>(seen: &mut Seen<'a>) -> Result<(), Memory>
     requires { HoldsSeen (map type_called type_spellings) seen.old }
     ensures { OnOk result (HoldsSeen built_in seen.new) }
 {
-    for number in 0..FUNCTION_NAMES {
+    for number in 0..FUNCTION_COUNT {
         let _ = seen.add(function_name(number), true)?;
     }
     Ok(())

@@ -1,11 +1,13 @@
 //! The numbers of types by their spellings.
 ghost use Rattle.std.specs.Prelude.{◌≡◌, ◌++◌, ◌∷◌, ◌<◌, ◌^◌, [], length, map, IfOk, OnOk, List as Seq};
-ghost use Rattle.fort_hier.specs.Names.{Spelling, declared_spellings};
+ghost use Rattle.fort_builtin.specs.Types.{declared_spellings};
+ghost use Rattle.fort_hier.specs.Names.{Spelling};
 ghost use Rattle.fort_hier.specs.Numbers.{NumberIs, HoldsNumbers, all_types, number_of, head_spelling};
 
 use crate::heads::TypeHead;
-use crate::spellings::{DECLARED_NAMES, spelled, type_name};
+use crate::spellings::spelled;
 use fort_base::{Bytes, Memory};
+use fort_builtin::{TYPE_COUNT, type_name};
 use indexmap::IndexMap;
 use std::alloc::Global;
 
@@ -27,7 +29,7 @@ pub fn numbers_in<'a>(
     let mut numbers = Numbers::new(alloc);
     add_built_in(&mut numbers)?;
     add_heads(names, heads, &mut numbers)?;
-    numbers.add(type_name(DECLARED_NAMES), DECLARED_NAMES + heads.len())?;
+    numbers.add(type_name(TYPE_COUNT), TYPE_COUNT + heads.len())?;
     Ok(numbers)
 }
 
@@ -36,7 +38,7 @@ fn add_built_in<'a>(numbers: &mut Numbers<'a>) -> Result<(), Memory>
     requires { HoldsNumbers [] numbers.old }
     ensures { OnOk result (HoldsNumbers declared_spellings numbers.new) }
 {
-    for number in 0..DECLARED_NAMES {
+    for number in 0..TYPE_COUNT {
         numbers.add(type_name(number), number)?;
     }
     Ok(())
@@ -53,7 +55,7 @@ fn add_heads<'a>(
     ensures { OnOk result (HoldsNumbers (declared_spellings ++ map (head_spelling names.now) heads.now) numbers.new) }
 {
     for i in 0..heads.len() {
-        numbers.add(spelled(names, heads[i].name), DECLARED_NAMES + i)?;
+        numbers.add(spelled(names, heads[i].name), TYPE_COUNT + i)?;
     }
     Ok(())
 }

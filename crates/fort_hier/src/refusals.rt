@@ -15,12 +15,12 @@ use crate::duplicates::first_duplicate;
 use crate::heads::TypeHead;
 use crate::lowest::lowest_broken;
 use crate::numbers::numbers_in;
-use crate::spellings::DECLARED_NAMES;
 use crate::tops::tops_in;
 use crate::types::types_in;
 use crate::unknown::first_unknown;
 use fort_base::rules::{DUPLICATE_NAME, UNKNOWN_TYPE};
 use fort_base::{Bytes, CheckFault, List, TypeTable};
+use fort_builtin::TYPE_NAME_COUNT;
 use fort_tree::{Component, Name};
 use fort_types::DeclaredType;
 use std::alloc::Global;
@@ -54,7 +54,7 @@ pub fn known_types(
     if let Some(place) = first_unknown(names, &numbers, mentioned) {
         return Err(CheckFault::Refused(UNKNOWN_TYPE, place));
     }
-    let size = DECLARED_NAMES + 1 + heads.len();
+    let size = TYPE_NAME_COUNT + heads.len();
     let types = types_in(alloc, names, &numbers, size, heads)?;
     Ok(types)
 }

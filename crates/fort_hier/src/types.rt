@@ -1,14 +1,16 @@
 //! The declared types by numbers.
-ghost use Rattle.std.specs.Prelude.{◌≡◌, ◌++◌, ◌∷◌, [], length, map, replicate, IfOk, OnOk, List as Seq};
+ghost use Rattle.std.specs.Prelude.{◌≡◌, ◌++◌, length, map, IfOk, List as Seq};
+ghost use Rattle.fort_builtin.specs.Types.{built_in_declared};
 ghost use Rattle.fort_hier.specs.Names.{Spelling};
-ghost use Rattle.fort_hier.specs.Numbers.{HoldsNumbers, built_in_declared, declared_by, extends_numbers, number, plain};
+ghost use Rattle.fort_hier.specs.Numbers.{HoldsNumbers, declared_by, extends_numbers, number};
 
 use crate::heads::TypeHead;
 use crate::numbers::Numbers;
 use crate::spellings::spelled;
 use fort_base::{Bytes, List, Memory};
+use fort_builtin::{OBJECT, declared_types};
 use fort_tree::Name;
-use fort_types::{DeclaredType, TypeKind};
+use fort_types::DeclaredType;
 use std::alloc::Global;
 
 /// The declared types that heads declare, built-in ones first; the size is that of the list of numbered names.
@@ -22,51 +24,11 @@ pub fn types_in(
     ensures { IfOk result (λ types. (list : Seq Spelling) → HoldsNumbers list numbers.now → length list ≡ size
         → types ≡ built_in_declared ++ map (declared_by list names.now) heads.now) }
 {
-    let mut types = built_in(alloc)?;
+    let mut types = declared_types(alloc)?;
     for i in 0..heads.len() {
         types.push(declared(alloc, names, numbers, size, &heads[i])?)?;
     }
     Ok(types)
-}
-
-/// The built-in declared types.
-fn built_in(alloc: Global) -> Result<List<DeclaredType>, Memory>
-    ensures { IfOk result (λ types. types ≡ built_in_declared) }
-{
-    let mut types = List::new(alloc);
-    types.push(simple(alloc, TypeKind::Trait, &[])?)?;
-    types.push(simple(alloc, TypeKind::Trait, &[0])?)?;
-    add_simple(alloc, TypeKind::Leaf, 0, 5, &mut types)?;
-    add_simple(alloc, TypeKind::Object, 1, 10, &mut types)?;
-    Ok(types)
-}
-
-/// Adds so many types of a kind that extend one type.
-fn add_simple(
-    alloc: Global,
-    kind: TypeKind,
-    above: usize,
-    count: usize,
-    types: &mut List<DeclaredType>,
-) -> Result<(), Memory>
-    ensures { OnOk result (types.new ≡ types.old ++ replicate count (plain kind (above ∷ []))) }
-{
-    for i in 0..count {
-        types.push(simple(alloc, kind, &[above])?)?;
-    }
-    Ok(())
-}
-
-/// A type that excludes nothing and has no list.
-fn simple(alloc: Global, kind: TypeKind, extends: &[usize]) -> Result<DeclaredType, Memory>
-    ensures { IfOk result (λ declared. declared ≡ plain kind extends.now) }
-{
-    Ok(DeclaredType {
-        kind,
-        extends: List::from_slice(alloc, extends)?,
-        excludes: List::new(alloc),
-        comprises: List::new(alloc),
-    })
 }
 
 /// What a head declares.
@@ -104,7 +66,7 @@ fn extended(
 {
     match extends {
         Some(list) => numbered(alloc, names, numbers, size, list.as_slice()),
-        None => List::from_slice(alloc, &[0]),
+        None => List::from_slice(alloc, &[OBJECT.0 as usize]),
     }
 }
 

@@ -15,11 +15,13 @@ use Rattle.fort_type_names.specs.TypeNames.{type_names}
 use Rattle.fort_hier.specs.declared.accepted.Hierarchy.{Hierarchy}
 use Rattle.fort_hier.specs.Heads.{heads_of}
 use Rattle.fort_hier.specs.Hierarchies.{declares, IsHierarchy, unknown}
-use Rattle.fort_hier.specs.Names.{Spelling, spelling, any_spelling, declared_spellings}
-use Rattle.fort_hier.specs.Numbers.{number_of, declared_types, declared_by, built_in_declared, head_spelling, all_types}
+use Rattle.fort_builtin.specs.declared.types.TheConstants.{TYPE_COUNT}
+use Rattle.fort_builtin.specs.Types.{any_spelling, declared_spellings, built_in_declared}
+use Rattle.fort_builtin.proofs.PlainTypes.{built_in_count, declared_count}
+use Rattle.fort_hier.specs.Names.{Spelling, spelling}
+use Rattle.fort_hier.specs.Numbers.{number_of, declared_types, declared_by, head_spelling, all_types}
 use Rattle.fort_hier.proofs.NamesWalk.{as_long}
-use Rattle.fort_hier.proofs.NumberLaws.{unknown_past, declared_count}
-use Rattle.fort_hier.proofs.Soundness.{built_in_count}
+use Rattle.fort_hier.proofs.NumberLaws.{unknown_past}
 use Rattle.fort_set.specs.declared.member.Member.{Member}
 use Rattle.fort_set.specs.declared.member.MemberSet.{MemberSet}
 use Rattle.fort_set.specs.declared.member.MemberKind.TheVariants as a_kind
@@ -38,7 +40,7 @@ use Rattle.fort_member.proofs.EntryLaws.{IsPlaced, good_declared}
 -- ---- a declaration of a set
 
 -- A declaration of a set comes of one of all declarations.
-abbrev ComesFrom : Key → List Entry → Member → Type 0
+abbrev pub ComesFrom : Key → List Entry → Member → Type 0
 ComesFrom k es d = (e : Entry) × (j : ℕ) × (slice_get es j ≡ Some e) × (belongs k e ≡ true) × (e.member ≡ d)
 
 later : (k : Key) (x : Entry) (es : List Entry) (d : Member) → ComesFrom k es d → ComesFrom k (x ∷ es) d
@@ -50,11 +52,11 @@ from_step k x es zero d true p rest e = let s : x.member ≡ d = cc in (x, 0, re
 from_step k x es (suc i) d true p rest e = later k x es d (rest i e)
 from_step k x es i d false p rest e = later k x es d (rest i e)
 
-comes_from : (k : Key) (es : List Entry) (d : Member) (i : ℕ) → slice_get (map member_of (filter (belongs k) es)) i ≡ Some d → ComesFrom k es d
+pub comes_from : (k : Key) (es : List Entry) (d : Member) (i : ℕ) → slice_get (map member_of (filter (belongs k) es)) i ≡ Some d → ComesFrom k es d
 comes_from k [] d i e = absurd cc
 comes_from k (x ∷ es) d i e = from_step k x es i d (belongs k x) refl (comes_from k es d) e
 
-width_is : (k : Key) (es : List Entry) (d : Member) → ComesFrom k es d → length d.parameters ≡ k.width
+pub width_is : (k : Key) (es : List Entry) (d : Member) → ComesFrom k es d → length d.parameters ≡ k.width
 width_is k es d (e, j, g, b, m) = ap (λ (z : Member). length z.parameters) (sym m) ∙ sym (ap (λ (z : Key). z.width) (key_told k (key_of e) b))
 
 well_made : (h : types.DeclaredTypes) (k : Key) (es : List Entry) → AllByRecursion (IsGood (length h)) es → IsWellMade h (set_of es k)
@@ -125,7 +127,7 @@ module _ (c : Component) where
   abbrev Known : Name → Type 0
   Known x = number_of (types_of c) (spelling c.names x) < length (types_of c)
 
-  counts : (length declared ≡ 17 + length (heads_of c)) × (length (declares c) ≡ 17 + length (heads_of c))
+  counts : (length declared ≡ TYPE_COUNT + length (heads_of c)) × (length (declares c) ≡ TYPE_COUNT + length (heads_of c))
   counts = let a = length-append declared_spellings (map (head_spelling c.names) (heads_of c)) in let b = declared_count in let d = as_long (head_spelling c.names) (heads_of c) in
       let e = length-append built_in_declared (map (declared_by (all_types c.names (heads_of c)) c.names) (heads_of c)) in let f = built_in_count in
       let g = as_long (declared_by (all_types c.names (heads_of c)) c.names) (heads_of c) in (omega arith, omega arith)

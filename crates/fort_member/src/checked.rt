@@ -17,6 +17,7 @@ use crate::entries::entries_in;
 use crate::sets::sets_in;
 use crate::variables::variables_in;
 use fort_base::{Bytes, CheckFault, List, Memory, Place};
+use fort_builtin::{TYPE_COUNT, TYPE_NAME_COUNT};
 use fort_field::fields;
 use fort_hier::{Hierarchy, Numbers, TypeHead, heads_in, numbers_in, places_in, types_in};
 use fort_set::{Field, MemberSet, Members};
@@ -24,10 +25,6 @@ use fort_tree::{Component, Declared};
 use fort_types::{DeclaredType, TypeKind};
 use std::alloc::Global;
 
-/// How many names of types are built in, `Any` among them.
-const TYPE_NAMES: usize = 18;
-/// How many of these are names of declared types.
-const BUILT_IN_TYPES: usize = 17;
 /// More types than this have no numbers.
 const MOST_TYPES: usize = 0x4000_0000;
 
@@ -69,7 +66,7 @@ fn members_over(
     ensures { IfOk result (AreOver names.now heads.now declarations.now fields) }
 {
     let numbers = numbers_in(alloc, names, heads)?;
-    let size = TYPE_NAMES + heads.len();
+    let size = TYPE_NAME_COUNT + heads.len();
     let types = types_in(alloc, names, &numbers, size, heads)?;
     Ok(Members {
         places: places_of_types(alloc, heads)?,
@@ -97,7 +94,7 @@ fn sets_of_all(
 
 /// The places of all types, by their numbers.
 fn places_of_types(alloc: Global, heads: &[TypeHead]) -> Result<List<Option<Place>>, Memory>
-    ensures { IfOk result (λ all. all ≡ replicate 17 None ++ map Some (map head_place heads.now)) }
+    ensures { IfOk result (λ all. all ≡ replicate TYPE_COUNT None ++ map Some (map head_place heads.now)) }
 {
     let places = places_in(alloc, heads)?;
     places_behind(alloc, places.as_slice())
@@ -105,10 +102,10 @@ fn places_of_types(alloc: Global, heads: &[TypeHead]) -> Result<List<Option<Plac
 
 /// The places of all types: built-in ones have none, and then come these.
 fn places_behind(alloc: Global, places: &[Place]) -> Result<List<Option<Place>>, Memory>
-    ensures { IfOk result (λ all. all ≡ replicate 17 None ++ map Some places.now) }
+    ensures { IfOk result (λ all. all ≡ replicate TYPE_COUNT None ++ map Some places.now) }
 {
     let mut all = List::new(alloc);
-    for number in 0..BUILT_IN_TYPES {
+    for number in 0..TYPE_COUNT {
         all.push(None)?;
     }
     for place in places {

@@ -11,4 +11,4 @@ mod sets;
 mod variables;
 
 pub use checked::members;
-pub use laws::sets_are_well_made;
+pub use laws::{built_ins_stand_first, sets_are_well_made};

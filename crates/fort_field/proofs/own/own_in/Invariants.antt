@@ -3,8 +3,9 @@ use Rattle.std.specs.Prelude.{replicate}
 use Rattle.std.specs.List.{flat_map}
 use Rattle.fort_hier.specs.Names.{Spelling}
 use Rattle.fort_hier.specs.Numbers.{HoldsNumbers}
+use Rattle.fort_builtin.specs.declared.types.TheConstants.{TYPE_COUNT}
 use Rattle.fort_field.specs.Own.{declared_own}
 use Rattle.fort_field.proofs.own.own_in.Given as goal
 
 abbrev pub invariant-loop-declared : goal.invariant-loop-declared
-invariant-loop-declared l = (list : List Spelling) → HoldsNumbers list l.numbers → length list ≡ l.size → l.own ≡ replicate 17 [] ++ flat_map (declared_own list l.names) (take l.declared-index l.declarations)
+invariant-loop-declared l = (list : List Spelling) → HoldsNumbers list l.numbers → length list ≡ l.size → l.own ≡ replicate TYPE_COUNT [] ++ flat_map (declared_own list l.names) (take l.declared-index l.declarations)

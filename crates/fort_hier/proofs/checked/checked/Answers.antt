@@ -3,6 +3,7 @@ use Rattle.std.specs.Prelude.{replicate}
 use Rattle.fort_types.specs.Table.{HasRows}
 use Rattle.fort_hier.specs.declared.heads.TypeHead.{TypeHead}
 use Rattle.fort_base.specs.Places.{IsFirst}
+use Rattle.fort_builtin.specs.declared.types.TheConstants.{TYPE_COUNT}
 use Rattle.fort_hier.specs.Heads.{head_body}
 use Rattle.fort_hier.specs.Hierarchies.{IsRefusal, IsSentenceRefusal}
 use Rattle.fort_hier.specs.Lowest.{IsLowestFrom}
@@ -41,6 +42,6 @@ returns-clause-ok c =
           (sentences_by c.args.component.now (λ h places. IsLowestFrom h places 403 None) (c.as_slice-4.ensures ∙ types) (c.as_slice-3.ensures ∙ c.in_ok-heads.ensures) c.in_ok-refuse_broken.ensures.ok);
       rows = subst (λ h. HasRows h c.in_ok-table.table) (c.as_slice-2.ensures ∙ types) c.in_ok-table.ensures;
       names = c.in_ok-spellings.ensures ∙ names_by c.args.component.now c.as_slice-names.ensures (c.as_slice-5.ensures ∙ c.in_ok-heads.ensures);
-      bodies = c.in_ok-bodies.ensures ∙ ap (λ (hs : List TypeHead). replicate 17 None ++ map head_body hs) (c.as_slice-6.ensures ∙ c.in_ok-heads.ensures);
+      bodies = c.in_ok-bodies.ensures ∙ ap (λ (hs : List TypeHead). replicate TYPE_COUNT None ++ map head_body hs) (c.as_slice-6.ensures ∙ c.in_ok-heads.ensures);
       few = few_declared c.args.component.now c.len.result (let l = c.if-len-gt-MOST_TYPES.false in omega arith) (c.len.ensures ∙ ap (λ (hs : List TypeHead). length hs) c.in_ok-heads.ensures);
     }
