@@ -11,8 +11,8 @@ use std::alloc::Global;
 /// How many single objects are built in: the exceptions.
 pub const OBJECT_COUNT: u64 = 10;
 
-/// What the built-in types are made of, in the order of their numbers. Each single object has one location: they have `first` and
-/// those behind it, in the order of their types.
+/// What the built-in types are made of, in the order of their numbers. Each single object has one
+/// location: they have `first` and those behind it, in the order of their types.
 ///
 /// # Errors
 ///

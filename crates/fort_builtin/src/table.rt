@@ -52,7 +52,8 @@ pub const OPERATOR_COUNT: usize = 63;
 /// How many are named by a name that stands at the top of every component. They stand last.
 pub const FUNCTION_COUNT: usize = 6;
 
-/// A row of the table of declarations: the name, the types of the parameters, the type of the result, and what it is to the machine.
+/// A row of the table of declarations: the name, the types of the parameters, the type of the
+/// result, and what it is to the machine.
 pub type DeclarationRow = (&'static [u8], &'static [Simple], Simple, Primitive);
 
 /// The built-in declarations, in their order.
@@ -206,8 +207,9 @@ fn type_of(alloc: Global, simple: Simple) -> Ty
     }
 }
 
-/// What a built-in declaration is to the machine, by the name and the number of parameters of its overload set and its position there,
-/// counted from 0; `None` where the set has fewer built-in declarations. It takes no memory.
+/// What a built-in declaration is to the machine, by the name and the number of parameters of its
+/// overload set and its position there, counted from 0; `None` where the set has fewer built-in
+/// declarations. It takes no memory.
 ///
 /// In an overload set of functions the built-in declarations stand first, in this order.
 pub fn primitive(name: &[u8], width: usize, at: usize) -> Option<Primitive>
@@ -233,7 +235,8 @@ fn is_of(row: &DeclarationRow, name: &[u8], width: usize) -> bool
     row.0 == name && row.1.len() == width
 }
 
-/// The name of a built-in function that no operator names, by its number among them; past them no bytes.
+/// The name of a built-in function that no operator names, by its number among them; past them no
+/// bytes.
 pub fn function_name(number: usize) -> &'static [u8]
     ensures { result.now ≡ get_or function_spellings number [] }
 {

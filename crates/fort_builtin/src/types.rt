@@ -51,8 +51,9 @@ pub const TYPE_NAME_COUNT: usize = TYPE_COUNT + 1;
 /// The name of the one type that is no declared one and can be written by a name.
 pub const ANY: &[u8] = b"Any";
 
-/// A row of the table of types: the name in UTF-8, the kind, and the type that it extends, `None` for `Object` alone. A built-in type
-/// excludes nothing and has no list; an object is a single one, without fields.
+/// A row of the table of types: the name in UTF-8, the kind, and the type that it extends, `None`
+/// for `Object` alone. A built-in type excludes nothing and has no list; an object is a single one,
+/// without fields.
 pub type TypeRow = (&'static [u8], TypeKind, Option<TypeId>);
 
 /// The built-in declared types, in the order of their numbers.
@@ -104,7 +105,8 @@ pub(crate) fn table() -> &'static [TypeRow]
     &TYPES
 }
 
-/// The name of a built-in type by its number; behind the declared types `Any`, and past it no bytes.
+/// The name of a built-in type by its number; behind the declared types `Any`, and past it no
+/// bytes.
 pub fn type_name(number: usize) -> &'static [u8]
     ensures { result.now ≡ get_or type_spellings number [] }
 {
