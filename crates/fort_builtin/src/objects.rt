@@ -67,7 +67,7 @@ pub fn opening(alloc: Global, first: Loc) -> Result<List<(Loc, Value)>, Memory>
 {
     let mut opening = List::new(alloc);
     for number in 0..OBJECT_COUNT {
-        opening.push((Loc(first.0 + number), Value::unit(alloc)))?;
+        opening.push((Loc(first.0 + number), Value::unit(alloc)?))?;
     }
     Ok(opening)
 }
