@@ -30,21 +30,19 @@ use Rattle.fort_machine.specs.Written.{WrittenProgram}
 use Rattle.fort_machine.specs.Proper.{Proper, Reached}
 use Rattle.fort_typed.specs.Envs.{Sig, none}
 use Rattle.fort_typed.specs.Typing.{Below, ShapeOf, Makes, FieldOf, Has, HasVs}
-use Rattle.fort_typed.specs.Sound.{IsFailure, Sound, Defined, StoreOk, Typed}
+use Rattle.fort_typed.specs.Sound.{IsFailure, Under, Sound, Defined, StoreOk, Typed}
 
 -- The built-in types whose values are of their own kind.
 abbrev pub IsBuiltIn : Program → TypeId → Type 0
 IsBuiltIn p id = let b = p.built_in in (id ≡ b.small) ⊎ (id ≡ b.large) ⊎ (id ≡ b.text) ⊎ (id ≡ b.truth) ⊎ (id ≡ b.range)
 
--- What an accepted program has besides, so that nothing gets stuck.
+-- What an accepted program has besides, so that nothing gets stuck: it is as it is written; each exception that steps throw has its single object; and the built-in leaves are five types, above no other ones, made by no object and without fields.
 pub record Complete (p : Program) : Type 0 where
-  pub singles : (id : TypeId) → IsFailure p id → (v : Value) × (single p id ≡ Some v)
   pub written : WrittenProgram p
-  pub answers : (S : Sig) (d : DeclId) (decl : CoreDecl) (f : Primitive) (vs : List Value) → slice_get p.decls d.0 ≡ Some decl → decl.body ≡ body.Primitive f
-      → HasVs p S vs decl.parameters → answer_of p f vs ≢ nothing
-  pub only : (b i : TypeId) → IsBuiltIn p b → Below p (Named i) (Named b) → i ≡ b
+  pub singles : (id : TypeId) → IsFailure p id → (v : Value) × (single p id ≡ Some v)
+  pub only : (b i : TypeId) → IsBuiltIn p b → Under p i b → i ≡ b
   pub unmade : (b : TypeId) (s : CoreShape) → IsBuiltIn p b → ShapeOf p b s → Makes s.kind → ⊥
-  pub fieldless : (b i : TypeId) (f : NameId) (A : Ty) → IsBuiltIn p b → Below p (Named b) (Named i) → FieldOf p i f A → ⊥
+  pub fieldless : (b i : TypeId) (f : NameId) (A : Ty) → IsBuiltIn p b → Under p b i → FieldOf p i f A → ⊥
   pub small_large : p.built_in.small ≢ p.built_in.large
   pub small_text : p.built_in.small ≢ p.built_in.text
   pub small_truth : p.built_in.small ≢ p.built_in.truth
@@ -54,6 +52,7 @@ pub record Complete (p : Program) : Type 0 where
   pub truth_range : p.built_in.truth ≢ p.built_in.range
   pub range_large : p.built_in.range ≢ p.built_in.large
   pub range_text : p.built_in.range ≢ p.built_in.text
+  pub large_text : p.built_in.large ≢ p.built_in.text
 
 -- From some number on a store has nothing.
 abbrev pub Finite : Store → Type 0
