@@ -28,3 +28,4 @@ pub mod Answered
 pub mod Answering
 pub mod Accepted
 pub mod Laws
+pub mod Overloads

@@ -50,14 +50,14 @@ module _ (k : Program) (o : Facts k) where
     sub_vs (A ∷ As) [] (vs1 h hs) b = absurd b
     sub_vs (A ∷ As) (B ∷ Bs) (vs1 h hs) b = vs1 (sub_v k S o.transitive h b.0) (sub_vs As Bs hs b.1)
 
-    abbrev of_closure : Closure → Ty
+    abbrev pub of_closure : Closure → Ty
     of_closure = fold-Closure (Unit {0}) Ty Ty (λ t. tt) (type_at k.built_in) (λ c. Arrow (domain_of c.parameters) c.result)
 
-    out_type : (v : Value) (y : Value-F Term Value Closure) → out-Value v ≡ y → type_of k v ≡ type_at k.built_in (map-Value Term Value Closure (Unit {0}) Ty Ty (λ t. tt) (type_of k) of_closure y)
+    pub out_type : (v : Value) (y : Value-F Term Value Closure) → out-Value v ≡ y → type_of k v ≡ type_at k.built_in (map-Value Term Value Closure (Unit {0}) Ty Ty (λ t. tt) (type_of k) of_closure y)
     out_type v y e = fold_out-Value (Unit {0}) Ty Ty (λ t. tt) (type_at k.built_in) (λ c. Arrow (domain_of c.parameters) c.result) v
         ∙ ap (λ z. type_at k.built_in (map-Value Term Value Closure (Unit {0}) Ty Ty (λ t. tt) (type_of k) of_closure z)) e
 
-    closure_type : (c : Closure) → of_closure c ≡ Arrow (domain_of c.parameters) c.result
+    pub closure_type : (c : Closure) → of_closure c ≡ Arrow (domain_of c.parameters) c.result
     closure_type c = fold_out-Closure (Unit {0}) Ty Ty (λ t. tt) (type_at k.built_in) (λ c. Arrow (domain_of c.parameters) c.result) c
 
     abbrev Own : Value → Ty → Type 0

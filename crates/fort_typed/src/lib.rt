@@ -4,6 +4,7 @@
 #![tactic(auto)]
 
 ghost use Rattle.fort_typed.specs.Sound.{RunsKeep, StaysTyped, RunIsTyped, OneDefinition};
+ghost use Rattle.fort_typed.specs.Overloads.{RulesDefine};
 ghost use Rattle.fort_typed.specs.Goes.{NeverStuck, NoRunIsStuck, ReachedIsOne, ReachedIsTyped, StaysFinite};
 
 use fort_core::Program;
@@ -54,4 +55,9 @@ pub fn reached_is_one()
 /// And no machine is stuck.
 pub fn no_run_is_stuck()
     ensures { NoRunIsStuck }
+{}
+
+/// The rules on overloading give each call of typed values its one definition.
+pub fn rules_define()
+    ensures { RulesDefine }
 {}
