@@ -29,3 +29,4 @@ pub mod Answering
 pub mod Accepted
 pub mod Laws
 pub mod Overloads
+pub mod Awake

@@ -17,7 +17,7 @@ use Rattle.fort_core.specs.declared.value.Closure.{Closure}
 use Rattle.fort_core.specs.declared.value.Value.{Value, out-Value}
 use Rattle.fort_machine.specs.Acts.{ends, single}
 use Rattle.fort_core.specs.declared.pick.Pick.{Pick}
-use Rattle.fort_machine.specs.Attempts.{Form, Ended}
+use Rattle.fort_machine.specs.Attempts.{Form, MayTry, Ended}
 use Rattle.fort_machine.specs.Runs.{Runs}
 use Rattle.fort_machine.specs.Effects.{Store, Effect, FitsAll, afterwards}
 use Rattle.fort_machine.specs.Ends.{Finished}
@@ -89,3 +89,17 @@ NoRunIsStuck = (p : Program) → Sound p → Defined p → Complete p → (inner
 -- A run leaves a store finite.
 abbrev pub StaysFinite : Type 0
 StaysFinite = (p : Program) (inner strict : Bool) (s : Store) (picks : List Pick) (t : Term) (r : Ended) (d : Effect) → Finite s → Runs p inner strict s picks t r d → Finite (afterwards d s)
+
+-- What a thread may do next, the rule on sleeping forms kept: a legal step; `abort()` in an attempt; an attempt of an atomic form that may be tried.
+pub data MayGo (p : Program) (inner : Bool) (s : Store) (t : Term) (fs : List Frame) (a : Term) : Type 0 where
+  steps_on : (loc : ℕ) (b : Term) (d : Effect) → Local p inner loc a b d → FitsAll d s → MayGo p inner s t fs a
+  aborts_here : inner ≡ true → Acts p a ends → MayGo p inner s t fs a
+  tries : (m : Mode) (body : Term) → Form a m body → Bare body → MayTry true s t fs a → MayGo p inner s t fs a
+
+-- No thread of a term may go on.
+abbrev pub NobodyMayGo : Program → Bool → Store → Term → Type 0
+NobodyMayGo p inner s t = (fs : List Frame) (a : Term) → t ≡ plug fs a → passed fs a ≡ false → MayGo p inner s t fs a → ⊥
+
+-- Where a machine of an accepted program isn't at its end, it isn't so that nobody may go on: where all who are awake have gone, a sleeper may be tried. Which thread it is can't be said here, since no test tells whether a store has a value.
+abbrev pub SomeoneMayGo : Type 0
+SomeoneMayGo = (p : Program) → Sound p → Defined p → Complete p → (inner : Bool) (s : Store) (t : Term) → Reached p inner s t → (Finished t → ⊥) → NobodyMayGo p inner s t → ⊥

@@ -5,7 +5,7 @@
 
 ghost use Rattle.fort_typed.specs.Sound.{RunsKeep, StaysTyped, RunIsTyped, OneDefinition};
 ghost use Rattle.fort_typed.specs.Overloads.{RulesDefine};
-ghost use Rattle.fort_typed.specs.Goes.{NeverStuck, NoRunIsStuck, ReachedIsOne, ReachedIsTyped, StaysFinite};
+ghost use Rattle.fort_typed.specs.Goes.{NeverStuck, NoRunIsStuck, ReachedIsOne, ReachedIsTyped, SomeoneMayGo, StaysFinite};
 
 use fort_core::Program;
 
@@ -60,4 +60,9 @@ pub fn no_run_is_stuck()
 /// The rules on overloading give each call of typed values its one definition.
 pub fn rules_define()
     ensures { RulesDefine }
+{}
+
+/// Where a machine of an accepted program isn't at its end, it isn't so that nobody may go on, sleeping forms included.
+pub fn someone_may_go()
+    ensures { SomeoneMayGo }
 {}
