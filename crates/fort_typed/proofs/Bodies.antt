@@ -21,7 +21,8 @@ use Rattle.fort_machine.specs.Substitution.{substituted_all}
 use Rattle.fort_machine.specs.Calls.{by_number, by_answer, constants, constructing, by_body}
 use Rattle.fort_typed.specs.Envs.{fixed, Sig, none, binds, Distinct, named}
 use Rattle.fort_typed.specs.Typing.{Has, HasVs, parts0, vs0, vs1}
-use Rattle.fort_typed.specs.Sound.{Up, opening, numbered, AnswerFits, NewFits, Sound}
+use Rattle.fort_typed.specs.Sound.{Up, opening, numbered, NewFits}
+use Rattle.fort_typed.proofs.Facts.{AnswerFits, Facts}
 use Rattle.fort_typed.proofs.Bind.{bind_other}
 use Rattle.fort_typed.proofs.Rules.{has_value, has_v_at}
 use Rattle.fort_typed.proofs.Grow.{grow, grow_vs}
@@ -39,7 +40,7 @@ numbers_distinct : (As : List Ty) (n : ℕ) → Distinct (numbered n As)
 numbers_distinct [] n = tt
 numbers_distinct (A ∷ As) n = (number_fresh As n (n + 1) (omega arith), numbers_distinct As (n + 1))
 
-module _ (k : Program) (o : Sound k) (S : Sig) (opens : Up (opening k) S) where
+module _ (k : Program) (o : Facts k) (S : Sig) (opens : Up (opening k) S) where
   numbers_named : (n : ℕ) (vs : List Value) (As : List Ty) → HasVs k S vs As → named (by_number n vs) As ≡ numbered n As
   numbers_named n [] [] h = refl
   numbers_named n [] (A ∷ As) h = elim h [ ]

@@ -17,13 +17,15 @@ use Rattle.fort_machine.specs.Substitution.{paired, parts_paired, bound_to}
 use Rattle.fort_machine.specs.Types.{domain_of}
 use Rattle.fort_typed.specs.Envs.{Sig}
 use Rattle.fort_typed.specs.Typing.{Below, FieldOf, small_type, truth_type, HasV, HasVs, vs1}
-use Rattle.fort_typed.specs.Sound.{Up, opening, Shape, Sound}
+use Rattle.fort_typed.specs.Sound.{Up, opening, Shape}
+use Rattle.fort_typed.proofs.Facts.{Facts}
 use Rattle.fort_typed.specs.Goes.{IsBuiltIn, Complete}
+use Rattle.fort_typed.proofs.Order.{under_of}
 use Rattle.fort_typed.proofs.Rules.{rule_v}
 use Rattle.fort_typed.proofs.Owns.{sub_vs}
 use Rattle.fort_typed.proofs.Good.{shape_at}
 
-module _ (k : Program) (o : Sound k) (all : Complete k) (S : Sig) (opens : Up (opening k) S) where
+module _ (k : Program) (o : Facts k) (all : Complete k) (S : Sig) (opens : Up (opening k) S) where
   -- a value's own type at a type that is named
   abbrev Kinded : ValueKind → TypeId → Type 0
   Kinded (Value-F.Small n) id = k.built_in.small ≡ id
@@ -34,13 +36,13 @@ module _ (k : Program) (o : Sound k) (all : Complete k) (S : Sig) (opens : Up (o
   Kinded _ id = ⊥
 
   kinded : (v : Value) (id : TypeId) → HasV k S v (Named id) → IsBuiltIn k id → (y : ValueKind) → out-Value v ≡ y → Kinded y id
-  kinded v id h i (Value-F.Small n) e = let r = rule_v k S e h in all.only id k.built_in.small i (subst (λ X. Below k X (Named id)) r.fits r.below)
-  kinded v id h i (Value-F.Large n) e = let r = rule_v k S e h in all.only id k.built_in.large i (subst (λ X. Below k X (Named id)) r.fits r.below)
-  kinded v id h i (Value-F.Truth n) e = let r = rule_v k S e h in all.only id k.built_in.truth i (subst (λ X. Below k X (Named id)) r.fits r.below)
-  kinded v id h i (Value-F.Text n) e = let r = rule_v k S e h in all.only id k.built_in.text i (subst (λ X. Below k X (Named id)) r.fits r.below)
-  kinded v id h i (Value-F.Range n m) e = let r = rule_v k S e h in all.only id k.built_in.range i (subst (λ X. Below k X (Named id)) r.fits r.below)
+  kinded v id h i (Value-F.Small n) e = let r = rule_v k S e h in all.only id k.built_in.small i (under_of k (subst (λ X. Below k X (Named id)) r.fits.0 r.below))
+  kinded v id h i (Value-F.Large n) e = let r = rule_v k S e h in all.only id k.built_in.large i (under_of k (subst (λ X. Below k X (Named id)) r.fits.0 r.below))
+  kinded v id h i (Value-F.Truth n) e = let r = rule_v k S e h in all.only id k.built_in.truth i (under_of k (subst (λ X. Below k X (Named id)) r.fits r.below))
+  kinded v id h i (Value-F.Text n) e = let r = rule_v k S e h in all.only id k.built_in.text i (under_of k (subst (λ X. Below k X (Named id)) r.fits r.below))
+  kinded v id h i (Value-F.Range n m) e = let r = rule_v k S e h in all.only id k.built_in.range i (under_of k (subst (λ X. Below k X (Named id)) r.fits.0 r.below))
   kinded v id h i (Value-F.Object j base) e = let r = rule_v k S e h in
-      let q = all.only id j i (subst (λ X. Below k X (Named id)) r.fits.1 r.below) in
+      let q = all.only id j i (under_of k (subst (λ X. Below k X (Named id)) r.fits.1 r.below)) in
       all.unmade j r.fits.0.shape (subst (IsBuiltIn k) (sym q) i) r.fits.0.is_shape r.fits.0.is_made
   kinded v id h i (Value-F.Tuple vs) e = let r = rule_v k S e h in shape_at k o S opens r.own (Named id) (Ty-F.Tuple r.ws) (Ty-F.Named id) (ap out-Ty r.fits ∙ ty.outs-Tuple r.ws) (ty.outs-Named id) r.below
   kinded v id h i (Value-F.Array E base n) e = let r = rule_v k S e h in shape_at k o S opens r.own (Named id) (Ty-F.Array E) (Ty-F.Named id) (ap out-Ty r.fits.1 ∙ ty.outs-Array E) (ty.outs-Named id) r.below
@@ -81,6 +83,34 @@ module _ (k : Program) (o : Sound k) (all : Complete k) (S : Sig) (opens : Up (o
   abbrev in_range : IsBuiltIn k k.built_in.range
   in_range = inr (inr (inr (inr refl)))
 
+  pub large_is : (v : Value) → HasV k S v (Named k.built_in.large) → (n : ℤ) × (out-Value v ≡ Value-F.Large n)
+  large_is v h = go (out-Value v) refl
+    where
+      go : (y : ValueKind) → out-Value v ≡ y → (n : ℤ) × (out-Value v ≡ Value-F.Large n)
+      go (Value-F.Large n) e = (n, e)
+      go (Value-F.Small n) e = absurd (all.small_large (kinded v k.built_in.large h (inr (inl refl)) (Value-F.Small n) e))
+      go (Value-F.Truth b) e = absurd (all.truth_large (kinded v k.built_in.large h (inr (inl refl)) (Value-F.Truth b) e))
+      go (Value-F.Text s) e = absurd (all.large_text (sym (kinded v k.built_in.large h (inr (inl refl)) (Value-F.Text s) e)))
+      go (Value-F.Range n m) e = absurd (all.range_large (kinded v k.built_in.large h (inr (inl refl)) (Value-F.Range n m) e))
+      go (Value-F.Tuple vs) e = absurd (kinded v k.built_in.large h (inr (inl refl)) (Value-F.Tuple vs) e)
+      go (Value-F.Object j b) e = absurd (kinded v k.built_in.large h (inr (inl refl)) (Value-F.Object j b) e)
+      go (Value-F.Array E b n) e = absurd (kinded v k.built_in.large h (inr (inl refl)) (Value-F.Array E b n) e)
+      go (Value-F.Function c) e = absurd (kinded v k.built_in.large h (inr (inl refl)) (Value-F.Function c) e)
+
+  pub text_is : (v : Value) → HasV k S v (Named k.built_in.text) → (s : List ℕ) × (out-Value v ≡ Value-F.Text s)
+  text_is v h = go (out-Value v) refl
+    where
+      go : (y : ValueKind) → out-Value v ≡ y → (s : List ℕ) × (out-Value v ≡ Value-F.Text s)
+      go (Value-F.Text s) e = (s, e)
+      go (Value-F.Small n) e = absurd (all.small_text (kinded v k.built_in.text h (inr (inr (inl refl))) (Value-F.Small n) e))
+      go (Value-F.Large n) e = absurd (all.large_text (kinded v k.built_in.text h (inr (inr (inl refl))) (Value-F.Large n) e))
+      go (Value-F.Truth b) e = absurd (all.truth_text (kinded v k.built_in.text h (inr (inr (inl refl))) (Value-F.Truth b) e))
+      go (Value-F.Range n m) e = absurd (all.range_text (kinded v k.built_in.text h (inr (inr (inl refl))) (Value-F.Range n m) e))
+      go (Value-F.Tuple vs) e = absurd (kinded v k.built_in.text h (inr (inr (inl refl))) (Value-F.Tuple vs) e)
+      go (Value-F.Object j b) e = absurd (kinded v k.built_in.text h (inr (inr (inl refl))) (Value-F.Object j b) e)
+      go (Value-F.Array E b n) e = absurd (kinded v k.built_in.text h (inr (inr (inl refl))) (Value-F.Array E b n) e)
+      go (Value-F.Function c) e = absurd (kinded v k.built_in.text h (inr (inr (inl refl))) (Value-F.Function c) e)
+
   pub range_is : (v : Value) → HasV k S v (Named k.built_in.range) → (n : ℤ) × (m : ℕ) × (out-Value v ≡ Value-F.Range n m)
   range_is v h = go (out-Value v) refl
     where
@@ -103,11 +133,11 @@ module _ (k : Program) (o : Sound k) (all : Complete k) (S : Sig) (opens : Up (o
   tuple_is v Ts h = go (out-Value v) refl
     where
       go : (y : ValueKind) → out-Value v ≡ y → (vs : List Value) × (out-Value v ≡ Value-F.Tuple vs) × HasVs k S vs Ts
-      go (Value-F.Small n) e = let r = rule_v k S e h in absurd (named_not k.built_in.small r.own (Tuple Ts) (Ty-F.Tuple Ts) r.fits (ty.outs-Tuple Ts) r.below)
-      go (Value-F.Large n) e = let r = rule_v k S e h in absurd (named_not k.built_in.large r.own (Tuple Ts) (Ty-F.Tuple Ts) r.fits (ty.outs-Tuple Ts) r.below)
+      go (Value-F.Small n) e = let r = rule_v k S e h in absurd (named_not k.built_in.small r.own (Tuple Ts) (Ty-F.Tuple Ts) r.fits.0 (ty.outs-Tuple Ts) r.below)
+      go (Value-F.Large n) e = let r = rule_v k S e h in absurd (named_not k.built_in.large r.own (Tuple Ts) (Ty-F.Tuple Ts) r.fits.0 (ty.outs-Tuple Ts) r.below)
       go (Value-F.Truth n) e = let r = rule_v k S e h in absurd (named_not k.built_in.truth r.own (Tuple Ts) (Ty-F.Tuple Ts) r.fits (ty.outs-Tuple Ts) r.below)
       go (Value-F.Text n) e = let r = rule_v k S e h in absurd (named_not k.built_in.text r.own (Tuple Ts) (Ty-F.Tuple Ts) r.fits (ty.outs-Tuple Ts) r.below)
-      go (Value-F.Range n m) e = let r = rule_v k S e h in absurd (named_not k.built_in.range r.own (Tuple Ts) (Ty-F.Tuple Ts) r.fits (ty.outs-Tuple Ts) r.below)
+      go (Value-F.Range n m) e = let r = rule_v k S e h in absurd (named_not k.built_in.range r.own (Tuple Ts) (Ty-F.Tuple Ts) r.fits.0 (ty.outs-Tuple Ts) r.below)
       go (Value-F.Object j base) e = let r = rule_v k S e h in absurd (named_not j r.own (Tuple Ts) (Ty-F.Tuple Ts) r.fits.1 (ty.outs-Tuple Ts) r.below)
       go (Value-F.Tuple vs) e = (vs, e, let r = rule_v k S e h in sub_vs k o S r.ws Ts r.values (shape_at k o S opens r.own (Tuple Ts) (Ty-F.Tuple r.ws) (Ty-F.Tuple Ts) (ap out-Ty r.fits ∙ ty.outs-Tuple r.ws) (ty.outs-Tuple Ts) r.below))
       go (Value-F.Array E base n) e = let r = rule_v k S e h in absurd (shape_at k o S opens r.own (Tuple Ts) (Ty-F.Array E) (Ty-F.Tuple Ts) (ap out-Ty r.fits.1 ∙ ty.outs-Array E) (ty.outs-Tuple Ts) r.below)
@@ -117,11 +147,11 @@ module _ (k : Program) (o : Sound k) (all : Complete k) (S : Sig) (opens : Up (o
   array_is v A h = go (out-Value v) refl
     where
       go : (y : ValueKind) → out-Value v ≡ y → (E : Ty) × (base : Loc) × (n : ℕ) × (out-Value v ≡ Value-F.Array E base n)
-      go (Value-F.Small n) e = let r = rule_v k S e h in absurd (named_not k.built_in.small r.own (Array A) (Ty-F.Array A) r.fits (ty.outs-Array A) r.below)
-      go (Value-F.Large n) e = let r = rule_v k S e h in absurd (named_not k.built_in.large r.own (Array A) (Ty-F.Array A) r.fits (ty.outs-Array A) r.below)
+      go (Value-F.Small n) e = let r = rule_v k S e h in absurd (named_not k.built_in.small r.own (Array A) (Ty-F.Array A) r.fits.0 (ty.outs-Array A) r.below)
+      go (Value-F.Large n) e = let r = rule_v k S e h in absurd (named_not k.built_in.large r.own (Array A) (Ty-F.Array A) r.fits.0 (ty.outs-Array A) r.below)
       go (Value-F.Truth n) e = let r = rule_v k S e h in absurd (named_not k.built_in.truth r.own (Array A) (Ty-F.Array A) r.fits (ty.outs-Array A) r.below)
       go (Value-F.Text n) e = let r = rule_v k S e h in absurd (named_not k.built_in.text r.own (Array A) (Ty-F.Array A) r.fits (ty.outs-Array A) r.below)
-      go (Value-F.Range n m) e = let r = rule_v k S e h in absurd (named_not k.built_in.range r.own (Array A) (Ty-F.Array A) r.fits (ty.outs-Array A) r.below)
+      go (Value-F.Range n m) e = let r = rule_v k S e h in absurd (named_not k.built_in.range r.own (Array A) (Ty-F.Array A) r.fits.0 (ty.outs-Array A) r.below)
       go (Value-F.Object j base) e = let r = rule_v k S e h in absurd (named_not j r.own (Array A) (Ty-F.Array A) r.fits.1 (ty.outs-Array A) r.below)
       go (Value-F.Tuple vs) e = let r = rule_v k S e h in absurd (shape_at k o S opens r.own (Array A) (Ty-F.Tuple r.ws) (Ty-F.Array A) (ap out-Ty r.fits ∙ ty.outs-Tuple r.ws) (ty.outs-Array A) r.below)
       go (Value-F.Array E base n) e = (E, base, n, e)
@@ -131,11 +161,11 @@ module _ (k : Program) (o : Sound k) (all : Complete k) (S : Sig) (opens : Up (o
   function_is v A R h = go (out-Value v) refl
     where
       go : (y : ValueKind) → out-Value v ≡ y → (c : Closure) × (out-Value v ≡ Value-F.Function c) × Below k A (domain_of c.parameters)
-      go (Value-F.Small n) e = let r = rule_v k S e h in absurd (named_not k.built_in.small r.own (Arrow A R) (Ty-F.Arrow A R) r.fits (ty.outs-Arrow A R) r.below)
-      go (Value-F.Large n) e = let r = rule_v k S e h in absurd (named_not k.built_in.large r.own (Arrow A R) (Ty-F.Arrow A R) r.fits (ty.outs-Arrow A R) r.below)
+      go (Value-F.Small n) e = let r = rule_v k S e h in absurd (named_not k.built_in.small r.own (Arrow A R) (Ty-F.Arrow A R) r.fits.0 (ty.outs-Arrow A R) r.below)
+      go (Value-F.Large n) e = let r = rule_v k S e h in absurd (named_not k.built_in.large r.own (Arrow A R) (Ty-F.Arrow A R) r.fits.0 (ty.outs-Arrow A R) r.below)
       go (Value-F.Truth n) e = let r = rule_v k S e h in absurd (named_not k.built_in.truth r.own (Arrow A R) (Ty-F.Arrow A R) r.fits (ty.outs-Arrow A R) r.below)
       go (Value-F.Text n) e = let r = rule_v k S e h in absurd (named_not k.built_in.text r.own (Arrow A R) (Ty-F.Arrow A R) r.fits (ty.outs-Arrow A R) r.below)
-      go (Value-F.Range n m) e = let r = rule_v k S e h in absurd (named_not k.built_in.range r.own (Arrow A R) (Ty-F.Arrow A R) r.fits (ty.outs-Arrow A R) r.below)
+      go (Value-F.Range n m) e = let r = rule_v k S e h in absurd (named_not k.built_in.range r.own (Arrow A R) (Ty-F.Arrow A R) r.fits.0 (ty.outs-Arrow A R) r.below)
       go (Value-F.Object j base) e = let r = rule_v k S e h in absurd (named_not j r.own (Arrow A R) (Ty-F.Arrow A R) r.fits.1 (ty.outs-Arrow A R) r.below)
       go (Value-F.Tuple vs) e = let r = rule_v k S e h in absurd (shape_at k o S opens r.own (Arrow A R) (Ty-F.Tuple r.ws) (Ty-F.Arrow A R) (ap out-Ty r.fits ∙ ty.outs-Tuple r.ws) (ty.outs-Arrow A R) r.below)
       go (Value-F.Array E base n) e = let r = rule_v k S e h in absurd (shape_at k o S opens r.own (Arrow A R) (Ty-F.Array E) (Ty-F.Arrow A R) (ap out-Ty r.fits.1 ∙ ty.outs-Array E) (ty.outs-Arrow A R) r.below)
@@ -146,11 +176,11 @@ module _ (k : Program) (o : Sound k) (all : Complete k) (S : Sig) (opens : Up (o
     where
       go : (y : ValueKind) → out-Value v ≡ y → (j : TypeId) × (base : Loc) × (out-Value v ≡ Value-F.Object j base)
       go (Value-F.Object j base) e = (j, base, e)
-      go (Value-F.Small n) e = let r = rule_v k S e h in absurd (all.fieldless k.built_in.small id f A (inl refl) (subst (λ X. Below k X (Named id)) r.fits r.below) i)
-      go (Value-F.Large n) e = let r = rule_v k S e h in absurd (all.fieldless k.built_in.large id f A (inr (inl refl)) (subst (λ X. Below k X (Named id)) r.fits r.below) i)
-      go (Value-F.Text n) e = let r = rule_v k S e h in absurd (all.fieldless k.built_in.text id f A (inr (inr (inl refl))) (subst (λ X. Below k X (Named id)) r.fits r.below) i)
-      go (Value-F.Truth n) e = let r = rule_v k S e h in absurd (all.fieldless k.built_in.truth id f A in_truth (subst (λ X. Below k X (Named id)) r.fits r.below) i)
-      go (Value-F.Range n m) e = let r = rule_v k S e h in absurd (all.fieldless k.built_in.range id f A in_range (subst (λ X. Below k X (Named id)) r.fits r.below) i)
+      go (Value-F.Small n) e = let r = rule_v k S e h in absurd (all.fieldless k.built_in.small id f A (inl refl) (under_of k (subst (λ X. Below k X (Named id)) r.fits.0 r.below)) i)
+      go (Value-F.Large n) e = let r = rule_v k S e h in absurd (all.fieldless k.built_in.large id f A (inr (inl refl)) (under_of k (subst (λ X. Below k X (Named id)) r.fits.0 r.below)) i)
+      go (Value-F.Text n) e = let r = rule_v k S e h in absurd (all.fieldless k.built_in.text id f A (inr (inr (inl refl))) (under_of k (subst (λ X. Below k X (Named id)) r.fits r.below)) i)
+      go (Value-F.Truth n) e = let r = rule_v k S e h in absurd (all.fieldless k.built_in.truth id f A in_truth (under_of k (subst (λ X. Below k X (Named id)) r.fits r.below)) i)
+      go (Value-F.Range n m) e = let r = rule_v k S e h in absurd (all.fieldless k.built_in.range id f A in_range (under_of k (subst (λ X. Below k X (Named id)) r.fits.0 r.below)) i)
       go (Value-F.Tuple vs) e = let r = rule_v k S e h in absurd (shape_at k o S opens r.own (Named id) (Ty-F.Tuple r.ws) (Ty-F.Named id) (ap out-Ty r.fits ∙ ty.outs-Tuple r.ws) (ty.outs-Named id) r.below)
       go (Value-F.Array E base n) e = let r = rule_v k S e h in absurd (shape_at k o S opens r.own (Named id) (Ty-F.Array E) (Ty-F.Named id) (ap out-Ty r.fits.1 ∙ ty.outs-Array E) (ty.outs-Named id) r.below)
       go (Value-F.Function c) e = let r = rule_v k S e h in

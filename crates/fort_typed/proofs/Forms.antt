@@ -25,7 +25,8 @@ use Rattle.fort_machine.specs.Generators.{items_at, first_half, rest_half, for_i
 use Rattle.fort_machine.specs.Forms.{reading_at, writing_at, trying, too_deep, act_at, act}
 use Rattle.fort_typed.specs.Envs.{fixed, Sig, none, bind, Fresh, Part, plain, bound}
 use Rattle.fort_typed.specs.Typing.{Below, unit_type, small_type, truth_type, thrown_type, Called, ItemsOf, count_of, clauses, Fits, Has, HasParts, parts0, parts1, HasV, HasVs, vs0, vs1}
-use Rattle.fort_typed.specs.Sound.{Up, opening, Sound}
+use Rattle.fort_typed.specs.Sound.{Up, opening}
+use Rattle.fort_typed.proofs.Facts.{Facts}
 use Rattle.fort_typed.proofs.Rules.{view, has_at, has_value, thrown_has, parts_as, closed, never, two_parts, three_parts, sub, sub_v}
 use Rattle.fort_typed.proofs.Grow.{grow}
 use Rattle.fort_typed.proofs.Made.{is_value, is_thrown}
@@ -33,7 +34,7 @@ use Rattle.fort_typed.proofs.Located.{locate}
 use Rattle.fort_typed.proofs.Good.{Good, good_sub, after_good, all_good, once_good, unit_has}
 use Rattle.fort_typed.proofs.Items.{halves, same_below, replace_one, applying_good, binding_good, filling_good, element_good, sizing_good, field_reads, field_writes, choosing_good, clause_has, finally_has, deep_good, items_have, item_good, span_of, spanned_good}
 
-module _ (k : Program) (o : Sound k) (S : Sig) (opens : Up (opening k) S) where
+module _ (k : Program) (o : Facts k) (S : Sig) (opens : Up (opening k) S) where
   in_none : (q : Part) → Fresh q.vars none
   in_none q z B e = absurd cc
 
@@ -136,7 +137,7 @@ module _ (k : Program) (o : Sound k) (S : Sig) (opens : Up (opening k) S) where
   act_good_at (Term-F.Operator set ts) R qs ws f ps vs = all_good k o S opens R ts f.0 _ (subst (λ z. HasParts k S none ts z) f.1 ps) (λ us h. (f.0, R, f.2, h, o.reflexive R))
   act_good_at (Term-F.Apply a b) R qs ws f ps vs = once_good k o S opens R (a ∷ b ∷ []) (Arrow f.0 R ∷ f.0 ∷ []) _ (subst (λ z. HasParts k S none (a ∷ b ∷ []) z) f.1 ps) (λ us h. applying_good k o S opens us f.0 R h)
   act_good_at (Term-F.Fill A n a) R qs ws f ps vs = let i = parts_as k S ps f.0 in
-      after_good k o S opens R n (small_type k) _ i.0.1 (λ v e h. after_good k o S opens R a A _ i.1.0.1 (λ w q j. filling_good k o S opens A w R j (same_below k o S opens (Array A) R (sym f.1)) (out-Value v)))
+      after_good k o S opens R n (small_type k) _ i.0.1 (λ v e h. after_good k o S opens R a A _ i.1.0.1 (λ w q j. filling_good k o S opens A w R j (same_below k o S opens (Array A) R (sym f.1)) v h (out-Value v) refl))
   act_good_at (Term-F.Let xs a b) R qs ws f ps vs = let i = parts_as k S ps f.0 in
       after_good k o S opens R a (domain_of xs) _ i.0.1 (λ v e h. binding_good k o S opens xs v b R h f.1 i.1.0.1 (bound_to xs v) refl)
   act_good_at (Term-F.Mutable x A a b) R qs ws f ps vs = let i = parts_as k S ps f in
@@ -162,7 +163,7 @@ module _ (k : Program) (o : Sound k) (S : Sig) (opens : Up (opening k) S) where
       after_good k o S opens R a (Array f.0) _ i.0.1 (λ v e h. after_good k o S opens R b (small_type k) _ i.1.0.1 (λ w q j. after_good k o S opens R c f.0 _ i.1.1.0.1
       (λ u r m. element_good k o S opens v f.0 h (λ l. writing_at l u) R (λ l E s d g. (E, s, sub_v k S o.transitive m g, same_below k o S opens unit_type R (sym f.2))) (out-Value v) refl (out-Value w))))
   act_good_at (Term-F.Size a) R qs ws f ps vs = let i = parts_as k S ps f.1 in
-      after_good k o S opens R a (Array f.0) _ i.0.1 (λ v e h. sizing_good k o S opens R (same_below k o S opens (small_type k) R (sym f.2)) (out-Value v))
+      after_good k o S opens R a (Array f.0) _ i.0.1 (λ v e h. sizing_good k o S opens R (same_below k o S opens (small_type k) R (sym f.2)) v (Array f.0) h (out-Value v) refl)
   act_good_at (Term-F.Then a b) R qs ws f ps vs = let i = parts_as k S ps f.1 in after_good k o S opens R a f.0 _ i.0.1 (λ v e h. i.1.0.1)
   act_good_at (Term-F.If a b c) R qs ws f ps vs = let i = parts_as k S ps f in after_good k o S opens R a (truth_type k) _ i.0.1 (λ v e h. choosing_good k o S opens b c R i.1.0.1 i.1.1.0.1 (out-Value v))
   act_good_at (Term-F.While a b) R qs ws f ps vs = let i = parts_as k S ps f.1 in

@@ -18,9 +18,11 @@ use Rattle.fort_machine.specs.Ends.{Standing, at_value, at_throw, open_yet, stan
 use Rattle.fort_machine.specs.Substitution.{paired, parts_paired, bound_to}
 use Rattle.fort_machine.specs.Types.{domain_of}
 use Rattle.fort_machine.specs.Acts.{Act, stuck, turns, enters, asks, sets, makes, calls, ends, unit, single, throws_object, throwing, by_standing, after, after_all, Together, at_values, leftmost, some_still, some_open, with_first, standing_together, by_together, once_all}
+use Rattle.std.specs.Int.{w32}
 use Rattle.fort_typed.specs.Envs.{fixed, Sig, Env, none, fixed_all, named, plains}
-use Rattle.fort_typed.specs.Typing.{Below, unit_type, small_type, thrown_type, Called, Has, HasParts, parts0, parts1, HasV, HasVs, vs0, vs1}
-use Rattle.fort_typed.specs.Sound.{Up, opening, Shape, Sound, IsFailure}
+use Rattle.fort_typed.specs.Typing.{IsNumber, Below, unit_type, small_type, thrown_type, Called, Has, HasParts, parts0, parts1, HasV, HasVs, vs0, vs1}
+use Rattle.fort_typed.specs.Sound.{Up, opening, Shape, IsFailure}
+use Rattle.fort_typed.proofs.Facts.{Facts}
 use Rattle.fort_typed.proofs.Rules.{value_has, thrown_has, has_value, has_thrown, has_v_at, rule_v, sub}
 use Rattle.fort_typed.proofs.Grow.{grow_v}
 use Rattle.fort_typed.proofs.Made.{is_value, is_thrown}
@@ -38,7 +40,7 @@ Good k S (makes vs next cost) T = (ws : List Ty) × HasVs k S vs ws
 Good k S (calls set vs) T = (As : List Ty) × (R : Ty) × Called k set As R × HasVs k S vs As × Below k R T
 Good k S ends T = Unit {0}
 
-module _ (k : Program) (o : Sound k) (S : Sig) (opens : Up (opening k) S) where
+module _ (k : Program) (o : Facts k) (S : Sig) (opens : Up (opening k) S) where
   pub good_sub : (x : Act) (A T : Ty) → Good k S x A → Below k A T → Good k S x T
   good_sub stuck A T g b = tt
   good_sub (turns next output cost) A T g b = sub k S o.transitive g b
@@ -126,8 +128,8 @@ module _ (k : Program) (o : Sound k) (S : Sig) (opens : Up (opening k) S) where
   pub unit_has : {G : Env} {T : Ty} → Below k unit_type T → Has k S G (term.Value unit) T
   unit_has b = has_value k S o.reflexive (has_v_at k S (outs-Tuple []) (record { own = unit_type; qs = []; ws = []; fits = refl; parts = parts0; values = vs0; below = b }))
 
-  pub small_has : (n : ℤ) → HasV k S (value.Small n) (small_type k)
-  small_has n = has_v_at k S (outs-Small n) (record { own = small_type k; qs = []; ws = []; fits = refl; parts = parts0; values = vs0; below = o.reflexive _ })
+  pub small_has : (n : ℤ) → IsNumber w32 n → HasV k S (value.Small n) (small_type k)
+  small_has n w = has_v_at k S (outs-Small n) (record { own = small_type k; qs = []; ws = []; fits = (refl, w); parts = parts0; values = vs0; below = o.reflexive _ })
 
   -- variables of a `let`, a function, with the values that are passed
   abbrev pub types_of : List (ℕ × Ty) → List Ty

@@ -36,7 +36,7 @@ module _ (k : Program) (S S' : Sig) (up : Up S S') where
 
   pub fits_v_grow : (l : Value-F Term Value Closure) (qs : List Part) (ws : List Ty) (R : Ty) → FitsV k S l qs ws R → FitsV k S' l qs ws R
   fits_v_grow (Value-F.Object id base) qs ws R h = (object_grows id base.0 h.0, h.1)
-  fits_v_grow (Value-F.Array e base size) qs ws R h = (λ n m. up (base.0 + n) e (h.0 n m), h.1)
+  fits_v_grow (Value-F.Array e base size) qs ws R h = ((λ n m. up (base.0 + n) e (h.0.0 n m), h.0.1), h.1)
   fits_v_grow _ qs ws R h = h
 
   mutual

@@ -27,9 +27,11 @@ use Rattle.fort_machine.specs.Substitution.{substituted, bound_to}
 use Rattle.fort_machine.specs.Acts.{Act, stuck, throwing}
 use Rattle.fort_machine.specs.Generators.{Items, numbers_from, elements_from, no_items, items_at, by_item, first_half, rest_half, spanned}
 use Rattle.fort_machine.specs.Forms.{entering, applying_to, applying, filling, binding, reading_at, writing_at, place_of, field_of, by_element, sizing, choosing, clause_for, finally_then, too_deep}
+use Rattle.std.specs.Int.{w32}
 use Rattle.fort_typed.specs.Envs.{fixed, Sig, none, bind, binds, Distinct, fixed_all, named, plain}
-use Rattle.fort_typed.specs.Typing.{Below, is_told, unit_type, small_type, Makes, FieldOf, ObjectFits, ItemsOf, count_of, SpanFits, clauses, vars_of, Has, HasParts, parts0, parts1, HasV, HasVs, vs0, vs1}
-use Rattle.fort_typed.specs.Sound.{Up, opening, Sound}
+use Rattle.fort_typed.specs.Typing.{IsNumber, Below, is_told, unit_type, small_type, Makes, FieldOf, ObjectFits, ItemsOf, count_of, SpanFits, clauses, vars_of, Has, HasParts, parts0, parts1, HasV, HasVs, vs0, vs1}
+use Rattle.fort_typed.specs.Sound.{Up, opening}
+use Rattle.fort_typed.proofs.Facts.{Facts}
 use Rattle.fort_typed.proofs.Bind.{less_first}
 use Rattle.fort_typed.proofs.Rules.{has_at, has_v_at, rule_v, has_value, sub, sub_v, parts_as, two_parts}
 use Rattle.fort_typed.proofs.Substituted.{replace, replaces}
@@ -47,7 +49,7 @@ got_replicated zero A i h = absurd (omega arith)
 got_replicated (suc n) A zero h = refl
 got_replicated (suc n) A (suc i) h = got_replicated n A i (omega arith)
 
-module _ (k : Program) (o : Sound k) (S : Sig) (opens : Up (opening k) S) where
+module _ (k : Program) (o : Facts k) (S : Sig) (opens : Up (opening k) S) where
   pub same_below : (A B : Ty) → A ≡ B → Below k A B
   same_below A B e = subst (λ X. Below k A X) e (o.reflexive A)
 
@@ -101,22 +103,22 @@ module _ (k : Program) (o : Sound k) (S : Sig) (opens : Up (opening k) S) where
   replicated zero v A h = vs0
   replicated (suc n) v A h = vs1 h (replicated n v A h)
 
-  pub filling_good : (A : Ty) (v : Value) (T : Ty) → HasV k S v A → Below k (Array A) T → (y : ValueKind) → Good k S (filling k A v y) T
-  filling_good A v T h b (Value-F.Small (pos n)) = (
+  pub filling_good : (A : Ty) (v : Value) (T : Ty) → HasV k S v A → Below k (Array A) T → (z : Value) → HasV k S z (small_type k) → (y : ValueKind) → out-Value z ≡ y → Good k S (filling k A v y) T
+  filling_good A v T h b z hz (Value-F.Small (pos n)) e = (
     replicate n A,
     replicated n v A h,
     λ S' l u q. has_value k S' o.reflexive (has_v_at k S' (outs-Array A (record { 0 = l }) n) (record {
       own = Array A;
       qs = [];
       ws = [];
-      fits = (λ i m. q i A (got_replicated n A i m), refl);
+      fits = ((λ i m. q i A (got_replicated n A i m), (rule_v k S e hz).fits.1), refl);
       parts = parts0;
       values = vs0;
       below = b;
     })),
   )
-  filling_good A v T h b (Value-F.Small (negsuc n)) = failing_good k o S opens k.built_in.negative_size T (inr (inr (inr (inr (inl refl)))))
-  filling_good A v T h b _ = tt
+  filling_good A v T h b z hz (Value-F.Small (negsuc n)) e = failing_good k o S opens k.built_in.negative_size T (inr (inr (inr (inr (inl refl)))))
+  filling_good A v T h b z hz _ e = tt
 
   array_shape : (v : Value) (A E : Ty) → Below k (Array E) (Array A) → Below k E A × Below k A E
   array_shape v A E b = shape_at k o S opens (Array E) (Array A) (Ty-F.Array E) (Ty-F.Array A) (ty.outs-Array E) (ty.outs-Array A) b
@@ -126,7 +128,7 @@ module _ (k : Program) (o : Sound k) (S : Sig) (opens : Up (opening k) S) where
   element_good v A h f T g (Value-F.Array E base size) e (Value-F.Small (pos i)) =
       let r = rule_v k S e h in
       let s = array_shape v A E (subst (λ X. Below k X (Array A)) r.fits.1 r.below) in
-      go (nat_lt i size) refl r.fits.0 s.0 s.1
+      go (nat_lt i size) refl r.fits.0.0 s.0 s.1
     where
       go : (b : Bool) → nat_lt i size ≡ b → ((n : ℕ) → n < size → S (base.0 + n) ≡ Some E) → Below k E A → Below k A E
           → Good k S (if b then f (Some (base.0 + i)) else throwing k k.built_in.index_out_of_range) T
@@ -135,9 +137,9 @@ module _ (k : Program) (o : Sound k) (S : Sig) (opens : Up (opening k) S) where
   element_good v A h f T g (Value-F.Array E base size) e (Value-F.Small (negsuc i)) = failing_good k o S opens k.built_in.index_out_of_range T (inr (inr (inr (inl refl))))
   element_good v A h f T g _ e _ = tt
 
-  pub sizing_good : (R : Ty) → Below k (small_type k) R → (y : ValueKind) → Good k S (sizing y) R
-  sizing_good R b (Value-F.Array E base size) = has_value k S o.reflexive (sub_v k S o.transitive (small_has k o S opens (pos size)) b)
-  sizing_good R b _ = tt
+  pub sizing_good : (R : Ty) → Below k (small_type k) R → (v : Value) (A : Ty) → HasV k S v A → (y : ValueKind) → out-Value v ≡ y → Good k S (sizing y) R
+  sizing_good R b v A h (Value-F.Array E base size) e = has_value k S o.reflexive (sub_v k S o.transitive (small_has k o S opens (pos size) (rule_v k S e h).fits.0.1) b)
+  sizing_good R b v A h _ e = tt
 
   -- fields
   pub record Field (y : ValueKind) (f : NameId) (B : Ty) : Type 0 where
@@ -199,23 +201,23 @@ module _ (k : Program) (o : Sound k) (S : Sig) (opens : Up (opening k) S) where
 
   -- items
   abbrev pub ItemsGood : Items → Ty → Type 0
-  ItemsGood (numbers_from first count) I = I ≡ small_type k
+  ItemsGood (numbers_from first count) I = (I ≡ small_type k) × ((n : ℕ) → n < count → IsNumber w32 (first +ℤ pos n))
   ItemsGood (elements_from base count) I = (E : Ty) × ((n : ℕ) → n < count → S (base + n) ≡ Some E) × Below k E I
   ItemsGood no_items I = Unit {0}
 
   pub items_have : (v : Value) (A I : Ty) → HasV k S v A → ItemsOf k A I → (y : ValueKind) → out-Value v ≡ y → ItemsGood (items_at y) I
-  items_have v A I h (inl i) (Value-F.Range first count) e = i.1
+  items_have v A I h (inl i) (Value-F.Range first count) e = (i.1, (rule_v k S e h).fits.1.1)
   items_have v A I h (inr i) (Value-F.Range first count) e = let r = rule_v k S e h in
-      absurd (shape_at k o S opens r.own A (Ty-F.Named k.built_in.range) (Ty-F.Array I) (ap out-Ty r.fits ∙ ty.outs-Named k.built_in.range) (ap out-Ty i ∙ ty.outs-Array I) r.below)
+      absurd (shape_at k o S opens r.own A (Ty-F.Named k.built_in.range) (Ty-F.Array I) (ap out-Ty r.fits.0 ∙ ty.outs-Named k.built_in.range) (ap out-Ty i ∙ ty.outs-Array I) r.below)
   items_have v A I h (inl i) (Value-F.Array E base size) e = let r = rule_v k S e h in
       absurd (shape_at k o S opens r.own A (Ty-F.Array E) (Ty-F.Named k.built_in.range) (ap out-Ty r.fits.1 ∙ ty.outs-Array E) (ap out-Ty i.0 ∙ ty.outs-Named k.built_in.range) r.below)
   items_have v A I h (inr i) (Value-F.Array E base size) e = let r = rule_v k S e h in
       let s = shape_at k o S opens r.own A (Ty-F.Array E) (Ty-F.Array I) (ap out-Ty r.fits.1 ∙ ty.outs-Array E) (ap out-Ty i ∙ ty.outs-Array I) r.below in
-      (E, r.fits.0, s.0)
+      (E, r.fits.0.0, s.0)
   items_have v A I h i _ e = tt
 
   pub item_good : (items : Items) (n : ℕ) (next : Value → Term) (I T : Ty) → ItemsGood items I → n < count_of items → ((v : Value) → HasV k S v I → Has k S none (next v) T) → Good k S (by_item items n next) T
-  item_good (numbers_from first count) n next I T i m g = g (Small (first +ℤ pos n)) (subst (λ X. HasV k S (Small (first +ℤ pos n)) X) (sym i) (small_has k o S opens (first +ℤ pos n)))
+  item_good (numbers_from first count) n next I T i m g = g (Small (first +ℤ pos n)) (subst (λ X. HasV k S (Small (first +ℤ pos n)) X) (sym i.0) (small_has k o S opens (first +ℤ pos n) (i.1 n m)))
   item_good (elements_from base count) n next I T i m g = (i.0, i.1 n m, λ v h. g v (sub_v k S o.transitive h i.2))
   item_good no_items n next I T i m g = tt
 

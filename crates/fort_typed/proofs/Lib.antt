@@ -21,3 +21,12 @@ pub mod Progress
 pub mod Order
 pub mod Finite
 pub mod Reached
+pub mod Computed
+pub mod Ranges
+pub mod Facts
+pub mod Answered
+pub mod Answering
+pub mod Accepted
+pub mod Laws
+pub mod Overloads
+pub mod Awake

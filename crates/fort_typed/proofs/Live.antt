@@ -29,9 +29,11 @@ use Rattle.fort_machine.specs.Steps.{Acts, by_itself, by_call, or_unit, steps}
 use Rattle.fort_machine.proofs.Standing.{decide, not_finished, standing-Value, standing-throw}
 use Rattle.fort_machine.proofs.Resting.{rest_bare}
 use Rattle.fort_machine.proofs.ProperRuns.{written_proper}
+use Rattle.fort_typed.proofs.Answering.{answers_there}
 use Rattle.fort_typed.specs.Envs.{Sig}
 use Rattle.fort_typed.specs.Typing.{Called, HasVs}
-use Rattle.fort_typed.specs.Sound.{IsFailure, Sound, Defined, StoreOk}
+use Rattle.fort_typed.specs.Sound.{IsFailure, Defined, StoreOk}
+use Rattle.fort_typed.proofs.Facts.{Facts}
 use Rattle.fort_typed.specs.Goes.{Complete, Finite, Stands, at_step, at_abort, Goes, done, goes_at}
 use Rattle.fort_typed.proofs.Owns.{picked}
 
@@ -44,7 +46,7 @@ new_row s n l (v ∷ vs) m f h = go (l == m) refl (new_row s n (l + 1) vs m f (o
     go true e r = let q : l ≡ m = search (rules, e) in subst (Fits (made (Some v))) (sym (f m (omega arith))) tt
     go false e r = r
 
-module _ (k : Program) (o : Sound k) (def : Defined k) (all : Complete k) (inner : Bool) (S : Sig) (s : Store) (m : StoreOk k S s) (fin : Finite s) where
+module _ (k : Program) (o : Facts k) (def : Defined k) (all : Complete k) (inner : Bool) (S : Sig) (s : Store) (m : StoreOk k S s) (fin : Finite s) where
   -- an act that has a step
   abbrev pub Live : Act → Type 0
   Live stuck = ⊥
@@ -101,7 +103,7 @@ module _ (k : Program) (o : Sound k) (def : Defined k) (all : Complete k) (inner
       go (throws id) r = live_failing id ((o.primitives S d decl f vs e q h).thrown id r)
       go (prints x) r = tt
       go primitives.ends r = tt
-      go nothing r = absurd (all.answers S d decl f vs e q h r)
+      go nothing r = absurd (answers_there k o all S m.opened f vs (subst (HasVs k S vs) (o.signatures d decl f e q).0 h) r)
   body_live d decl vs e h n body.Abstract q = absurd (n q)
   body_live d decl vs e h n (body.New id) q = let i = o.constructors d decl id e q in subst (λ z. Live (constructing id vs z)) (sym i.is_shape) tt
 

@@ -8,10 +8,11 @@ use Rattle.fort_core.specs.declared.term.Term.TheVariants.{outs-Call, outs-Opera
 use Rattle.fort_core.specs.declared.value.Value.{Value}
 use Rattle.fort_core.specs.declared.program.Program.{Program}
 use Rattle.fort_machine.specs.Parts.{IsOneOf}
-use Rattle.fort_machine.specs.OneDefinition.{Within, itself, in_term, in_value, WithinValue, in_part, in_body, IsCall, of_set, of_operator, of_halves, HasDefinition}
+use Rattle.fort_machine.specs.OneDefinition.{Within, itself, in_term, in_value, WithinValue, in_part, in_body, IsCall, of_set, of_operator, of_halves, HasDefinition, IsOne}
 use Rattle.fort_typed.specs.Envs.{Sig, Env, binds, Part, plains}
 use Rattle.fort_typed.specs.Typing.{Called, Has, has, HasParts, parts0, parts1, HasV, has_v, HasVs, vs0, vs1}
-use Rattle.fort_typed.specs.Sound.{Sound, Defined, OneDefinition}
+use Rattle.fort_typed.specs.Sound.{Defined}
+use Rattle.fort_typed.proofs.Facts.{Facts}
 use Rattle.fort_typed.proofs.Rules.{rule_at, value_has}
 
 -- a term has some type, where some variables are bound
@@ -41,7 +42,7 @@ module _ (k : Program) (S : Sig) where
     within_value T (in_part {w = w} i n) (has_v R qs ws f ps vs b) = let s = of_values w i vs in within_value s.0 n s.1
     within_value T (in_body {a = a} i n) (has_v R qs ws f ps vs b) = let s = of_parts a i ps in within_has s.env s.type n s.typed
 
-  module _ (o : Sound k) (d : Defined k) where
+  module _ (o : Facts k) (d : Defined k) where
     arguments_have : {G : Env} (vs : List Value) (As : List Ty) → HasParts k S G (map term.Value vs) (plains As) → HasVs k S vs As
     arguments_have [] [] h = vs0
     arguments_have [] (A ∷ As) h = elim h [ ]
@@ -57,5 +58,5 @@ module _ (k : Program) (S : Sig) where
     call_defined u set vs (of_halves a b q e) h = let r = rule_at k S (ap out-Term e ∙ outs-ReduceHalves set (term.Value a) (term.Value b)) h in
         subst (λ z. HasDefinition k set z) (sym q) (by_types set (a ∷ b ∷ []) (r.fits.0 ∷ r.fits.1 ∷ []) r.own r.qs r.fits.3 r.fits.2 r.parts)
 
-pub one_definition : OneDefinition
-one_definition k o d S G t T h u set vs w c = let s = within_has k S G T w h in call_defined k S o d u set vs c s.typed
+pub defined_in : (k : Program) → Facts k → Defined k → (S : Sig) (G : Env) (t : Term) (T : Ty) → Has k S G t T → IsOne k t
+defined_in k o d S G t T h u set vs w c = let s = within_has k S G T w h in call_defined k S o d u set vs c s.typed

@@ -1,5 +1,5 @@
 -- What of the order of types is met by every program, or follows from what the rows compute.
-use Rattle.std.proofs.Common.{◌≡◌, true, false, ◌&&◌, List, [], ◌∷◌, IsTrue, length, None, arith, refl, ap, sym, ◌∙◌, subst}
+use Rattle.std.proofs.Common.{◌≡◌, true, false, map, inl, inr, ◌⊎◌, ◌&&◌, List, [], ◌∷◌, IsTrue, length, None, arith, refl, ap, sym, ◌∙◌, subst}
 use Rattle.fort_base.specs.declared.ty.Ty.{Ty, Tuple, out-Ty, roll-Ty, roll-out-Ty, fold_out-Ty, map-Ty}
 use Rattle.fort_base.specs.declared.ty.Ty.TheVariants.{Named, outs-Named, outs-Tuple, rolls-Tuple}
 use Rattle.std.specs.Prelude.{slice_get, unwrap_or, option_and_then}
@@ -9,10 +9,11 @@ use Rattle.fort_base.specs.declared.ty.Ty.TheOpen.{Ty-F}
 use Rattle.fort_core.specs.declared.program.Program.{Program}
 use Rattle.fort_types.specs.Table.{is_set}
 use Rattle.fort_machine.specs.Types.{below, all_below}
-use Rattle.fort_types.specs.Relation.{Relation, below_at, relation}
+use Rattle.fort_types.specs.Relation.{Relation, each_below, below_at, relation}
 use Rattle.fort_typed.specs.Typing.{Below, is_same, is_told, is_rows, EachBelow, each0, each1}
-use Rattle.fort_typed.specs.Sound.{AllBelow}
+use Rattle.fort_typed.specs.Sound.{AllBelow, Shape, Under}
 use Rattle.fort_typed.proofs.Near.{and_true}
+use Rattle.fort_typed.proofs.Computed.{rel, told, told_out, round}
 
 pub itself : (k : Program) (A : Ty) → Below k A A
 itself k A = is_same refl
@@ -31,12 +32,12 @@ abbrev pub Through : Program → Type 0
 Through k = (A B C : Ty) → IsTrue (below k A B) → IsTrue (below k B C) → IsTrue (below k A C)
 
 module _ (k : Program) (through : Through k) where
-  abbrev rel : Ty → Relation
-  rel = relation k.types.below
+  abbrev relates : Ty → Relation
+  relates = relation k.types.below
 
-  out_rel : (A : Ty) (a : Ty-F Ty) → out-Ty A ≡ a → (C : Ty) (c : Ty-F Ty) → out-Ty C ≡ c → below k A C ≡ below_at k.types.below (map-Ty Ty Relation rel a) true c
+  out_rel : (A : Ty) (a : Ty-F Ty) → out-Ty A ≡ a → (C : Ty) (c : Ty-F Ty) → out-Ty C ≡ c → below k A C ≡ below_at k.types.below (map-Ty Ty Relation relates a) true c
   out_rel A a e C c q = ap (λ (f : Relation). f true C) (fold_out-Ty Relation (λ layer up b. below_at k.types.below layer up (out-Ty b)) A)
-      ∙ ap (λ z. below_at k.types.below (map-Ty Ty Relation rel z) true (out-Ty C)) e ∙ ap (λ z. below_at k.types.below (map-Ty Ty Relation rel a) true z) q
+      ∙ ap (λ z. below_at k.types.below (map-Ty Ty Relation relates z) true (out-Ty C)) e ∙ ap (λ z. below_at k.types.below (map-Ty Ty Relation relates a) true z) q
 
   mutual
     -- a call asks what the rows compute
@@ -111,3 +112,78 @@ not_itself p f =
     ∙ ap (λ z. below_at p.types.below (map-Ty Ty Relation (relation p.types.below) (Ty-F.Named id)) true z) (outs-Named id) in
     let n : slice_get p.types.below (length p.types.below) ≡ None = slice_get_past p.types.below (length p.types.below) (omega arith) in
     let z : false ≡ true = sym (ap (λ o. unwrap_or (option_and_then (λ row. slice_get row (length p.types.below)) o) false) n) ∙ sym e ∙ f (Named id) in absurd cc
+
+-- declared types
+under_told : (k : Program) (i j : TypeId) → IsTrue (below k (Named i) (Named j)) → IsTrue (is_set k.types.below i.0 j.0)
+under_told k i j h = sym (told_out k.types.below (Named i) (Named j) true ∙ ap (λ z. told k.types.below z true (out-Ty (Named j))) (outs-Named i) ∙ ap (λ z. told k.types.below (Ty-F.Named i) true z) (outs-Named j)) ∙ h
+
+pub under_of : (k : Program) {i j : TypeId} → Below k (Named i) (Named j) → Under k i j
+under_of k {i} {j} (is_same e) = let z : Ty-F.Named i ≡ Ty-F.Named j = sym (outs-Named i) ∙ ap out-Ty e ∙ outs-Named j in let y : i ≡ j = cc in inl y
+under_of k {i} {j} (is_told h) = inr (under_told k i j h)
+under_of k {i} {j} (is_rows {As = As} e q r) = let z : Ty-F.Named i ≡ Ty-F.Tuple As = sym (outs-Named i) ∙ ap out-Ty e ∙ outs-Tuple As in absurd cc
+
+-- what stands below what, one level deep
+all_itself : (k : Program) (As : List Ty) → AllBelow k As As
+all_itself k [] = tt
+all_itself k (A ∷ As) = (is_same refl, all_itself k As)
+
+shape_itself : (k : Program) (y : Ty-F Ty) → Shape k y y
+shape_itself k Ty-F.Nothing = tt
+shape_itself k Ty-F.Any = tt
+shape_itself k (Ty-F.Named i) = tt
+shape_itself k (Ty-F.Tuple As) = all_itself k As
+shape_itself k (Ty-F.Arrow A B) = (is_same refl, is_same refl)
+shape_itself k (Ty-F.Array A) = (is_same refl, is_same refl)
+
+all_told : (k : Program) (As Bs : List Ty) → each_below (map (rel k.types.below) As) true Bs ≡ true → AllBelow k As Bs
+all_told k [] [] e = tt
+all_told k [] (B ∷ Bs) e = absurd cc
+all_told k (A ∷ As) [] e = absurd cc
+all_told k (A ∷ As) (B ∷ Bs) e = let i = and_true (below k A B) (each_below (map (rel k.types.below) As) true Bs) e in (is_told i.0, all_told k As Bs i.1)
+
+all_rows : (k : Program) {As Bs : List Ty} → EachBelow k As Bs → AllBelow k As Bs
+all_rows k each0 = tt
+all_rows k (each1 h hs) = (h, all_rows k hs)
+
+told_shape : (k : Program) (x y : Ty-F Ty) → told k.types.below x true y ≡ true → Shape k x y
+told_shape k (Ty-F.Tuple As) (Ty-F.Tuple Bs) h = all_told k As Bs h
+told_shape k (Ty-F.Arrow A B) (Ty-F.Arrow C D) h = let i = and_true (rel k.types.below A false C) (rel k.types.below B true D) h in (is_told (round k.types.below A C i.0), is_told i.1)
+told_shape k (Ty-F.Array A) (Ty-F.Array B) h = let i = and_true (rel k.types.below A true B) (rel k.types.below A false B) h in (is_told i.0, is_told (round k.types.below A B i.1))
+told_shape k Ty-F.Nothing Ty-F.Nothing h = tt
+told_shape k Ty-F.Nothing Ty-F.Any h = tt
+told_shape k Ty-F.Nothing (Ty-F.Named j) h = tt
+told_shape k Ty-F.Nothing (Ty-F.Tuple Bs) h = tt
+told_shape k Ty-F.Nothing (Ty-F.Arrow C D) h = tt
+told_shape k Ty-F.Nothing (Ty-F.Array C) h = tt
+told_shape k Ty-F.Any Ty-F.Nothing h = absurd cc
+told_shape k Ty-F.Any Ty-F.Any h = tt
+told_shape k Ty-F.Any (Ty-F.Named j) h = absurd cc
+told_shape k Ty-F.Any (Ty-F.Tuple Bs) h = absurd cc
+told_shape k Ty-F.Any (Ty-F.Arrow C D) h = absurd cc
+told_shape k Ty-F.Any (Ty-F.Array C) h = absurd cc
+told_shape k (Ty-F.Named i) Ty-F.Nothing h = absurd cc
+told_shape k (Ty-F.Named i) Ty-F.Any h = tt
+told_shape k (Ty-F.Named i) (Ty-F.Named j) h = tt
+told_shape k (Ty-F.Named i) (Ty-F.Tuple Bs) h = absurd cc
+told_shape k (Ty-F.Named i) (Ty-F.Arrow C D) h = absurd cc
+told_shape k (Ty-F.Named i) (Ty-F.Array C) h = absurd cc
+told_shape k (Ty-F.Tuple As) Ty-F.Nothing h = absurd cc
+told_shape k (Ty-F.Tuple As) Ty-F.Any h = tt
+told_shape k (Ty-F.Tuple As) (Ty-F.Named j) h = absurd cc
+told_shape k (Ty-F.Tuple As) (Ty-F.Arrow C D) h = absurd cc
+told_shape k (Ty-F.Tuple As) (Ty-F.Array C) h = absurd cc
+told_shape k (Ty-F.Arrow A B) Ty-F.Nothing h = absurd cc
+told_shape k (Ty-F.Arrow A B) Ty-F.Any h = tt
+told_shape k (Ty-F.Arrow A B) (Ty-F.Named j) h = absurd cc
+told_shape k (Ty-F.Arrow A B) (Ty-F.Tuple Bs) h = absurd cc
+told_shape k (Ty-F.Arrow A B) (Ty-F.Array C) h = absurd cc
+told_shape k (Ty-F.Array A) Ty-F.Nothing h = absurd cc
+told_shape k (Ty-F.Array A) Ty-F.Any h = tt
+told_shape k (Ty-F.Array A) (Ty-F.Named j) h = absurd cc
+told_shape k (Ty-F.Array A) (Ty-F.Tuple Bs) h = absurd cc
+told_shape k (Ty-F.Array A) (Ty-F.Arrow C D) h = absurd cc
+
+pub shape : (k : Program) (A B : Ty) → Below k A B → Shape k (out-Ty A) (out-Ty B)
+shape k A B (is_same e) = subst (λ X. Shape k (out-Ty A) (out-Ty X)) e (shape_itself k (out-Ty A))
+shape k A B (is_told h) = told_shape k (out-Ty A) (out-Ty B) (sym (told_out k.types.below A B true) ∙ h)
+shape k A B (is_rows {As = As} {Bs = Bs} e q r) = subst (λ z. Shape k z (out-Ty B)) (sym (ap out-Ty e ∙ outs-Tuple As)) (subst (λ z. Shape k (Ty-F.Tuple As) z) (sym (ap out-Ty q ∙ outs-Tuple Bs)) (all_rows k r))

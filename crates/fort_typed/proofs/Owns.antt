@@ -15,12 +15,13 @@ use Rattle.fort_machine.specs.Parts.{values_of, bodies_of}
 use Rattle.fort_machine.specs.Calls.{IsApplicable, IsMostSpecific, Dispatches}
 use Rattle.fort_typed.specs.Envs.{Sig, none, Part}
 use Rattle.fort_typed.specs.Typing.{Below, is_told, Called, FitsV, HasParts, HasV, has_v, HasVs, vs0, vs1}
-use Rattle.fort_typed.specs.Sound.{Sound, AllBelow}
+use Rattle.fort_typed.specs.Sound.{AllBelow}
+use Rattle.fort_typed.proofs.Facts.{Facts}
 use Rattle.fort_typed.proofs.Bind.{Tells, alike, apart, tells, self_same}
 use Rattle.fort_typed.proofs.Rules.{has_v_at, sub_v}
 use Rattle.fort_typed.proofs.Near.{and_true}
 
-module _ (k : Program) (o : Sound k) where
+module _ (k : Program) (o : Facts k) where
   pub told : (As Bs : List Ty) → IsTrue (all_below k As Bs) → AllBelow k As Bs
   told [] [] e = tt
   told [] (B ∷ Bs) e = absurd cc
@@ -49,14 +50,14 @@ module _ (k : Program) (o : Sound k) where
     sub_vs (A ∷ As) [] (vs1 h hs) b = absurd b
     sub_vs (A ∷ As) (B ∷ Bs) (vs1 h hs) b = vs1 (sub_v k S o.transitive h b.0) (sub_vs As Bs hs b.1)
 
-    abbrev of_closure : Closure → Ty
+    abbrev pub of_closure : Closure → Ty
     of_closure = fold-Closure (Unit {0}) Ty Ty (λ t. tt) (type_at k.built_in) (λ c. Arrow (domain_of c.parameters) c.result)
 
-    out_type : (v : Value) (y : Value-F Term Value Closure) → out-Value v ≡ y → type_of k v ≡ type_at k.built_in (map-Value Term Value Closure (Unit {0}) Ty Ty (λ t. tt) (type_of k) of_closure y)
+    pub out_type : (v : Value) (y : Value-F Term Value Closure) → out-Value v ≡ y → type_of k v ≡ type_at k.built_in (map-Value Term Value Closure (Unit {0}) Ty Ty (λ t. tt) (type_of k) of_closure y)
     out_type v y e = fold_out-Value (Unit {0}) Ty Ty (λ t. tt) (type_at k.built_in) (λ c. Arrow (domain_of c.parameters) c.result) v
         ∙ ap (λ z. type_at k.built_in (map-Value Term Value Closure (Unit {0}) Ty Ty (λ t. tt) (type_of k) of_closure z)) e
 
-    closure_type : (c : Closure) → of_closure c ≡ Arrow (domain_of c.parameters) c.result
+    pub closure_type : (c : Closure) → of_closure c ≡ Arrow (domain_of c.parameters) c.result
     closure_type c = fold_out-Closure (Unit {0}) Ty Ty (λ t. tt) (type_at k.built_in) (λ c. Arrow (domain_of c.parameters) c.result) c
 
     abbrev Own : Value → Ty → Type 0
@@ -74,11 +75,11 @@ module _ (k : Program) (o : Sound k) where
           subst (λ X. HasV k S v X) (sym q) (has_v_at k S e (record { own = Tuple (map (type_of k) vs); qs = qs; ws = map (type_of k) vs; fits = refl; parts = ps; values = i.0; below = o.reflexive _ })),
           subst (λ X. Below k X T) (sym q) (o.transitive _ R T (subst (λ X. Below k (Tuple (map (type_of k) vs)) X) (sym f) (o.tuples (map (type_of k) vs) ws i.1)) b),
         )
-    own_at v T R qs ws (Value-F.Small n) e f ps hs b i = own_is v T R qs ws (Value-F.Small n) e f ps hs b (sym (out_type v _ e ∙ sym f))
-    own_at v T R qs ws (Value-F.Large n) e f ps hs b i = own_is v T R qs ws (Value-F.Large n) e f ps hs b (sym (out_type v _ e ∙ sym f))
+    own_at v T R qs ws (Value-F.Small n) e f ps hs b i = own_is v T R qs ws (Value-F.Small n) e f ps hs b (sym (out_type v _ e ∙ sym f.0))
+    own_at v T R qs ws (Value-F.Large n) e f ps hs b i = own_is v T R qs ws (Value-F.Large n) e f ps hs b (sym (out_type v _ e ∙ sym f.0))
     own_at v T R qs ws (Value-F.Truth n) e f ps hs b i = own_is v T R qs ws (Value-F.Truth n) e f ps hs b (sym (out_type v _ e ∙ sym f))
     own_at v T R qs ws (Value-F.Text n) e f ps hs b i = own_is v T R qs ws (Value-F.Text n) e f ps hs b (sym (out_type v _ e ∙ sym f))
-    own_at v T R qs ws (Value-F.Range n m) e f ps hs b i = own_is v T R qs ws (Value-F.Range n m) e f ps hs b (sym (out_type v _ e ∙ sym f))
+    own_at v T R qs ws (Value-F.Range n m) e f ps hs b i = own_is v T R qs ws (Value-F.Range n m) e f ps hs b (sym (out_type v _ e ∙ sym f.0))
     own_at v T R qs ws (Value-F.Object id base) e f ps hs b i = own_is v T R qs ws (Value-F.Object id base) e f ps hs b (sym (out_type v _ e ∙ sym f.1))
     own_at v T R qs ws (Value-F.Array t base n) e f ps hs b i = own_is v T R qs ws (Value-F.Array t base n) e f ps hs b (sym (out_type v _ e ∙ sym f.1))
     own_at v T R qs ws (Value-F.Function c) e f ps hs b i = own_is v T R qs ws (Value-F.Function c) e f ps hs b (sym (out_type v _ e ∙ closure_type c ∙ sym f.2))

@@ -42,8 +42,9 @@ use Rattle.fort_machine.proofs.Properly.{value_proper, rest_proper}
 use Rattle.fort_machine.proofs.Standing.{rolled, decide, stepped_open, standing-Value, standing-throw, values_open, group_open}
 use Rattle.fort_typed.specs.Envs.{Sort, fixed, cell, Sig, Env, none, binds, Part, plains}
 use Rattle.fort_typed.specs.Typing.{Below, small_type, truth_type, SlotHas, FieldOf, ItemsOf, count_of, vars_of, clauses, Fits, Has, has, HasParts, parts0, parts1, HasV, HasVs, vs0, vs1}
-use Rattle.fort_typed.specs.Sound.{Sound, Defined, StoreOk}
-use Rattle.fort_typed.specs.Goes.{Complete, Finite, at_atomic, Goes, done, goes_at, NeverStuck}
+use Rattle.fort_typed.specs.Sound.{Defined, StoreOk}
+use Rattle.fort_typed.proofs.Facts.{Facts}
+use Rattle.fort_typed.specs.Goes.{Complete, Finite, at_atomic, Goes, done, goes_at}
 use Rattle.fort_typed.proofs.Bind.{alike, apart, tells, bind_other, self_same}
 use Rattle.fort_typed.proofs.Rules.{value_has, parts_as, rule_v, sub_v}
 use Rattle.fort_typed.proofs.Near.{AllScoped, scoping, out_scoped, closure_scoped, body_names, fixed_names}
@@ -201,7 +202,7 @@ map_more : (before : List Value) (v : Value) (ts : List Term) → map term.Value
 map_more [] v ts = refl
 map_more (w ∷ before) v ts = ap (λ r. term.Value w ∷ r) (map_more before v ts)
 
-module _ (k : Program) (o : Sound k) (def : Defined k) (all : Complete k) (inner : Bool) (S : Sig) (s : Store) (m : StoreOk k S s) (fin : Finite s) where
+module _ (k : Program) (o : Facts k) (def : Defined k) (all : Complete k) (inner : Bool) (S : Sig) (s : Store) (m : StoreOk k S s) (fin : Finite s) where
   abbrev O : Term → Type 0
   O t = Goes k inner s t
 
@@ -306,7 +307,7 @@ module _ (k : Program) (o : Sound k) (def : Defined k) (all : Complete k) (inner
   items_here v A I h (inl i) = let r = range_is k o all S m.opened v (subst (λ X. HasV k S v X) i.0 h) in subst (λ y. ItemsHere (items_at y)) (sym r.2) tt
   items_here v A I h (inr i) = let hv = subst (λ X. HasV k S v X) i h in let r = array_is k o all S m.opened v I hv in
       let u = rule_v k S r.3 hv in
-      subst (λ y. ItemsHere (items_at y)) (sym r.3) (λ n l. there (r.1.0 + n) r.0 (u.fits.0 n l))
+      subst (λ y. ItemsHere (items_at y)) (sym r.3) (λ n l. there (r.1.0 + n) r.0 (u.fits.0.0 n l))
 
   item_live : (items : Items) (n : ℕ) (next : Value → Term) → ItemsHere items → n < count_of items → Lives (by_item items n next)
   item_live (numbers_from first count) n next h l = tt
@@ -428,11 +429,11 @@ module _ (k : Program) (o : Sound k) (def : Defined k) (all : Complete k) (inner
   form_on t (Term-F.ReadElement a b) e R qs ws f ps vs g td pp =
       let is = rolled t _ e ∙ rolls-ReadElement a b in let q = ap (act_at k) e in
       let j = subst (λ z. GoAll (a ∷ b ∷ []) z) (f) g in let i = parts_as k S ps (f) in
-      after_on k o def all inner S s m fin t (in_element b) a _ (is) refl q (j.0 refl) (λ v x r. after_on k o def all inner S s m fin t (in_index v) b _ (is ∙ ap (λ u. ReadElement u b) x) refl r (j.1.0 refl) (λ w u z. let hv = of_value v a (Array R) x i.0.1 in let c = array_is k o all S m.opened v R hv in let d = small_is k o all S m.opened w (of_value w b (small_type k) u i.1.0.1) in let l = rule_v k S c.3 hv in by_act k o def all inner S s m fin t _ (z ∙ ap (λ y. by_element k y (out-Value w) reading_at) c.3 ∙ ap (λ y. by_element k (Value-F.Array c.0 c.1 c.2) y reading_at) d.1) (element_live c.0 c.1 c.2 d.0 reading_at (λ n h. there (c.1.0 + n) c.0 (l.fits.0 n h)))))
+      after_on k o def all inner S s m fin t (in_element b) a _ (is) refl q (j.0 refl) (λ v x r. after_on k o def all inner S s m fin t (in_index v) b _ (is ∙ ap (λ u. ReadElement u b) x) refl r (j.1.0 refl) (λ w u z. let hv = of_value v a (Array R) x i.0.1 in let c = array_is k o all S m.opened v R hv in let d = small_is k o all S m.opened w (of_value w b (small_type k) u i.1.0.1) in let l = rule_v k S c.3 hv in by_act k o def all inner S s m fin t _ (z ∙ ap (λ y. by_element k y (out-Value w) reading_at) c.3 ∙ ap (λ y. by_element k (Value-F.Array c.0 c.1 c.2) y reading_at) d.1) (element_live c.0 c.1 c.2 d.0 reading_at (λ n h. there (c.1.0 + n) c.0 (l.fits.0.0 n h)))))
   form_on t (Term-F.WriteElement a b c) e R qs ws f ps vs g td pp =
       let is = rolled t _ e ∙ rolls-WriteElement a b c in let q = ap (act_at k) e in
       let j = subst (λ z. GoAll (a ∷ b ∷ c ∷ []) z) (f.1) g in let i = parts_as k S ps (f.1) in
-      after_on k o def all inner S s m fin t (in_element_target b c) a _ (is) refl q (j.0 refl) (λ v x r. after_on k o def all inner S s m fin t (in_element_index v c) b _ (is ∙ ap (λ u. WriteElement u b c) x) refl r (j.1.0 refl) (λ w u z. after_on k o def all inner S s m fin t (in_element_value v w) c _ (is ∙ ap (λ u. WriteElement u b c) x ∙ ap (λ z. WriteElement (term.Value v) z c) u) refl z (j.1.1.0 refl) (λ y p n. let hv = of_value v a (Array f.0) x i.0.1 in let d = array_is k o all S m.opened v f.0 hv in let h = small_is k o all S m.opened w (of_value w b (small_type k) u i.1.0.1) in let l = rule_v k S d.3 hv in by_act k o def all inner S s m fin t _ (n ∙ ap (λ x. by_element k x (out-Value w) (λ l. writing_at l y)) d.3 ∙ ap (λ x. by_element k (Value-F.Array d.0 d.1 d.2) x (λ l. writing_at l y)) h.1) (element_live d.0 d.1 d.2 h.0 (λ l. writing_at l y) (λ n q. there (d.1.0 + n) d.0 (l.fits.0 n q))))))
+      after_on k o def all inner S s m fin t (in_element_target b c) a _ (is) refl q (j.0 refl) (λ v x r. after_on k o def all inner S s m fin t (in_element_index v c) b _ (is ∙ ap (λ u. WriteElement u b c) x) refl r (j.1.0 refl) (λ w u z. after_on k o def all inner S s m fin t (in_element_value v w) c _ (is ∙ ap (λ u. WriteElement u b c) x ∙ ap (λ z. WriteElement (term.Value v) z c) u) refl z (j.1.1.0 refl) (λ y p n. let hv = of_value v a (Array f.0) x i.0.1 in let d = array_is k o all S m.opened v f.0 hv in let h = small_is k o all S m.opened w (of_value w b (small_type k) u i.1.0.1) in let l = rule_v k S d.3 hv in by_act k o def all inner S s m fin t _ (n ∙ ap (λ x. by_element k x (out-Value w) (λ l. writing_at l y)) d.3 ∙ ap (λ x. by_element k (Value-F.Array d.0 d.1 d.2) x (λ l. writing_at l y)) h.1) (element_live d.0 d.1 d.2 h.0 (λ l. writing_at l y) (λ n q. there (d.1.0 + n) d.0 (l.fits.0.0 n q))))))
   form_on t (Term-F.Size a) e R qs ws f ps vs g td pp =
       let is = rolled t _ e ∙ rolls-Size a in let q = ap (act_at k) e in
       let j = subst (λ z. GoAll (a ∷ []) z) (f.1) g in let i = parts_as k S ps (f.1) in
@@ -479,6 +480,3 @@ module _ (k : Program) (o : Sound k) (def : Defined k) (all : Complete k) (inner
     progress_parts : {G : Env} {ts : List Term} {qs : List Part} → HasParts k S G ts qs → G ≡ none → AllProper ts → GoAll ts qs
     progress_parts parts0 e pp = tt
     progress_parts {G} (parts1 {q = q} n h hs) e (next_proper p ps) = (λ v. progress h (ap (λ z. binds z G) v ∙ e) p, progress_parts hs e ps)
-
-pub never_stuck : NeverStuck
-never_stuck k o def all inner S s t T m fin h p = progress k o def all inner S s m fin h refl p

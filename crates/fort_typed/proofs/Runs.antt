@@ -22,14 +22,15 @@ use Rattle.fort_machine.proofs.Ready.{local_ready, form_ready}
 use Rattle.fort_machine.proofs.Runs.{closes_fit, runs_fit}
 use Rattle.fort_typed.specs.Envs.{Sig, none, plain}
 use Rattle.fort_typed.specs.Typing.{unit_type, MarksFit, Has, HasV, HasVs, vs0, vs1}
-use Rattle.fort_typed.specs.Sound.{Up, opening, Sound, StoreOk, Typed, Kept, KeptRun, RunsKeep, StaysTyped, RunIsTyped}
+use Rattle.fort_typed.specs.Sound.{Up, opening, StoreOk, Typed, Kept, KeptRun}
+use Rattle.fort_typed.proofs.Facts.{Facts}
 use Rattle.fort_typed.proofs.Rules.{rule_at, has_at, parts_as, one_part, sub}
 use Rattle.fort_typed.proofs.Grow.{grow_v}
 use Rattle.fort_typed.proofs.Frames.{plug_has}
 use Rattle.fort_typed.proofs.Good.{throw_good}
 use Rattle.fort_typed.proofs.Steps.{stay, same_store, local_keeps}
 
-module _ (k : Program) (o : Sound k) where
+module _ (k : Program) (o : Facts k) where
   -- the store after an aborted attempt is as before
   back_same : (c : Cell) (x : Option Value) → Fits c x → left_at (taken_away c) x ≡ x
   back_same untouched x f = refl
@@ -131,12 +132,3 @@ module _ (k : Program) (o : Sound k) where
   -- what is typed stays typed in any run
   pub keeps : {inner strict : Bool} {s : Store} {picks : List Pick} {t u : Term} {d : Effect} (T : Ty) → Typed k t s T → Runs k inner strict s picks t (goes u) d → Typed k u (afterwards d s) T
   keeps {u = u} T h w = let j = runs_keeps h.types T h.store h.term w in record { types = j.types; store = j.store; term = j.term u refl }
-
-pub runs_keep : RunsKeep
-runs_keep k o inner strict S s picks t r d T m h w = runs_keeps k o S T m h w
-
-pub stays_typed : StaysTyped
-stays_typed k o inner strict s picks t u d T h w = keeps k o T h w
-
-pub run_is_typed : RunIsTyped
-run_is_typed k o picks t d r = keeps k o unit_type (record { types = opening k; store = o.opened; term = o.first }) r.runs

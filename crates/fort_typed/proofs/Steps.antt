@@ -15,7 +15,8 @@ use Rattle.fort_machine.specs.Steps.{by_itself, by_call, or_unit, Does, Local, s
 use Rattle.fort_machine.proofs.Effects.{here}
 use Rattle.fort_typed.specs.Envs.{Sig, none}
 use Rattle.fort_typed.specs.Typing.{unit_type, Has, HasV, HasVs, vs0, vs1}
-use Rattle.fort_typed.specs.Sound.{Up, opening, Sound, StoreOk, Kept}
+use Rattle.fort_typed.specs.Sound.{Up, opening, StoreOk, Kept}
+use Rattle.fort_typed.proofs.Facts.{Facts}
 use Rattle.fort_typed.proofs.Bind.{Tells, alike, apart, tells, self_same}
 use Rattle.fort_typed.proofs.Rules.{value_has}
 use Rattle.fort_typed.proofs.Grow.{grow_v}
@@ -42,7 +43,7 @@ row_typed l (u ∷ ws) S (suc n) w e =
     let m : l + suc n ≡ (l + 1) + n = omega arith in
     ap (λ b. if b then Some u else typed_from (l + 1) ws S (l + suc n)) q ∙ ap (typed_from (l + 1) ws S) m ∙ row_typed (l + 1) ws S n w e
 
-module _ (k : Program) (o : Sound k) where
+module _ (k : Program) (o : Facts k) where
   pub stay : (S : Sig) → Up S S
   stay S l F e = e
 

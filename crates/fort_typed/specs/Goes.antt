@@ -17,7 +17,7 @@ use Rattle.fort_core.specs.declared.value.Closure.{Closure}
 use Rattle.fort_core.specs.declared.value.Value.{Value, out-Value}
 use Rattle.fort_machine.specs.Acts.{ends, single}
 use Rattle.fort_core.specs.declared.pick.Pick.{Pick}
-use Rattle.fort_machine.specs.Attempts.{Form, Ended}
+use Rattle.fort_machine.specs.Attempts.{Form, MayTry, Ended}
 use Rattle.fort_machine.specs.Runs.{Runs}
 use Rattle.fort_machine.specs.Effects.{Store, Effect, FitsAll, afterwards}
 use Rattle.fort_machine.specs.Ends.{Finished}
@@ -30,21 +30,19 @@ use Rattle.fort_machine.specs.Written.{WrittenProgram}
 use Rattle.fort_machine.specs.Proper.{Proper, Reached}
 use Rattle.fort_typed.specs.Envs.{Sig, none}
 use Rattle.fort_typed.specs.Typing.{Below, ShapeOf, Makes, FieldOf, Has, HasVs}
-use Rattle.fort_typed.specs.Sound.{IsFailure, Sound, Defined, StoreOk, Typed}
+use Rattle.fort_typed.specs.Sound.{IsFailure, Under, Sound, Defined, StoreOk, Typed}
 
 -- The built-in types whose values are of their own kind.
 abbrev pub IsBuiltIn : Program → TypeId → Type 0
 IsBuiltIn p id = let b = p.built_in in (id ≡ b.small) ⊎ (id ≡ b.large) ⊎ (id ≡ b.text) ⊎ (id ≡ b.truth) ⊎ (id ≡ b.range)
 
--- What an accepted program has besides, so that nothing gets stuck.
+-- What an accepted program has besides, so that nothing gets stuck: it is as it is written; each exception that steps throw has its single object; and the built-in leaves are five types, above no other ones, made by no object and without fields.
 pub record Complete (p : Program) : Type 0 where
-  pub singles : (id : TypeId) → IsFailure p id → (v : Value) × (single p id ≡ Some v)
   pub written : WrittenProgram p
-  pub answers : (S : Sig) (d : DeclId) (decl : CoreDecl) (f : Primitive) (vs : List Value) → slice_get p.decls d.0 ≡ Some decl → decl.body ≡ body.Primitive f
-      → HasVs p S vs decl.parameters → answer_of p f vs ≢ nothing
-  pub only : (b i : TypeId) → IsBuiltIn p b → Below p (Named i) (Named b) → i ≡ b
+  pub singles : (id : TypeId) → IsFailure p id → (v : Value) × (single p id ≡ Some v)
+  pub only : (b i : TypeId) → IsBuiltIn p b → Under p i b → i ≡ b
   pub unmade : (b : TypeId) (s : CoreShape) → IsBuiltIn p b → ShapeOf p b s → Makes s.kind → ⊥
-  pub fieldless : (b i : TypeId) (f : NameId) (A : Ty) → IsBuiltIn p b → Below p (Named b) (Named i) → FieldOf p i f A → ⊥
+  pub fieldless : (b i : TypeId) (f : NameId) (A : Ty) → IsBuiltIn p b → Under p b i → FieldOf p i f A → ⊥
   pub small_large : p.built_in.small ≢ p.built_in.large
   pub small_text : p.built_in.small ≢ p.built_in.text
   pub small_truth : p.built_in.small ≢ p.built_in.truth
@@ -54,6 +52,7 @@ pub record Complete (p : Program) : Type 0 where
   pub truth_range : p.built_in.truth ≢ p.built_in.range
   pub range_large : p.built_in.range ≢ p.built_in.large
   pub range_text : p.built_in.range ≢ p.built_in.text
+  pub large_text : p.built_in.large ≢ p.built_in.text
 
 -- From some number on a store has nothing.
 abbrev pub Finite : Store → Type 0
@@ -90,3 +89,17 @@ NoRunIsStuck = (p : Program) → Sound p → Defined p → Complete p → (inner
 -- A run leaves a store finite.
 abbrev pub StaysFinite : Type 0
 StaysFinite = (p : Program) (inner strict : Bool) (s : Store) (picks : List Pick) (t : Term) (r : Ended) (d : Effect) → Finite s → Runs p inner strict s picks t r d → Finite (afterwards d s)
+
+-- What a thread may do next, the rule on sleeping forms kept: a legal step; `abort()` in an attempt; an attempt of an atomic form that may be tried.
+pub data MayGo (p : Program) (inner : Bool) (s : Store) (t : Term) (fs : List Frame) (a : Term) : Type 0 where
+  steps_on : (loc : ℕ) (b : Term) (d : Effect) → Local p inner loc a b d → FitsAll d s → MayGo p inner s t fs a
+  aborts_here : inner ≡ true → Acts p a ends → MayGo p inner s t fs a
+  tries : (m : Mode) (body : Term) → Form a m body → Bare body → MayTry true s t fs a → MayGo p inner s t fs a
+
+-- No thread of a term may go on.
+abbrev pub NobodyMayGo : Program → Bool → Store → Term → Type 0
+NobodyMayGo p inner s t = (fs : List Frame) (a : Term) → t ≡ plug fs a → passed fs a ≡ false → MayGo p inner s t fs a → ⊥
+
+-- Where a machine of an accepted program isn't at its end, it isn't so that nobody may go on: where all who are awake have gone, a sleeper may be tried. Which thread it is can't be said here, since no test tells whether a store has a value.
+abbrev pub SomeoneMayGo : Type 0
+SomeoneMayGo = (p : Program) → Sound p → Defined p → Complete p → (inner : Bool) (s : Store) (t : Term) → Reached p inner s t → (Finished t → ⊥) → NobodyMayGo p inner s t → ⊥

@@ -16,8 +16,7 @@ use Rattle.fort_core.specs.declared.program.CoreShape.{CoreShape}
 use Rattle.fort_core.specs.declared.term.Term.{Term}
 use Rattle.fort_core.specs.declared.value.Value.{Value}
 use Rattle.fort_core.specs.declared.program.Program.{Program}
-use Rattle.fort_machine.specs.Types.{below}
-use Rattle.fort_machine.specs.Primitives.{gives, makes_text, throws, prints, answer_of}
+use Rattle.fort_types.specs.Table.{is_set}
 use Rattle.fort_machine.specs.Acts.{single}
 use Rattle.fort_machine.specs.Calls.{IsApplicable, IsMoreSpecific, constants}
 use Rattle.fort_core.specs.declared.pick.Pick.{Pick}
@@ -27,6 +26,7 @@ use Rattle.fort_machine.specs.Attempts.{Ended, goes}
 use Rattle.fort_machine.specs.Runs.{Runs}
 use Rattle.fort_machine.specs.Journals.{opening_store, IsRun}
 use Rattle.fort_machine.specs.OneDefinition.{HasDefinition, IsOne}
+use Rattle.fort_typed.specs.Signatures.{parameters_of, result_of}
 use Rattle.fort_typed.specs.Envs.{Sort, fixed, Sig, Env, none, binds}
 use Rattle.fort_typed.specs.Typing.{Below, unit_type, thrown_type, ShapeOf, Makes, FieldOf, Has, HasV, HasVs}
 
@@ -69,13 +69,6 @@ IsFailure p id = let b = p.built_in in
     (id ≡ b.integer_overflow) ⊎ (id ≡ b.division_by_zero) ⊎ (id ≡ b.negative_exponent) ⊎ (id ≡ b.index_out_of_range) ⊎ (id ≡ b.negative_size)
     ⊎ (id ≡ b.depth_exceeded) ⊎ (id ≡ b.try_atomic_failure) ⊎ (id ≡ b.abort_outside)
 
--- What a built-in declaration answers to typed values.
-pub record AnswerFits (p : Program) (S : Sig) (f : Primitive) (vs : List Value) (R : Ty) : Type 0 where
-  pub given : (v : Value) → answer_of p f vs ≡ gives v → HasV p S v R
-  pub text : (s : List ℕ) → answer_of p f vs ≡ makes_text s → Below p (Named p.built_in.text) R
-  pub printed : (s : List ℕ) → answer_of p f vs ≡ prints s → Below p unit_type R
-  pub thrown : (id : TypeId) → answer_of p f vs ≡ throws id → IsFailure p id
-
 -- What a constructor makes has its fields' types.
 pub record NewFits (p : Program) (id : TypeId) (decl : CoreDecl) : Type 0 where
   pub shape : CoreShape
@@ -92,20 +85,24 @@ pub record StoreOk (p : Program) (S : Sig) (s : Store) : Type 0 where
   pub holds : (l : ℕ) (F : Ty) → S l ≡ Some F → (v : Value) × (s l ≡ Some v) × HasV p S v F
   pub covers : (l : ℕ) (v : Value) → s l ≡ Some v → (F : Ty) × (S l ≡ Some F)
 
--- An accepted program.
+-- One declared type is another one, or the rows of the program say that it is below it.
+abbrev pub Under : Program → TypeId → TypeId → Type 0
+Under p i j = (i ≡ j) ⊎ IsTrue (is_set p.types.below i.0 j.0)
+
+-- What the rows say goes through a third type.
+abbrev pub RowsThrough : List (List Bool) → Type 0
+RowsThrough rows = (i j n : ℕ) → IsTrue (is_set rows i j) → IsTrue (is_set rows j n) → IsTrue (is_set rows i n)
+
+-- What the typing of an accepted program gives: its rows go through; nothing is below a type that objects are made of; an object has each field of the types above it, at their types or below; of two declarations that may run in one call, the more specific one's result is below the other's; bodies have their results' types, over the opening store's types; built-in declarations have their signatures; constructors make objects of their types; the opening store has its types; the first term is of type `()`; and the exceptions that steps throw are below `Exception`.
 pub record Sound (p : Program) : Type 0 where
-  pub reflexive : (A : Ty) → Below p A A
-  pub transitive : (A B C : Ty) → Below p A B → Below p B C → Below p A C
-  pub shape : (A B : Ty) → Below p A B → Shape p (out-Ty A) (out-Ty B)
-  pub absorbs : (A B C : Ty) → Below p A B → IsTrue (below p B C) → IsTrue (below p A C)
-  pub tuples : (As Bs : List Ty) → AllBelow p As Bs → Below p (Tuple As) (Tuple Bs)
-  pub leaf : (i j : TypeId) (s : CoreShape) → ShapeOf p j s → Makes s.kind → Below p (Named i) (Named j) → i ≡ j
-  pub fields : (i j : TypeId) (f : NameId) (A : Ty) (s : CoreShape) → FieldOf p j f A → ShapeOf p i s → Makes s.kind → Below p (Named i) (Named j) → (B : Ty) × FieldOf p i f B × Below p B A
+  pub through : RowsThrough p.types.below
+  pub leaf : (i j : TypeId) (s : CoreShape) → ShapeOf p j s → Makes s.kind → Under p i j → i ≡ j
+  pub fields : (i j : TypeId) (f : NameId) (A : Ty) (s : CoreShape) → FieldOf p j f A → ShapeOf p i s → Makes s.kind → Under p i j → (B : Ty) × FieldOf p i f B × Below p B A
   pub results : (set : SetId) (ts us : List Ty) (d e : DeclId) (decl other : CoreDecl) → IsApplicable p set ts d decl → IsApplicable p set us e other
       → IsMoreSpecific p decl other → Below p decl.result other.result
   pub bodies : (d : DeclId) (decl : CoreDecl) (t : Term) → slice_get p.decls d.0 ≡ Some decl → decl.body ≡ body.Plain t → Has p (opening p) (binds (numbered 0 decl.parameters) none) t decl.result
-  pub primitives : (S : Sig) (d : DeclId) (decl : CoreDecl) (f : Primitive) (vs : List Value) → slice_get p.decls d.0 ≡ Some decl → decl.body ≡ body.Primitive f
-      → HasVs p S vs decl.parameters → AnswerFits p S f vs decl.result
+  pub primitives : (d : DeclId) (decl : CoreDecl) (f : Primitive) → slice_get p.decls d.0 ≡ Some decl → decl.body ≡ body.Primitive f
+      → (decl.parameters ≡ parameters_of p f) × (decl.result ≡ result_of p f)
   pub constructors : (d : DeclId) (decl : CoreDecl) (id : TypeId) → slice_get p.decls d.0 ≡ Some decl → decl.body ≡ body.New id → NewFits p id decl
   pub opened : StoreOk p (opening p) (opening_store p)
   pub first : Has p (opening p) none p.first unit_type

@@ -1,5 +1,6 @@
 -- Types of terms and values, over a program and the types of the locations: one rule for all forms, which says by the form what its parts and its values must have.
-use Rattle.std.specs.Prelude.{◌≡◌, ℕ, ◌+◌, ◌<◌, ◌≤◌, ◌⊎◌, IsTrue, List, [], ◌∷◌, ◌++◌, slice_get, Option, Some, None}
+use Rattle.std.specs.Prelude.{◌≡◌, ℕ, ℤ, pos, ◌+ℤ◌, true, ◌+◌, ◌<◌, ◌≤◌, ◌⊎◌, IsTrue, List, [], ◌∷◌, ◌++◌, slice_get, Option, Some, None}
+use Rattle.std.specs.Int.{Width, w32, w64}
 use Rattle.fort_base.specs.declared.ids.DeclId.{DeclId}
 use Rattle.fort_base.specs.declared.ids.Loc.{Loc}
 use Rattle.fort_base.specs.declared.ids.NameId.{NameId}
@@ -23,6 +24,7 @@ use Rattle.fort_core.specs.declared.term.Term.TheOpen.{Term-F, Value-F}
 use Rattle.fort_core.specs.declared.value.Closure.{Closure}
 use Rattle.fort_core.specs.declared.value.Value.{Value, out-Value}
 use Rattle.fort_machine.specs.Types.{below, domain_of}
+use Rattle.fort_machine.specs.Numbers.{is_within}
 use Rattle.fort_machine.specs.Parts.{terms_in, values_in, values_of, bodies_of}
 use Rattle.fort_machine.specs.Calls.{IsApplicable}
 use Rattle.fort_machine.specs.Forms.{place_of}
@@ -161,16 +163,28 @@ Fits p S G (Term-F.Atomic mode a) qs ws R = qs ≡ plain R ∷ []
 Fits p S G (Term-F.Asleep marks a) qs ws R = (qs ≡ plain R ∷ []) × MarksFit S marks ws
 Fits p S G (Term-F.Stepped a) qs ws R = qs ≡ plain R ∷ []
 
+-- A number is one of ZZ32, or of ZZ64.
+abbrev pub IsNumber : Width → ℤ → Type 0
+IsNumber w n = is_within w n ≡ true
+
+-- Each number of a range is one of ZZ32.
+abbrev pub RangeFits : ℤ → ℕ → Type 0
+RangeFits first count = IsNumber w32 first × ((n : ℕ) → n < count → IsNumber w32 (first +ℤ pos n))
+
+-- Each location of an array has its elements' type, and its size is a ZZ32.
+abbrev pub ArrayFits : Sig → Ty → ℕ → ℕ → Type 0
+ArrayFits S e base size = ((n : ℕ) → n < size → S (base + n) ≡ Some e) × IsNumber w32 (pos size)
+
 -- The same of a value.
 abbrev pub FitsV : Program → Sig → Value-F Term Value Closure → List Part → List Ty → Ty → Type 0
-FitsV p S (Value-F.Small n) qs ws R = R ≡ small_type p
-FitsV p S (Value-F.Large n) qs ws R = R ≡ Named p.built_in.large
+FitsV p S (Value-F.Small n) qs ws R = (R ≡ small_type p) × IsNumber w32 n
+FitsV p S (Value-F.Large n) qs ws R = (R ≡ Named p.built_in.large) × IsNumber w64 n
 FitsV p S (Value-F.Truth b) qs ws R = R ≡ truth_type p
 FitsV p S (Value-F.Text s) qs ws R = R ≡ Named p.built_in.text
 FitsV p S (Value-F.Tuple vs) qs ws R = R ≡ Tuple ws
-FitsV p S (Value-F.Range first count) qs ws R = R ≡ Named p.built_in.range
+FitsV p S (Value-F.Range first count) qs ws R = (R ≡ Named p.built_in.range) × RangeFits first count
 FitsV p S (Value-F.Object id base) qs ws R = ObjectFits p S id base.0 × (R ≡ Named id)
-FitsV p S (Value-F.Array e base size) qs ws R = ((n : ℕ) → n < size → S (base.0 + n) ≡ Some e) × (R ≡ Array e)
+FitsV p S (Value-F.Array e base size) qs ws R = ArrayFits S e base.0 size × (R ≡ Array e)
 FitsV p S (Value-F.Function c) qs ws R = ClosureFits c qs ws R
 
 mutual

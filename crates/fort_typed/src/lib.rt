@@ -4,7 +4,8 @@
 #![tactic(auto)]
 
 ghost use Rattle.fort_typed.specs.Sound.{RunsKeep, StaysTyped, RunIsTyped, OneDefinition};
-ghost use Rattle.fort_typed.specs.Goes.{NeverStuck, NoRunIsStuck, ReachedIsOne, ReachedIsTyped, StaysFinite};
+ghost use Rattle.fort_typed.specs.Overloads.{RulesDefine};
+ghost use Rattle.fort_typed.specs.Goes.{NeverStuck, NoRunIsStuck, ReachedIsOne, ReachedIsTyped, SomeoneMayGo, StaysFinite};
 
 use fort_core::Program;
 
@@ -54,4 +55,14 @@ pub fn reached_is_one()
 /// And no machine is stuck.
 pub fn no_run_is_stuck()
     ensures { NoRunIsStuck }
+{}
+
+/// The rules on overloading give each call of typed values its one definition.
+pub fn rules_define()
+    ensures { RulesDefine }
+{}
+
+/// Where a machine of an accepted program isn't at its end, it isn't so that nobody may go on, sleeping forms included.
+pub fn someone_may_go()
+    ensures { SomeoneMayGo }
 {}

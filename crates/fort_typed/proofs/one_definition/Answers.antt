@@ -1,4 +1,4 @@
-use Rattle.fort_typed.proofs.One.{one_definition}
+use Rattle.fort_typed.proofs.Laws.{one_definition}
 use Rattle.fort_typed.proofs.one_definition.Goals as goal
 
 pub returns : goal.returns

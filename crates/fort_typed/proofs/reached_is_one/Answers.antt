@@ -1,4 +1,4 @@
-use Rattle.fort_typed.proofs.Reached.{reached_is_one}
+use Rattle.fort_typed.proofs.Laws.{reached_is_one}
 use Rattle.fort_typed.proofs.reached_is_one.Goals as goal
 
 pub returns : goal.returns

@@ -1,4 +1,4 @@
-use Rattle.fort_typed.proofs.Runs.{run_is_typed}
+use Rattle.fort_typed.proofs.Laws.{run_is_typed}
 use Rattle.fort_typed.proofs.run_is_typed.Goals as goal
 
 pub returns : goal.returns

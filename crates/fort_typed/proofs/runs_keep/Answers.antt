@@ -1,4 +1,4 @@
-use Rattle.fort_typed.proofs.Runs.{runs_keep}
+use Rattle.fort_typed.proofs.Laws.{runs_keep}
 use Rattle.fort_typed.proofs.runs_keep.Goals as goal
 
 pub returns : goal.returns

@@ -1,4 +1,4 @@
-use Rattle.fort_typed.proofs.Runs.{stays_typed}
+use Rattle.fort_typed.proofs.Laws.{stays_typed}
 use Rattle.fort_typed.proofs.stays_typed.Goals as goal
 
 pub returns : goal.returns

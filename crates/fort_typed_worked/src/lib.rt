@@ -1,0 +1,13 @@
+//! A worked program, typed whole: what an accepted program has is met by one.
+//!
+//! Nothing is computed here. The function names a law by its clause and does nothing.
+#![tactic(auto)]
+
+ghost use Rattle.fort_typed_worked.specs.Guarded.{GuardedIsAccepted, GuardedGoesOn};
+
+/// The program `run(): () = try println(2147483647 + 1) catch e IntegerOverflow => () end`, with all built-in types, is
+/// sound, complete and keeps the rules on overloading; so no run of it is stuck.
+pub fn guarded_is_accepted()
+    ensures accepted { GuardedIsAccepted }
+    ensures goes { GuardedGoesOn }
+{}
