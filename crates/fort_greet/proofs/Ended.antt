@@ -163,11 +163,11 @@ module _ (said : List ℕ) (p : Program) (h : IsProgram said p) where
       let long = length_line said in
       greets_by fuel (halted fuel (root_step ∷ [])) (printing said) (both (paid 1) idle) (from_first (root_step ∷ []) (printing said) (both (paid 1) idle) (one_step (opening_store p)))
       (λ l v e. absurd cc) (omega (arith, some)) refl refl (record {
-    effect = both (printed (line_of said) (line_cost said)) idle;
-    is_next = inl (goes (term.Value unit), last_step (afterwards (both (paid 1) idle) (opening_store p)));
-    bounded = λ l v e. absurd cc;
-    passes = omega (arith, short, long);
-  })
+        effect = both (printed (line_of said) (line_cost said)) idle;
+        is_next = inl (goes (term.Value unit), last_step (afterwards (both (paid 1) idle) (opening_store p)));
+        bounded = λ l v e. absurd cc;
+        passes = omega (arith, short, long);
+      })
 
   -- with fuel for both
   pub greets_both : (fuel : ℕ) (output : List ℕ) → cost said ≤ fuel → output ≡ line_of said → Greets said fuel (finished fuel (root_step ∷ root_step ∷ []) output)

@@ -80,12 +80,7 @@ fn out_of_fuel(alloc: Global, fuel: u64, picks: List<Pick>) -> Greeted
 }
 
 // A run that goes one step on, to its end.
-fn completed(
-    alloc: Global,
-    fuel: u64,
-    picks: List<Pick>,
-    output: Bytes,
-) -> Result<Greeted, Memory>
+fn completed(alloc: Global, fuel: u64, picks: List<Pick>, output: Bytes) -> Result<Greeted, Memory>
     ensures { IfOk result (λ greeted. greeted ≡ finished fuel (picks ++ root_step ∷ []) output) }
 {
     let mut picks = picks;

@@ -52,7 +52,10 @@ fn arrow_of(alloc: Global, closure: &Closure) -> Result<Ty, Memory>
     ensures { IfOk result (λ ty. ty ≡ Ty.Arrow (domain_of closure.now.parameters) closure.now.result) }
 {
     let domain = Boxed::new(alloc, domain(alloc, closure.parameters.get())?)?;
-    Ok(Ty::Arrow(domain, Boxed::new(alloc, closure.result.get().copy(alloc)?)?))
+    Ok(Ty::Arrow(
+        domain,
+        Boxed::new(alloc, closure.result.get().copy(alloc)?)?,
+    ))
 }
 
 // What a function takes.
