@@ -9,7 +9,7 @@ use Rattle.fort_tree.specs.declared.declarations.Component.{Component}
 use Rattle.fort_tree.specs.Limits.{BreaksLimit, KeepsLimits, crowded, declaration_places, first_behind, measured_declarations, type_places}
 use Rattle.fort_base.specs.Places.{IsBefore, is_before}
 use Rattle.fort_tree.specs.Measured.{all_crowded, most_declarations, most_types}
-use Rattle.fort_limits.specs.Earliest.{earlier, least, earliest, IsEarliest}
+use Rattle.fort_limits.specs.Earliest.{earlier, least, earliest}
 use Rattle.fort_limits.proofs.EarliestLaws.{earliest_append}
 
 is_before-yes : (a b : Place) → is_before a b ≡ true → IsBefore a b
@@ -38,10 +38,14 @@ in_cons p ps o h = ⊎_elim (λ k. inl (only k)) inr (Contains-append_cases (p �
   only : Contains (p ∷ []) o → p ≡ o
   only k = ⊎_elim (λ n. absurd (none n)) (λ e. e) (Contains-push_cases [] p o k)
 
+-- of these places this one is the earliest
+abbrev IsLeast : List Place → Place → Type 0
+IsLeast places at = Contains places at × ((other : Place) → Contains places other → ¬ (IsBefore other at))
+
 -- what a test for the earliest of some places finds
 abbrev Finds : List Place → Option Place → Type 0
 Finds places None = places ≡ []
-Finds places (Some at) = IsEarliest places at
+Finds places (Some at) = IsLeast places at
 
 module _ (p : Place) (ps : List Place) where
   alone : ps ≡ [] → Finds (p ∷ ps) (Some p)
@@ -49,7 +53,7 @@ module _ (p : Place) (ps : List Place) where
     none : (other : Place) → Contains [] other → ⊥
     none other n = omega arith
 
-  earlier-found : (q : Place) → IsEarliest ps q → (b : Bool) → is_before q p ≡ b → Finds (p ∷ ps) (Some (cond b q p))
+  earlier-found : (q : Place) → IsLeast ps q → (b : Bool) → is_before q p ≡ b → Finds (p ∷ ps) (Some (cond b q p))
   earlier-found q h true e = (Contains-append_right (p ∷ []) ps q h.0, λ other k. ⊎_elim (λ same. subst (λ o. ¬ (IsBefore o q)) same (asymmetric q p (is_before-yes q p e))) (λ n. h.1 other n) (in_cons p ps other k))
   earlier-found q h false e = (first, λ other k. ⊎_elim (λ same. subst (λ o. ¬ (IsBefore o p)) same (irreflexive p)) (λ n before. h.1 other n (goes_on other p q (is_before-no q p e) before)) (in_cons p ps other k)) where
     first : Contains (p ∷ ps) p

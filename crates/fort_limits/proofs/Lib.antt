@@ -2,7 +2,6 @@ pub mod EarliestLaws
 pub mod TypeWalks
 pub mod ExprWalks
 pub mod BlockWalks
-pub mod Deep
 pub mod Least
 pub mod CensusLaws
 pub mod DeclarationWalks

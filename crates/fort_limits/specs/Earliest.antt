@@ -1,8 +1,7 @@
 -- The chapter "Grammar", limits: the earliest of some places. The code keeps one place while it walks a tree.
 use Rattle.std.specs.Prelude.{Bool, cond, nat_lt, nat_eq, ◌&&◌, ◌||◌, List, [], ◌∷◌, Option, Some, None}
-use Rattle.std.specs.List.{Contains}
 use Rattle.fort_base.specs.declared.refusal.Place.{Place}
-use Rattle.fort_base.specs.Places.{IsBefore, is_before}
+use Rattle.fort_base.specs.Places.{is_before}
 
 -- the earlier of two places, each of which may be wanting
 abbrev pub earlier : Option Place → Option Place → Option Place
@@ -18,7 +17,3 @@ least (p ∷ ps) = earlier (Some p) (least ps)
 -- the earliest of a place, which may be wanting, and some more
 unfoldable pub earliest : Option Place → List Place → Option Place
 earliest found places = earlier found (least places)
-
--- Of these places this one is the earliest.
-abbrev pub IsEarliest : List Place → Place → Type 0
-IsEarliest places at = Contains places at × ((other : Place) → Contains places other → ¬ (IsBefore other at))

@@ -6,7 +6,7 @@ use crate::longest::longest_expr;
 use crate::places::place_at;
 use fort_base::CheckFault;
 use fort_base::rules::{SYNTAX, TOO_DEEP};
-use fort_limits::first_deep;
+use fort_openers::first_deep;
 use fort_parse_types::longest_type;
 use fort_token::Tokens;
 use fort_tree::{Expr, TypeTree};

@@ -1,6 +1,6 @@
 use Rattle.std.proofs.Common.{◌≡◌, ◌≤◌, take, false}
 use Rattle.fort_tree.specs.Openers.{AllShallow, open_behind, ends_with_also}
-use Rattle.fort_limits.proofs.openers.first_deep.Given as goal
+use Rattle.fort_openers.proofs.openers.first_deep.Given as goal
 
 abbrev pub invariant-loop-token : goal.invariant-loop-token
 invariant-loop-token l = record {

@@ -1,7 +1,7 @@
 //! How deep tokens stand.
 ghost use Rattle.std.specs.Prelude.{◌≡◌, ◌<◌, MatchOption};
 ghost use Rattle.fort_tree.specs.Openers.{AllShallow, FirstDeep, turn, turned, open_round, is_also, mark_turn, word_turn};
-ghost use Rattle.fort_limits.specs.Turns.{meaning_of};
+ghost use Rattle.fort_openers.specs.Turns.{meaning_of};
 
 use fort_base::Place;
 use fort_token::{Kind, Mark, Reserved, Token};

@@ -1,7 +1,7 @@
 use Rattle.std.proofs.Common.{◌≤◌, ◌∙◌, sym, subst, refl, arith}
-use Rattle.fort_limits.specs.Turns.{meaning_of}
-use Rattle.fort_limits.proofs.Deep.{also_more, deep_here, depth_more, none_shallow, shallow_here, turned-low}
-use Rattle.fort_limits.proofs.openers.first_deep.Goals as goal
+use Rattle.fort_openers.specs.Turns.{meaning_of}
+use Rattle.fort_openers.proofs.Deep.{also_more, deep_here, depth_more, none_shallow, shallow_here, turned-low}
+use Rattle.fort_openers.proofs.openers.first_deep.Goals as goal
 
 pub loop-token-init : goal.loop-token-init
 loop-token-init c = record {
