@@ -1,4 +1,4 @@
--- The chapter "Members", built-in declarations: what the rows of the table in src/table.rt are.
+-- The chapter "Members", built-in declarations. Their one table stands in src/table.rt; the code walks its rows.
 use Rattle.std.specs.Prelude.{ℕ, nat_eq, Bool, ◌&&◌, List, [], length, map, filter, drop}
 use Rattle.std.specs.Str.{bytes_eq}
 use Rattle.std.specs.Borrow.{Bor}
@@ -28,6 +28,7 @@ declarations = map (λ k. declared_by k.0.now k.1.now k.2 k.3) DECLARATIONS
 abbrev pub declaration_of : Bor (List ℕ) × Bor (List Simple) × Simple × Primitive → BuiltInDeclaration
 declaration_of k = declared_by k.0.now k.1.now k.2 k.3
 
+-- the name of a declaration
 abbrev pub declared_name : BuiltInDeclaration → List ℕ
 declared_name d = d.name
 
@@ -45,6 +46,7 @@ has name width d = bytes_eq d.name name && nat_eq (length d.parameters) width
 abbrev pub declarations_of : List ℕ → ℕ → List BuiltInDeclaration
 declarations_of name width = filter (has name width) declarations
 
+-- what a declaration is to the machine
 abbrev pub primitive_of : BuiltInDeclaration → Primitive
 primitive_of d = d.primitive
 

@@ -14,6 +14,7 @@ use Rattle.fort_builtin.specs.Types.{BuiltInType, types}
 
 -- ---- shapes
 
+-- a location by its number
 abbrev pub location : ℕ → Loc
 location l = record { 0 = l }
 

@@ -1,4 +1,4 @@
--- The chapter "Types": the built-in declared types, by the table in src/types.rt.
+-- The chapter "Types": the built-in declared types. Their one table stands in src/types.rt; the code walks its rows.
 use Rattle.std.specs.Prelude.{ℕ, List, [], ◌∷◌, ◌++◌, Option, Some, None, map}
 use Rattle.std.specs.Borrow.{Bor}
 use Rattle.fort_base.specs.declared.ids.TypeId.{TypeId}
@@ -24,6 +24,7 @@ row_of k = record { name = k.0.now; kind = k.1; extends = k.2 }
 
 -- ---- names
 
+-- the name of a type
 abbrev pub type_name_of : BuiltInType → List ℕ
 type_name_of t = t.name
 

@@ -1,5 +1,5 @@
 //! What the two tables say, each law named by a function that does nothing.
-ghost use Rattle.fort_builtin.specs.Laws.{NumbersNameTypes, TableHasRows};
+ghost use Rattle.fort_builtin.specs.Laws.{NumbersNameTypes, ObjectsHavePlaces, TableHasRows};
 
 /// A law: each constant of a built-in type's number is that of the type with its name. The chapter
 /// is "Types".
@@ -11,4 +11,10 @@ pub fn numbers_name_types()
 /// chapter "Members", in its order.
 pub fn table_has_rows()
     ensures { TableHasRows }
+{}
+
+/// A law: the built-in single objects have, in the order of their types, the locations that the
+/// opening store has for them. The chapter is "Types".
+pub fn objects_have_places()
+    ensures { ObjectsHavePlaces }
 {}

@@ -6,7 +6,7 @@ mod objects;
 mod table;
 mod types;
 
-pub use laws::{numbers_name_types, table_has_rows};
+pub use laws::{numbers_name_types, objects_have_places, table_has_rows};
 pub use objects::{OBJECT_COUNT, opening, opening_types, shapes};
 pub use table::{
     BuiltInDeclaration, DECLARATION_COUNT, FUNCTION_COUNT, OPERATOR_COUNT, declarations,
