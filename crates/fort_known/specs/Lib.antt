@@ -2,4 +2,5 @@ pub mod Spellings
 pub mod Known
 pub mod Sets
 pub mod Names
+pub mod Below
 pub mod Read

@@ -1,5 +1,5 @@
 -- The chapter "Typing", names: what a name in an expression stands for, and which names can't be bound. The code keeps it by the names' numbers.
-use Rattle.std.specs.Prelude.{ℕ, suc, nat_eq, nat_le, Bool, true, false, cond, not, ◌&&◌, ◌||◌, List, [], ◌∷◌, Option, Some, None, codes, get_or}
+use Rattle.std.specs.Prelude.{ℕ, suc, nat_eq, nat_le, Bool, true, false, cond, not, ◌&&◌, ◌||◌, List, [], ◌∷◌, Option, Some, None, codes, get_or, slice_get}
 use Rattle.std.specs.Str.{bytes_eq}
 use Rattle.fort_base.specs.declared.ids.NameId.{NameId}
 use Rattle.fort_base.specs.declared.ids.TypeId.{TypeId}
@@ -16,23 +16,27 @@ use Rattle.fort_known.specs.Sets.{spelled, has_name, any_set, is_function}
 -- ---- what there is of a name
 
 -- the binding of a name
-unfoldable pub bound : List Binding → NameId → Option Binding
+abbrev pub bound : List Binding → NameId → Option Binding
 bound [] name = None
 bound (b ∷ bs) name = cond (nat_eq b.name.0 name.0) (Some b) (bound bs name)
 
 -- the field, or the variable at the top, of a name
-unfoldable pub field_in : List Field → NameId → Option Field
+abbrev pub field_in : List Field → NameId → Option Field
 field_in [] name = None
 field_in (f ∷ fs) name = cond (nat_eq f.name.0 name.0) (Some f) (field_in fs name)
 
 -- the number of the variable of a name
-unfoldable pub number_in : List Field → NameId → ℕ
+abbrev pub number_in : List Field → NameId → ℕ
 number_in [] name = 0
 number_in (f ∷ fs) name = cond (nat_eq f.name.0 name.0) 0 (suc (number_in fs name))
 
+abbrev pub field_among : Option (List Field) → NameId → Option Field
+field_among (Some fs) name = field_in fs name
+field_among None name = None
+
 -- the field of a name that a declared type has
 abbrev pub field_of : Facts → TypeId → NameId → Option Field
-field_of k t name = field_in (get_or k.members.fields t.0 []) name
+field_of k t name = field_among (slice_get k.members.fields t.0) name
 
 -- the field of a name that a type has: declared types alone have fields
 abbrev pub field_at : Facts → Ty-F Ty → NameId → Option Field
@@ -56,13 +60,17 @@ abbrev pub is_leaf_number : ℕ → Bool
 is_leaf_number n = nat_le 2 n && nat_le n 6
 
 -- the number of the type that is spelled so, where these are the types' names; past the last one where none is
-unfoldable pub type_number : List Spelling → Spelling → ℕ
+abbrev pub type_number : List Spelling → Spelling → ℕ
 type_number [] s = 0
 type_number (t ∷ ts) s = cond (bytes_eq t s) 0 (suc (type_number ts s))
 
+abbrev pub is_so : Option Bool → Bool
+is_so (Some b) = b
+is_so None = false
+
 -- an object: of the objects and leaves one that is no leaf
 abbrev pub is_object : Facts → ℕ → Bool
-is_object k n = get_or k.members.objects n false && not (is_leaf_number n)
+is_object k n = is_so (slice_get k.members.objects n) && not (is_leaf_number n)
 
 abbrev pub object_of : Facts → ℕ → Option TypeId
 object_of k n = cond (is_object k n) (Some (record { 0 = n })) None
@@ -117,12 +125,12 @@ is_some_field (Some f) = true
 is_some_field None = false
 
 -- some type is spelled so
-unfoldable pub is_type : List Spelling → Spelling → Bool
+abbrev pub is_type : List Spelling → Spelling → Bool
 is_type [] s = bytes_eq any_spelling s
 is_type (t ∷ ts) s = bytes_eq t s || is_type ts s
 
 -- the component declares a declaration of a set: it has a place
-unfoldable pub any_declared : List Member → Bool
+abbrev pub any_declared : List Member → Bool
 any_declared [] = false
 any_declared (m ∷ ms) = cond (elim m.place [ Some p ↦ true | None ↦ false ]) true (any_declared ms)
 

@@ -24,12 +24,12 @@ abbrev pub is_set_of : Spelling → Bool → ℕ → MemberSet → Bool
 is_set_of name dotted width s = has_name name dotted s && nat_eq (width_of s.members) width
 
 -- some set meets a test
-unfoldable pub any_set : (MemberSet → Bool) → List MemberSet → Bool
+abbrev pub any_set : (MemberSet → Bool) → List MemberSet → Bool
 any_set test [] = false
 any_set test (s ∷ ss) = test s || any_set test ss
 
 -- where the first set stands that meets a test; past the last one where none does
-unfoldable pub first_set : (MemberSet → Bool) → List MemberSet → ℕ
+abbrev pub first_set : (MemberSet → Bool) → List MemberSet → ℕ
 first_set test [] = 0
 first_set test (s ∷ ss) = cond (test s) 0 (suc (first_set test ss))
 

@@ -23,7 +23,7 @@ use Rattle.fort_typed_form.specs.declared.typed_form.TypedForm.{TypedForm, out-T
 use Rattle.fort_typed_form.specs.declared.typed_form.TypedForm.TheVariants as a_typed
 use Rattle.fort_typed_form.specs.declared.typed_form.TypedForm.TheOpen.{TypedForm-F}
 use Rattle.fort_known.specs.declared.fault.Fault.{Fault}
-use Rattle.fort_known.specs.Known.{Knows}
+use Rattle.fort_known.specs.Known.{Facts, Knows}
 use Rattle.fort_known.specs.Names.{field_at}
 use Rattle.fort_known.specs.Sets.{spelled, function_set, method_set, operator_set, is_method}
 use Rattle.fort_typing_rules.specs.declared.part.Part.{Part}
@@ -113,11 +113,11 @@ pub data Joins (k : Knows) (C : Calling) (a b : Part) (m : Made) : Type 0 where
       → CallBreaks k (operator_set k.facts an_op.Juxt 2) (type_of u ∷ type_of v ∷ []) rule → m ≡ breaks rule a.place → Joins k C a b m
 
 -- `a.size()` on an array
-abbrev pub is_size_of : Knows → Ty-F Ty → NameId → List TypedForm → Bool
-is_size_of k shape name [] = array_at shape && bytes_eq (spelled k.facts name) (codes "size")
+abbrev pub is_size_of : Facts → Ty-F Ty → NameId → List TypedForm → Bool
+is_size_of k shape name [] = array_at shape && bytes_eq (spelled k name) (codes "size")
 is_size_of k shape name (t ∷ ts) = false
 
-abbrev pub is_size : Knows → TypedForm → NameId → List TypedForm → Bool
+abbrev pub is_size : Facts → TypedForm → NameId → List TypedForm → Bool
 is_size k t name ts = is_size_of k (out-Ty (type_of t)) name ts
 
 -- A postfix stands behind an element.
@@ -140,16 +140,16 @@ pub data Follows (k : Knows) (C : Calling) (a p : Part) (m : Made) : Type 0 wher
       → field_at k.facts (out-Ty (type_of u)) name ≡ None → m ≡ breaks UNKNOWN_NAME at → Follows k C a p m
   -- `a.size()` on an array
   size : (u : TypedForm) (at : Place) (name : NameId) (ts : List TypedForm) → a.meaning ≡ a_meaning.Value u → p.meaning ≡ a_meaning.Method at name ts
-      → is_size k u name ts ≡ true → m ≡ gives (a_typed.Size zz32 u) → Follows k C a p m
+      → is_size k.facts u name ts ≡ true → m ≡ gives (a_typed.Size zz32 u) → Follows k C a p m
   -- `o.m(e, ..)` is a call with o first; no dotted method of the name: 601 at it
   method : (u : TypedForm) (at : Place) (name : NameId) (ts : List TypedForm) (result : Ty) (widened : List Bool) → a.meaning ≡ a_meaning.Value u
-      → p.meaning ≡ a_meaning.Method at name ts → is_size k u name ts ≡ false
+      → p.meaning ≡ a_meaning.Method at name ts → is_size k.facts u name ts ≡ false
       → C (method_set k.facts name (suc (length ts))) (type_of u ∷ types_of ts) result widened
       → m ≡ gives (a_typed.Call result (chosen (method_set k.facts name (suc (length ts))) widened) (u ∷ ts)) → Follows k C a p m
   no_method : (u : TypedForm) (at : Place) (name : NameId) (ts : List TypedForm) → a.meaning ≡ a_meaning.Value u
-      → p.meaning ≡ a_meaning.Method at name ts → is_size k u name ts ≡ false → is_method k.facts name ≡ false → m ≡ breaks UNKNOWN_NAME at → Follows k C a p m
+      → p.meaning ≡ a_meaning.Method at name ts → is_size k.facts u name ts ≡ false → is_method k.facts name ≡ false → m ≡ breaks UNKNOWN_NAME at → Follows k C a p m
   no_method_call : (u : TypedForm) (at : Place) (name : NameId) (ts : List TypedForm) (rule : Rule) → a.meaning ≡ a_meaning.Value u
-      → p.meaning ≡ a_meaning.Method at name ts → is_size k u name ts ≡ false → is_method k.facts name ≡ true
+      → p.meaning ≡ a_meaning.Method at name ts → is_size k.facts u name ts ≡ false → is_method k.facts name ≡ true
       → CallBreaks k (method_set k.facts name (suc (length ts))) (type_of u ∷ types_of ts) rule → m ≡ breaks rule a.place → Follows k C a p m
 
 -- ---- runs

@@ -152,7 +152,7 @@ types_of ts = map type_of ts
 
 -- ---- forms
 
-abbrev pub place_at : Form-F Form Item Branch Generator TypeBranch → Place
+abbrev pub place_at : {A B C D E : Type 0} → Form-F A B C D E → Place
 place_at (Form-F.Number p a) = p
 place_at (Form-F.Text p a) = p
 place_at (Form-F.Truth p a) = p

@@ -26,7 +26,7 @@ use Rattle.fort_typed_form.specs.declared.typed_form.Chosen.{Chosen}
 use Rattle.fort_typed_form.specs.declared.typed_form.TypedForm.{TypedForm, out-TypedForm}
 use Rattle.fort_typed_form.specs.declared.typed_form.TypedForm.TheVariants as a_typed
 use Rattle.fort_typed_form.specs.declared.typed_form.TypedForm.TheOpen.{TypedForm-F}
-use Rattle.fort_known.specs.Known.{Knows}
+use Rattle.fort_known.specs.Known.{Facts, Knows}
 use Rattle.fort_known.specs.Names.{Standing, a_binding, a_field, a_variable, a_single, functions, standing, is_visible, field_at}
 use Rattle.fort_known.specs.Sets.{operator_set}
 use Rattle.fort_typing_rules.specs.declared.part.Part.{Part}
@@ -123,17 +123,17 @@ abbrev pub generator_name : Generator → NameId × Bool
 generator_name g = ((out-Generator g).name, (out-Generator g).sequential)
 
 -- an atom in parentheses
-abbrev pub parens_at : Form-F Form Item Branch Generator TypeBranch → Bool
+abbrev pub parens_at : {A B C D E : Type 0} → Form-F A B C D E → Bool
 parens_at (Form-F.Parens p e) = true
 parens_at (Form-F.Tuple p es) = true
 parens_at _ = false
 
 -- a list in parentheses of none, or of two or more
-abbrev pub listed_at : Form-F Form Item Branch Generator TypeBranch → Bool
+abbrev pub listed_at : {A B C D E : Type 0} → Form-F A B C D E → Bool
 listed_at (Form-F.Tuple p es) = true
 listed_at _ = false
 
-abbrev pub postfix_at : Form-F Form Item Branch Generator TypeBranch → Bool
+abbrev pub postfix_at : {A B C D E : Type 0} → Form-F A B C D E → Bool
 postfix_at (Form-F.Subscript p e) = true
 postfix_at (Form-F.Power p e) = true
 postfix_at (Form-F.Field p at name) = true
@@ -165,7 +165,7 @@ update_operator an_update.Adds = Some an_op.Plus
 update_operator an_update.Subtracts = Some an_op.Minus
 
 -- a form that may be assigned to: a name, or a run
-abbrev pub target_at : Form-F Form Item Branch Generator TypeBranch → Bool
+abbrev pub target_at : {A B C D E : Type 0} → Form-F A B C D E → Bool
 target_at (Form-F.Name p name) = true
 target_at (Form-F.Run p es) = true
 target_at _ = false
@@ -175,16 +175,16 @@ is_mutable (Some f) = f.mutable
 is_mutable None = false
 
 -- a variable, a field or an element that can be assigned to
-abbrev pub takes_at : Knows → TypedForm-F TypedForm → Bool
+abbrev pub takes_at : Facts → TypedForm-F TypedForm → Bool
 takes_at k (TypedForm-F.Local ty name mutable) = mutable
-takes_at k (TypedForm-F.Top ty n) = is_mutable (slice_get k.facts.members.variables n)
-takes_at k (TypedForm-F.ReadField ty o name) = is_mutable (field_at k.facts (out-Ty (type_of o)) name)
+takes_at k (TypedForm-F.Top ty n) = is_mutable (slice_get k.members.variables n)
+takes_at k (TypedForm-F.ReadField ty o name) = is_mutable (field_at k (out-Ty (type_of o)) name)
 takes_at k (TypedForm-F.ReadElement ty a i) = true
 takes_at k _ = false
 
 -- A form that has become this typed form can be assigned to.
 unfoldable pub is_target : Knows → Form → TypedForm → Bool
-is_target k e t = target_at (out-Form e) && takes_at k (out-TypedForm t)
+is_target k e t = target_at (out-Form e) && takes_at k.facts (out-TypedForm t)
 
 -- A form is the name of a function set.
 pub data Names (k : Knows) (bs : List Binding) (e : Form) (name : NameId) : Type 0 where
