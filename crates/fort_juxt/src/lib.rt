@@ -7,8 +7,6 @@ mod groupings;
 mod laws;
 mod places;
 mod rewriting;
-#[cfg(test)]
-mod tests;
 mod whole;
 
 pub use elements::{Element, Grouping, Tight};

@@ -3,8 +3,6 @@
 
 mod binding;
 mod scopes;
-#[cfg(test)]
-mod tests;
 
 pub use binding::Binding;
 pub use scopes::Scope;
