@@ -3,6 +3,7 @@ use Rattle.std.proofs.Common.{◌≡◌, ℕ, ◌+◌, ◌-◌, ◌≤◌, List,
 use Rattle.std.specs.Prelude.{◌≢◌}
 use Rattle.std.proofs.Math.Seq.{take-length}
 use Rattle.std.proofs.lemmas.List.{take_more}
+use Rattle.fort_base.specs.declared.rules.TheConstants.{SYNTAX}
 use Rattle.fort_base.specs.declared.refusal.Place.{Place}
 use Rattle.fort_base.specs.declared.refusal.CheckFault.{CheckFault}
 use Rattle.fort_base.specs.declared.refusal.CheckFault.TheVariants as a_fault
@@ -49,7 +50,7 @@ read_whole tokens names texts cursor n x new e f g h =
 
 pub failed_whole : (tokens : Tokens) (names : Spellings) (texts : List (List ℕ)) (cursor : Row) (n : ℕ) (new list : Row) (next : Option Token) (place : Place)
     → names ≡ tokens.names → texts ≡ tokens.texts → cursor ≡ tokens.list → list ≡ tokens.list → next ≡ next_of new → place ≡ fault_place list next
-    → (whole names n texts).run cursor ≡ Failed because.Syntax new → (◌≡◌ {A = ℕ} 201 201) × HasNone tokens × IsFault tokens place
+    → (whole names n texts).run cursor ≡ Failed because.Syntax new → (SYNTAX.0 ≡ SYNTAX.0) × HasNone tokens × IsFault tokens place
 failed_whole tokens names texts cursor n new list next place e f g l m p h =
     let is = of_tokens tokens names texts cursor n (Failed because.Syntax new) e f g h in
     let at : place ≡ fault_place tokens.list (next_of new) = p ∙ (ap (λ (x : Row). fault_place x next) l ∙ ap (fault_place tokens.list) m) in

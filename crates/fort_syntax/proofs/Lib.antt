@@ -1,2 +1,12 @@
+pub mod Agreeing
+pub mod TypesAgree
+pub mod FlatsAgree
+pub mod BlocksAgree
+pub mod RunsAgree
+pub mod NamesAgree
+pub mod MethodsAgree
+pub mod DeclarationsAgree
+pub mod WholeAgrees
+pub mod Stops
 pub mod Theorem
 pub mod Answering

@@ -11,6 +11,7 @@ use Rattle.fort_reading.specs.Parser.{Row, Outcome, Read, Failed, next_of, Local
 use Rattle.fort_reading.proofs.Laws.{Only, only_then, only_read, only_failed, Gets, reads, ends, gets_then}
 use Rattle.fort_parse.proofs.AllRuns.{sound_expr_at, complete_expr_at, sound_variable_at, complete_variable_at}
 use Rattle.fort_declarations.specs.Declarations.{component, nothing_after, whole}
+use Rattle.fort_syntax.proofs.Stops.{all_in, stops_over}
 use Rattle.fort_syntax.specs.Answer.{HasNone, StopsAt, IsFault, AtMostOne, last_token, place_or_first, fault_place}
 use Rattle.fort_declarations.proofs.Parts.{PartLaws}
 use Rattle.fort_declarations.proofs.DeclarationsSound.{YieldsComponent, sound_component}
@@ -79,9 +80,10 @@ stops_at names n texts ts t m h =
       rest = m;
       whole = s.whole;
       place = refl;
-      none = λ others c has.
+      none = λ numbered more other_texts others c has.
           let same : (s.front ++ t ∷ []) ++ others ≡ s.front ++ (t ∷ others) = append_assoc s.front (t ∷ []) others in
-          not_wrong (t ∷ others) (whole_gets names n texts (s.front ++ (t ∷ others)) c (subst (λ (u : Row). HasTree (of_row names texts u) c) same has)) (s.same t m others refl);
+          let fails = stops_over names more n texts other_texts s.front others t (all_in names texts (s.front ++ t ∷ []) numbered) (λ rest. s.same t m rest refl) in
+          not_wrong (t ∷ others) (whole_gets (names ++ more) n other_texts (s.front ++ (t ∷ others)) c (subst (λ (u : Row). HasTree (of_row (names ++ more) other_texts u) c) same has)) fails;
     }
 
 -- ---- at most one

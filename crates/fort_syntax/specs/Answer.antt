@@ -8,7 +8,8 @@ use Rattle.fort_base.specs.declared.refusal.CheckFault.TheVariants as a_fault
 use Rattle.fort_token.specs.declared.token.Token.{Token}
 use Rattle.fort_token.specs.declared.token.Tokens.{Tokens}
 use Rattle.fort_tree.specs.declared.declarations.Component.{Component}
-use Rattle.fort_tree.specs.Component.{HasTree}
+use Rattle.fort_tree.specs.Component.{HasTree, NumbersAreIn}
+use Rattle.fort_tree.specs.Tokens.{Spellings}
 use Rattle.fort_tree.specs.Openers.{AllShallow, FirstDeep}
 use Rattle.fort_tree.specs.Limits.{BreaksLimit, KeepsLimits}
 
@@ -16,21 +17,18 @@ use Rattle.fort_tree.specs.Limits.{BreaksLimit, KeepsLimits}
 abbrev pub HasNone : Tokens → Type 0
 HasNone tokens = (c : Component) → HasTree tokens c → ⊥
 
--- the token list with these tokens, and the names and texts of another
-abbrev pub with_list : Tokens → List Token → Tokens
-with_list tokens list = record { list = list; names = tokens.names; texts = tokens.texts }
-
--- No component over these names and texts begins with these tokens.
+-- No component begins with these tokens: over no table of names that goes on from the file's own, with whatever texts and whatever follows.
 abbrev pub BeginsNone : Tokens → List Token → Type 0
-BeginsNone tokens front = (others : List Token) → HasNone (with_list tokens (front ++ others))
+BeginsNone tokens front = (more : Spellings) (texts : List (List ℕ)) (others : List Token)
+    → HasNone (record { list = front ++ others; names = tokens.names ++ more; texts = texts })
 
--- A token stands at that place up to which, itself included, no component begins.
+-- A token stands at that place up to which, itself included, no component begins, where the numbers up to it are in the file's tables.
 pub record StopsAt (tokens : Tokens) (at : Place) : Type 0 where
   pub front : List Token
   pub token : Token
   pub rest : List Token
   pub whole : tokens.list ≡ front ++ token ∷ rest
-  pub none : BeginsNone tokens (front ++ token ∷ [])
+  pub none : NumbersAreIn tokens.names tokens.texts (front ++ token ∷ []) → BeginsNone tokens (front ++ token ∷ [])
   pub place : token.place ≡ at
 
 -- The last token stands at that place.

@@ -5,7 +5,8 @@ ghost use Rattle.fort_syntax.specs.Answer.{Answers, Reading, fault_place, last_t
 use fort_base::rules::{SYNTAX, TOO_DEEP, TOO_MANY};
 use fort_base::{CheckFault, Place};
 use fort_declarations::whole;
-use fort_limits::{first_crowded, first_deep};
+use fort_limits::first_crowded;
+use fort_openers::first_deep;
 use fort_reading::{Cursor, Fault};
 use fort_token::{Token, Tokens};
 use fort_tree::Component;
@@ -20,10 +21,10 @@ const BEGINNING: Place = Place { line: 1, column: 1 };
 /// The component that a file's tokens are, which has their names and texts too. The chapter is "Grammar".
 ///
 /// It answers `Refused` with 202 and the place of the first token that stands inside more than 100 openers; else with
-/// 201 where the tokens are no component, at the first token up to which none begins, at the last one where they end
+/// 201 where the tokens are no component, at a token up to which none begins, at the last one where they end
 /// too early, or at 1:1 where there are none; else with 203 at the earliest place of what passes a limit. Its only
-/// other error is want of memory, which it also answers where the headers of `while` and `for` stand so deep in one
-/// another that the stack may not hold them.
+/// other error is want of memory, which it also answers where runs stand more than 400 deep in one another, as they
+/// can in the headers of `while` and `for`.
 pub fn component(alloc: Global, tokens: &Tokens) -> Result<Component, CheckFault>
     ensures { Answers tokens.now result }
 {
