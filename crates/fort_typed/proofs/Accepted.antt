@@ -1,6 +1,5 @@
 -- What the proofs stand on, of each accepted program.
-use Rattle.std.proofs.Common.{◌≡◌, Some, sym, subst, inl, inr, refl}
-use Rattle.fort_base.specs.declared.ty.Ty.{Ty}
+use Rattle.std.proofs.Common.{sym, subst}
 use Rattle.fort_core.specs.declared.program.Program.{Program}
 use Rattle.fort_typed.specs.Typing.{HasVs}
 use Rattle.fort_typed.specs.Sound.{Sound}

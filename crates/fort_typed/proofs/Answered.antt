@@ -1,10 +1,10 @@
 -- What a built-in declaration answers to typed values has its result's type.
-use Rattle.std.proofs.Common.{◌≡◌, ℕ, ◌<◌, Bool, true, false, if◌then◌else◌, List, [], ◌∷◌, map, inl, inr, refl, ap, sym, ◌∙◌, subst, arith, rules}
-use Rattle.std.specs.Prelude.{nat_lt, not, ◌&&◌, ◌||◌, ◌++◌, length, chars, bytes_eq, ℤ, pos, negsuc, neg_ℤ, ◌+ℤ◌, ◌-ℤ◌, ◌*ℤ◌, unsigned_abs, int_lt, int_le}
+use Rattle.std.proofs.Common.{◌≡◌, ℕ, ◌<◌, Bool, true, false, if◌then◌else◌, List, [], ◌∷◌, map, inl, inr, refl, subst, arith, rules}
+use Rattle.std.specs.Prelude.{not, ◌&&◌, ◌||◌, ◌++◌, length, chars, bytes_eq, ℤ, pos, negsuc, neg_ℤ, ◌+ℤ◌, ◌-ℤ◌, ◌*ℤ◌, unsigned_abs, int_lt, int_le}
 use Rattle.std.specs.Int.{w32, w64, int_min, int_max, int_bit_and, int_bit_or, int_bit_xor}
 use Rattle.std.specs.Ordering.{int_eq}
 use Rattle.fort_base.specs.declared.ty.Ty.{Ty}
-use Rattle.fort_base.specs.declared.ty.Ty.TheVariants.{Named, Any}
+use Rattle.fort_base.specs.declared.ty.Ty.TheVariants.{Named}
 use Rattle.fort_core.specs.declared.primitive.Primitive.{Primitive}
 use Rattle.fort_core.specs.declared.primitive.Primitive.TheVariants as primitive
 use Rattle.fort_core.specs.declared.program.Program.{Program}

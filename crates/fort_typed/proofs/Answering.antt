@@ -1,10 +1,9 @@
 -- A built-in declaration answers to typed values: they are of the kinds that it computes with.
-use Rattle.std.proofs.Common.{◌≡◌, ◌≢◌, ℕ, Bool, true, false, if◌then◌else◌, List, [], ◌∷◌, map, refl, ap, sym, ◌∙◌, subst}
+use Rattle.std.proofs.Common.{◌≢◌, ℕ, Bool, true, false, if◌then◌else◌, List, [], ◌∷◌, map, sym, subst}
 use Rattle.std.specs.Prelude.{not, ◌&&◌, ◌||◌, ◌++◌, length, chars, bytes_eq, ℤ, pos, neg_ℤ, ◌+ℤ◌, ◌-ℤ◌, ◌*ℤ◌, unsigned_abs, int_lt, int_le}
 use Rattle.std.specs.Int.{w32, w64, int_min, int_max, int_bit_and, int_bit_or, int_bit_xor}
 use Rattle.std.specs.Ordering.{int_eq}
 use Rattle.fort_base.specs.declared.ty.Ty.{Ty}
-use Rattle.fort_base.specs.declared.ty.Ty.TheVariants.{Named, Any}
 use Rattle.fort_core.specs.declared.primitive.Primitive.{Primitive}
 use Rattle.fort_core.specs.declared.primitive.Primitive.TheVariants as primitive
 use Rattle.fort_core.specs.declared.program.Program.{Program}
@@ -12,9 +11,9 @@ use Rattle.fort_core.specs.declared.value.Value.{Value, Small, Large, Truth, Ran
 use Rattle.fort_core.specs.declared.term.Term.TheOpen.{Value-F}
 use Rattle.fort_machine.specs.Numbers.{Figure, number, too_large, by_zero, below_zero, within, is_within, quotient, remainder, modulus, greatest_divisor, least_multiple, shifted_left, shifted_right, power, last_of}
 use Rattle.fort_machine.specs.Texts.{text, same}
-use Rattle.fort_machine.specs.Primitives.{Answer, gives, makes_text, throws, prints, ends, nothing, ValueKind, as_value, two_small, two_large, one_small, one_large, two_texts, two_truths, one_truth, one_text, two_values, one_value, equal_truths, count_to, counted, joined_texts, answer_of}
+use Rattle.fort_machine.specs.Primitives.{Answer, gives, throws, prints, nothing, as_value, two_small, two_large, one_small, one_large, two_texts, two_truths, one_truth, one_text, two_values, one_value, equal_truths, count_to, counted, joined_texts, answer_of}
 use Rattle.fort_typed.specs.Envs.{Sig}
-use Rattle.fort_typed.specs.Typing.{small_type, truth_type, HasV, HasVs, vs0, vs1}
+use Rattle.fort_typed.specs.Typing.{small_type, truth_type, HasVs, vs1}
 use Rattle.fort_typed.specs.Signatures.{parameters_of, large_type, text_type}
 use Rattle.fort_typed.specs.Sound.{Up, opening}
 use Rattle.fort_typed.specs.Goes.{Complete}

@@ -1,12 +1,12 @@
 -- It isn't so that nobody may go on, the rule on sleeping forms kept.
-use Rattle.std.proofs.Common.{◌≡◌, ℕ, Bool, true, false, ◌||◌, List, [], ◌∷◌, refl, ap, sym, ◌∙◌, subst, inl, inr, ◌⊎◌}
+use Rattle.std.proofs.Common.{◌≡◌, ℕ, Bool, true, false, List, [], ◌∷◌, refl, ap, sym, ◌∙◌, subst, inl, inr, ◌⊎◌}
 use Rattle.fort_base.specs.declared.ty.Ty.{Ty}
 use Rattle.fort_core.specs.declared.program.Program.{Program}
 use Rattle.fort_core.specs.declared.term.Term.{Term}
 use Rattle.fort_machine.specs.Attempts.{Awake, Sleeps}
 use Rattle.fort_machine.specs.Effects.{Store}
 use Rattle.fort_machine.specs.Ends.{open_yet, standing, Finished}
-use Rattle.fort_machine.specs.Frames.{Frame, on, plug, road, passes, passed}
+use Rattle.fort_machine.specs.Frames.{Frame, on, plug, passes, passed}
 use Rattle.fort_machine.specs.Proper.{Proper}
 use Rattle.fort_machine.proofs.Places.{ready_open, plug_open}
 use Rattle.fort_machine.proofs.Ready.{local_ready, stop_ready, form_ready}
@@ -16,7 +16,7 @@ use Rattle.fort_machine.proofs.ProperRuns.{reached_is_proper}
 use Rattle.fort_typed.specs.Envs.{Sig, none}
 use Rattle.fort_typed.specs.Typing.{Has}
 use Rattle.fort_typed.specs.Sound.{Defined, StoreOk}
-use Rattle.fort_typed.specs.Goes.{Complete, Finite, Stands, at_step, at_abort, at_atomic, Goes, done, goes_at, MayGo, steps_on, aborts_here, tries, NobodyMayGo, SomeoneMayGo}
+use Rattle.fort_typed.specs.Goes.{Complete, Finite, Stands, at_step, at_abort, at_atomic, Goes, done, goes_at, steps_on, aborts_here, tries, NobodyMayGo, SomeoneMayGo}
 use Rattle.fort_typed.proofs.Facts.{Facts}
 use Rattle.fort_typed.proofs.Frames.{plug_has}
 use Rattle.fort_typed.proofs.Progress.{progress}

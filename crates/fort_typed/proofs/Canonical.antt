@@ -17,7 +17,8 @@ use Rattle.fort_machine.specs.Substitution.{paired, parts_paired, bound_to}
 use Rattle.fort_machine.specs.Types.{domain_of}
 use Rattle.fort_typed.specs.Envs.{Sig}
 use Rattle.fort_typed.specs.Typing.{Below, FieldOf, small_type, truth_type, HasV, HasVs, vs1}
-use Rattle.fort_typed.specs.Sound.{Up, opening, Shape}
+use Rattle.fort_typed.specs.Sound.{Up, opening}
+use Rattle.fort_typed.proofs.Shapes.{Shape}
 use Rattle.fort_typed.proofs.Facts.{Facts}
 use Rattle.fort_typed.specs.Goes.{IsBuiltIn, Complete}
 use Rattle.fort_typed.proofs.Order.{under_of}

@@ -1,10 +1,8 @@
 -- What the rows compute of two types turns round, and goes through a third one where the rows do.
-use Rattle.std.proofs.Common.{◌≡◌, ℕ, zero, suc, Bool, true, false, not, ◌&&◌, List, [], ◌∷◌, map, IsTrue, Some, refl, ap, sym, ◌∙◌, subst}
-use Rattle.std.specs.Prelude.{slice_get}
+use Rattle.std.proofs.Common.{◌≡◌, suc, Bool, true, false, not, ◌&&◌, List, [], ◌∷◌, map, IsTrue, refl, ap, sym, ◌∙◌}
 use Rattle.fort_base.specs.declared.ty.Ty.{Ty, out-Ty, map-Ty, fold_out-Ty}
 use Rattle.fort_base.specs.declared.ty.Ty.TheOpen.{Ty-F}
-use Rattle.fort_types.specs.Table.{is_set}
-use Rattle.fort_types.specs.Relation.{Relation, named_below, each_below, below_at, relation}
+use Rattle.fort_types.specs.Relation.{Relation, each_below, below_at, relation}
 use Rattle.fort_types.proofs.ByParts.{Each, Parts, by_parts}
 use Rattle.fort_typed.specs.Sound.{RowsThrough}
 use Rattle.fort_typed.proofs.Near.{and_true}
@@ -194,7 +192,7 @@ module _ (rows : List (List Bool)) where
     through_at (Ty-F.Arrow r s) h (Ty-F.Arrow p q) Ty-F.Any e f = refl
     through_at (Ty-F.Arrow r s) h (Ty-F.Arrow p q) (Ty-F.Named k) e f = absurd cc
     through_at (Ty-F.Arrow r s) h (Ty-F.Arrow p q) (Ty-F.Tuple zs) e f = absurd cc
-    through_at (Ty-F.Arrow r s) h (Ty-F.Arrow p q) (Ty-F.Arrow u v) e f = 
+    through_at (Ty-F.Arrow r s) h (Ty-F.Arrow p q) (Ty-F.Arrow u v) e f =
         let m = and_true (rel p false r) (rel q true s) e in
         let n = and_true (rel r false u) (rel s true v) f in
         both_true _ _ (back p u (h.0 u p (round r u n.0) (round p r m.0))) (h.1 q v m.1 n.1)
@@ -215,7 +213,7 @@ module _ (rows : List (List Bool)) where
     through_at (Ty-F.Array e2) h (Ty-F.Array e1) (Ty-F.Named k) e f = absurd cc
     through_at (Ty-F.Array e2) h (Ty-F.Array e1) (Ty-F.Tuple zs) e f = absurd cc
     through_at (Ty-F.Array e2) h (Ty-F.Array e1) (Ty-F.Arrow u v) e f = absurd cc
-    through_at (Ty-F.Array e2) h (Ty-F.Array e1) (Ty-F.Array e3) e f = 
+    through_at (Ty-F.Array e2) h (Ty-F.Array e1) (Ty-F.Array e3) e f =
         let m = and_true (rel e1 true e2) (rel e1 false e2) e in
         let n = and_true (rel e2 true e3) (rel e2 false e3) f in
         both_true _ _ (h e1 e3 m.0 n.0) (back e1 e3 (h e3 e1 (round e2 e3 n.1) (round e1 e2 m.1)))

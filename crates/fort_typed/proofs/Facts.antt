@@ -1,5 +1,5 @@
 -- What of an accepted program the proofs stand on.
-use Rattle.std.proofs.Common.{◌≡◌, ℕ, IsTrue, List, [], ◌∷◌, Some}
+use Rattle.std.proofs.Common.{◌≡◌, ℕ, IsTrue, List, Some}
 use Rattle.std.specs.Prelude.{slice_get}
 use Rattle.fort_base.specs.declared.ids.DeclId.{DeclId}
 use Rattle.fort_base.specs.declared.ids.NameId.{NameId}
@@ -22,7 +22,8 @@ use Rattle.fort_machine.specs.Journals.{opening_store}
 use Rattle.fort_typed.specs.Envs.{Sig, none, binds}
 use Rattle.fort_typed.specs.Typing.{Below, unit_type, thrown_type, ShapeOf, Makes, FieldOf, Has, HasV, HasVs}
 use Rattle.fort_typed.specs.Signatures.{parameters_of, result_of}
-use Rattle.fort_typed.specs.Sound.{opening, AllBelow, Shape, numbered, IsFailure, NewFits, StoreOk}
+use Rattle.fort_typed.specs.Sound.{opening, numbered, IsFailure, NewFits, StoreOk}
+use Rattle.fort_typed.proofs.Shapes.{AllBelow, Shape}
 
 -- what a built-in declaration answers to typed values
 pub record AnswerFits (k : Program) (S : Sig) (f : Primitive) (vs : List Value) (R : Ty) : Type 0 where

@@ -21,7 +21,8 @@ use Rattle.fort_machine.specs.Acts.{Act, stuck, turns, enters, asks, sets, makes
 use Rattle.std.specs.Int.{w32}
 use Rattle.fort_typed.specs.Envs.{fixed, Sig, Env, none, fixed_all, named, plains}
 use Rattle.fort_typed.specs.Typing.{IsNumber, Below, unit_type, small_type, thrown_type, Called, Has, HasParts, parts0, parts1, HasV, HasVs, vs0, vs1}
-use Rattle.fort_typed.specs.Sound.{Up, opening, Shape, IsFailure}
+use Rattle.fort_typed.specs.Sound.{Up, opening, IsFailure}
+use Rattle.fort_typed.proofs.Shapes.{Shape}
 use Rattle.fort_typed.proofs.Facts.{Facts}
 use Rattle.fort_typed.proofs.Rules.{value_has, thrown_has, has_value, has_thrown, has_v_at, rule_v, sub}
 use Rattle.fort_typed.proofs.Grow.{grow_v}

@@ -30,3 +30,4 @@ pub mod Accepted
 pub mod Laws
 pub mod Overloads
 pub mod Awake
+pub mod Shapes

@@ -1,5 +1,5 @@
 -- What of the order of types is met by every program, or follows from what the rows compute.
-use Rattle.std.proofs.Common.{◌≡◌, true, false, map, inl, inr, ◌⊎◌, ◌&&◌, List, [], ◌∷◌, IsTrue, length, None, arith, refl, ap, sym, ◌∙◌, subst}
+use Rattle.std.proofs.Common.{◌≡◌, true, false, map, inl, inr, ◌&&◌, List, [], ◌∷◌, IsTrue, length, None, arith, refl, ap, sym, ◌∙◌, subst}
 use Rattle.fort_base.specs.declared.ty.Ty.{Ty, Tuple, out-Ty, roll-Ty, roll-out-Ty, fold_out-Ty, map-Ty}
 use Rattle.fort_base.specs.declared.ty.Ty.TheVariants.{Named, outs-Named, outs-Tuple, rolls-Tuple}
 use Rattle.std.specs.Prelude.{slice_get, unwrap_or, option_and_then}
@@ -11,7 +11,8 @@ use Rattle.fort_types.specs.Table.{is_set}
 use Rattle.fort_machine.specs.Types.{below, all_below}
 use Rattle.fort_types.specs.Relation.{Relation, each_below, below_at, relation}
 use Rattle.fort_typed.specs.Typing.{Below, is_same, is_told, is_rows, EachBelow, each0, each1}
-use Rattle.fort_typed.specs.Sound.{AllBelow, Shape, Under}
+use Rattle.fort_typed.specs.Sound.{Under}
+use Rattle.fort_typed.proofs.Shapes.{AllBelow, Shape}
 use Rattle.fort_typed.proofs.Near.{and_true}
 use Rattle.fort_typed.proofs.Computed.{rel, told, told_out, round}
 

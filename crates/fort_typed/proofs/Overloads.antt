@@ -1,10 +1,10 @@
 -- The rules on overloading give each call of typed values its definition.
-use Rattle.std.proofs.Common.{◌≡◌, ◌≢◌, ℕ, zero, suc, List, [], ◌∷◌, map, Some, refl, ap, sym, ◌∙◌, subst, inl, inr, ◌⊎◌}
+use Rattle.std.proofs.Common.{◌≡◌, ◌≢◌, ℕ, zero, suc, List, [], ◌∷◌, map, Some, refl, ap, sym, ◌∙◌, subst, inl, inr}
 use Rattle.std.specs.Prelude.{slice_get}
 use Rattle.fort_base.specs.declared.ids.SetId.{SetId}
 use Rattle.fort_base.specs.declared.ids.TypeId.{TypeId}
 use Rattle.fort_base.specs.declared.ids.DeclId.{DeclId}
-use Rattle.fort_base.specs.declared.ty.Ty.{Ty, Tuple, Arrow, Array, out-Ty}
+use Rattle.fort_base.specs.declared.ty.Ty.{Ty, out-Ty}
 use Rattle.fort_base.specs.declared.ty.Ty.TheVariants as ty
 use Rattle.fort_base.specs.declared.ty.Ty.TheOpen.{Ty-F}
 use Rattle.fort_core.specs.declared.program.CoreDecl.{CoreDecl}
@@ -13,15 +13,14 @@ use Rattle.fort_core.specs.declared.term.Term.{Term}
 use Rattle.fort_core.specs.declared.term.Term.TheOpen.{Value-F}
 use Rattle.fort_core.specs.declared.value.Closure.{Closure}
 use Rattle.fort_core.specs.declared.value.Value.{Value, out-Value}
-use Rattle.fort_types.specs.Types.{Shape, bottom, parts, declared, function, elements, shape_of, Solid, solid_one, solid_all}
-use Rattle.fort_machine.specs.Parts.{values_of, bodies_of}
+use Rattle.fort_types.specs.Types.{bottom, parts, shape_of, Solid, solid_one, solid_all}
+use Rattle.fort_machine.specs.Parts.{values_of}
 use Rattle.fort_machine.specs.Types.{domain_of, type_of}
 use Rattle.fort_machine.specs.Calls.{IsApplicable}
 use Rattle.fort_machine.specs.OneDefinition.{HasDefinition}
 use Rattle.fort_typed.specs.Envs.{Sig, Part}
 use Rattle.fort_typed.specs.Typing.{FitsV, HasV, has_v, HasVs, vs0, vs1}
-use Rattle.fort_typed.specs.Sound.{Sound, Defined}
-use Rattle.fort_typed.specs.Overloads.{IsOfValues, AreOfValues, KeepsRules, RulesDefine}
+use Rattle.fort_typed.specs.Overloads.{IsOfValues, KeepsRules, RulesDefine}
 use Rattle.fort_typed.proofs.Facts.{Facts}
 use Rattle.fort_typed.proofs.Owns.{absorb, owns_have, out_type, closure_type}
 use Rattle.fort_typed.proofs.Accepted.{facts}

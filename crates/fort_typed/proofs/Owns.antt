@@ -15,7 +15,7 @@ use Rattle.fort_machine.specs.Parts.{values_of, bodies_of}
 use Rattle.fort_machine.specs.Calls.{IsApplicable, IsMostSpecific, Dispatches}
 use Rattle.fort_typed.specs.Envs.{Sig, none, Part}
 use Rattle.fort_typed.specs.Typing.{Below, is_told, Called, FitsV, HasParts, HasV, has_v, HasVs, vs0, vs1}
-use Rattle.fort_typed.specs.Sound.{AllBelow}
+use Rattle.fort_typed.proofs.Shapes.{AllBelow}
 use Rattle.fort_typed.proofs.Facts.{Facts}
 use Rattle.fort_typed.proofs.Bind.{Tells, alike, apart, tells, self_same}
 use Rattle.fort_typed.proofs.Rules.{has_v_at, sub_v}

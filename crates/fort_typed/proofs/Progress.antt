@@ -36,7 +36,7 @@ use Rattle.fort_machine.specs.Acts.{Act, stuck, calls, after_all, Together, at_v
 use Rattle.fort_machine.specs.Generators.{Items, numbers_from, elements_from, no_items, items_at, by_item, for_items, reduce_items, spanned}
 use Rattle.fort_machine.specs.Forms.{entering, applying_to, applying, filling, binding, reading_at, writing_at, field_of, by_element, sizing, choosing, trying, too_deep, act_at, act}
 use Rattle.fort_machine.specs.Written.{IsNoValue}
-use Rattle.fort_machine.specs.Proper.{Resting, AllResting, no_rests, next_rest, RestingValue, going_in, resting_in, MarksOpen, Proper, proper, AllProper, no_propers, next_proper}
+use Rattle.fort_machine.specs.Proper.{AllResting, no_rests, next_rest, RestingValue, going_in, resting_in, MarksOpen, Proper, proper, AllProper, no_propers, next_proper}
 use Rattle.fort_machine.proofs.Resting.{rest_bare, one_rest, value_rests_of}
 use Rattle.fort_machine.proofs.Properly.{value_proper, rest_proper}
 use Rattle.fort_machine.proofs.Standing.{rolled, decide, stepped_open, standing-Value, standing-throw, values_open, group_open}

@@ -1,5 +1,5 @@
 -- Numbers of ZZ32 between two others.
-use Rattle.std.proofs.Common.{◌≡◌, ℕ, zero, suc, ◌+◌, ◌-◌, ◌<◌, ◌≤◌, Bool, true, false, if◌then◌else◌, refl, ap, sym, inl, inr, ◌⊎◌, ◌∙◌, subst, arith, ℤ, pos, negsuc, ◌+ℤ◌, ◌-ℤ◌, neg_ℤ, rules}
+use Rattle.std.proofs.Common.{◌≡◌, ℕ, ◌<◌, ◌≤◌, Bool, true, false, if◌then◌else◌, refl, inl, inr, ◌⊎◌, arith, ℤ, pos, negsuc, ◌+ℤ◌, ◌-ℤ◌, neg_ℤ, rules}
 use borrow.Author.Differences.{up, down, sum_is_lem, neg_is}
 use Rattle.std.specs.Prelude.{nat_lt, int_lt, unsigned_abs}
 use Rattle.std.specs.Int.{w32}

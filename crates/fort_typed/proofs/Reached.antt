@@ -1,12 +1,12 @@
 -- What holds wherever the machines of an accepted program come to.
-use Rattle.std.proofs.Common.{◌≡◌, ℕ, ◌+◌, ◌≤◌, ◌==◌, Bool, true, false, if◌then◌else◌, List, [], ◌∷◌, Some, None, arith, refl, ap, sym, ◌∙◌, subst}
+use Rattle.std.proofs.Common.{◌≡◌, ℕ, ◌+◌, ◌≤◌, ◌==◌, Bool, if◌then◌else◌, List, [], ◌∷◌, Some, None, arith, refl, ap, sym, ◌∙◌, subst}
 use Rattle.fort_base.specs.declared.ids.Loc.{Loc}
 use Rattle.fort_base.specs.declared.ty.Ty.{Ty}
 use Rattle.fort_core.specs.declared.program.Program.{Program}
 use Rattle.fort_core.specs.declared.term.Term.{Term}
 use Rattle.fort_core.specs.declared.value.Value.{Value}
 use Rattle.fort_machine.specs.Effects.{Store}
-use Rattle.fort_machine.specs.Journals.{opening_store, value_in}
+use Rattle.fort_machine.specs.Journals.{value_in}
 use Rattle.fort_machine.specs.Proper.{Reached, at_first, by_run, in_attempt}
 use Rattle.fort_machine.proofs.Places.{ready_open}
 use Rattle.fort_machine.proofs.Ready.{form_ready}

@@ -21,7 +21,7 @@ use Rattle.fort_machine.proofs.Places.{ready_open}
 use Rattle.fort_machine.proofs.Ready.{local_ready, form_ready}
 use Rattle.fort_machine.proofs.Runs.{closes_fit, runs_fit}
 use Rattle.fort_typed.specs.Envs.{Sig, none, plain}
-use Rattle.fort_typed.specs.Typing.{unit_type, MarksFit, Has, HasV, HasVs, vs0, vs1}
+use Rattle.fort_typed.specs.Typing.{MarksFit, Has, HasV, HasVs, vs0, vs1}
 use Rattle.fort_typed.specs.Sound.{Up, opening, StoreOk, Typed, Kept, KeptRun}
 use Rattle.fort_typed.proofs.Facts.{Facts}
 use Rattle.fort_typed.proofs.Rules.{rule_at, has_at, parts_as, one_part, sub}

@@ -1,20 +1,13 @@
--- Where a typed term goes on.
-use Rattle.std.specs.Prelude.{◌≡◌, ◌≢◌, ℕ, ◌≤◌, Bool, true, false, ◌⊎◌, List, [], ◌∷◌, slice_get, Some, None}
-use Rattle.fort_base.specs.declared.ids.DeclId.{DeclId}
+-- Chapter "Nothing is stuck": where a typed term goes on. The code of a run finds the thread; here it is enough that there is one.
+use Rattle.std.specs.Prelude.{◌≡◌, ◌≢◌, ℕ, ◌≤◌, Bool, true, false, ◌⊎◌, List, Some, None}
 use Rattle.fort_base.specs.declared.ids.NameId.{NameId}
 use Rattle.fort_base.specs.declared.ids.TypeId.{TypeId}
 use Rattle.fort_base.specs.declared.ty.Ty.{Ty}
-use Rattle.fort_base.specs.declared.ty.Ty.TheVariants.{Named}
 use Rattle.fort_core.specs.declared.form.Mode.{Mode}
-use Rattle.fort_core.specs.declared.primitive.Primitive.{Primitive}
-use Rattle.fort_core.specs.declared.program.CoreBody.TheVariants as body
-use Rattle.fort_core.specs.declared.program.CoreDecl.{CoreDecl}
 use Rattle.fort_core.specs.declared.program.CoreShape.{CoreShape}
 use Rattle.fort_core.specs.declared.program.Program.{Program}
-use Rattle.fort_core.specs.declared.term.Term.{Term, Fn, Group, out-Term}
-use Rattle.fort_core.specs.declared.term.Term.TheOpen.{Term-F, Value-F}
-use Rattle.fort_core.specs.declared.value.Closure.{Closure}
-use Rattle.fort_core.specs.declared.value.Value.{Value, out-Value}
+use Rattle.fort_core.specs.declared.term.Term.{Term}
+use Rattle.fort_core.specs.declared.value.Value.{Value}
 use Rattle.fort_machine.specs.Acts.{ends, single}
 use Rattle.fort_core.specs.declared.pick.Pick.{Pick}
 use Rattle.fort_machine.specs.Attempts.{Form, MayTry, Ended}
@@ -23,13 +16,12 @@ use Rattle.fort_machine.specs.Effects.{Store, Effect, FitsAll, afterwards}
 use Rattle.fort_machine.specs.Ends.{Finished}
 use Rattle.fort_machine.specs.Frames.{Frame, plug, passed}
 use Rattle.fort_machine.specs.Marked.{Bare}
-use Rattle.fort_machine.specs.Primitives.{nothing, answer_of}
 use Rattle.fort_machine.specs.Steps.{Acts, Local}
 use Rattle.fort_machine.specs.OneDefinition.{IsOne}
 use Rattle.fort_machine.specs.Written.{WrittenProgram}
 use Rattle.fort_machine.specs.Proper.{Proper, Reached}
 use Rattle.fort_typed.specs.Envs.{Sig, none}
-use Rattle.fort_typed.specs.Typing.{Below, ShapeOf, Makes, FieldOf, Has, HasVs}
+use Rattle.fort_typed.specs.Typing.{ShapeOf, Makes, FieldOf, Has}
 use Rattle.fort_typed.specs.Sound.{IsFailure, Under, Sound, Defined, StoreOk, Typed}
 
 -- The built-in types whose values are of their own kind.

@@ -1,13 +1,12 @@
--- What is taken of a program, and what is kept.
+-- Chapters "Accepted programs" and "What runs keep": what is taken of a program, and what its runs keep. The check of a component gives the first; the code of a run rests on the second.
 use Rattle.std.specs.Prelude.{◌≡◌, ℕ, ◌+◌, ◌==◌, if◌then◌else◌, ◌⊎◌, IsTrue, List, [], ◌∷◌, ◌++◌, map, slice_get, Some, None}
 use Rattle.fort_base.specs.declared.ids.DeclId.{DeclId}
 use Rattle.fort_base.specs.declared.ids.Loc.{Loc}
 use Rattle.fort_base.specs.declared.ids.NameId.{NameId}
 use Rattle.fort_base.specs.declared.ids.SetId.{SetId}
 use Rattle.fort_base.specs.declared.ids.TypeId.{TypeId}
-use Rattle.fort_base.specs.declared.ty.Ty.{Ty, Tuple, out-Ty}
+use Rattle.fort_base.specs.declared.ty.Ty.{Ty}
 use Rattle.fort_base.specs.declared.ty.Ty.TheVariants.{Named}
-use Rattle.fort_base.specs.declared.ty.Ty.TheOpen.{Ty-F}
 use Rattle.fort_core.specs.declared.primitive.Primitive.{Primitive}
 use Rattle.fort_core.specs.declared.program.CoreBody.TheVariants as body
 use Rattle.fort_core.specs.declared.program.CoreDecl.{CoreDecl}
@@ -30,35 +29,20 @@ use Rattle.fort_typed.specs.Signatures.{parameters_of, result_of}
 use Rattle.fort_typed.specs.Envs.{Sort, fixed, Sig, Env, none, binds}
 use Rattle.fort_typed.specs.Typing.{Below, unit_type, thrown_type, ShapeOf, Makes, FieldOf, Has, HasV, HasVs}
 
--- The store's types grow.
+-- The types of a store grow: each location keeps its type for its life, and new ones come.
 abbrev pub Up : Sig → Sig → Type 0
 Up S S' = (l : ℕ) (F : Ty) → S l ≡ Some F → S' l ≡ Some F
 
--- The types of the opening store.
+-- The type of a location in a list of locations with types.
 abbrev pub typed_at : List (Loc × Ty) → Sig
 typed_at [] l = None
 typed_at (q ∷ qs) l = if q.0.0 == l then Some q.1 else typed_at qs l
 
+-- Those of a program.
 abbrev pub opening : Program → Sig
 opening p = typed_at p.opening_types
 
--- One list of types below another, place by place.
-abbrev pub AllBelow : Program → List Ty → List Ty → Type 0
-AllBelow p [] [] = Unit {0}
-AllBelow p (A ∷ As) (B ∷ Bs) = Below p A B × AllBelow p As Bs
-AllBelow p _ _ = ⊥
-
--- What stands below what, one level deep.
-abbrev pub Shape : Program → Ty-F Ty → Ty-F Ty → Type 0
-Shape p Ty-F.Nothing b = Unit {0}
-Shape p a Ty-F.Any = Unit {0}
-Shape p (Ty-F.Named i) (Ty-F.Named j) = Unit {0}
-Shape p (Ty-F.Tuple As) (Ty-F.Tuple Bs) = AllBelow p As Bs
-Shape p (Ty-F.Arrow A B) (Ty-F.Arrow C D) = Below p C A × Below p B D
-Shape p (Ty-F.Array A) (Ty-F.Array B) = Below p A B × Below p B A
-Shape p _ _ = ⊥
-
--- The parameters of a declaration, numbered.
+-- The parameters of a declaration, as the variables from a number on.
 abbrev pub numbered : ℕ → List Ty → List (ℕ × Sort)
 numbered n [] = []
 numbered n (A ∷ As) = (n, fixed A) ∷ numbered (n + 1) As
@@ -69,7 +53,7 @@ IsFailure p id = let b = p.built_in in
     (id ≡ b.integer_overflow) ⊎ (id ≡ b.division_by_zero) ⊎ (id ≡ b.negative_exponent) ⊎ (id ≡ b.index_out_of_range) ⊎ (id ≡ b.negative_size)
     ⊎ (id ≡ b.depth_exceeded) ⊎ (id ≡ b.try_atomic_failure) ⊎ (id ≡ b.abort_outside)
 
--- What a constructor makes has its fields' types.
+-- A constructor makes objects of its type: the fields' types are those of its parameters, then those of the constants, which have them; and its result is above the type.
 pub record NewFits (p : Program) (id : TypeId) (decl : CoreDecl) : Type 0 where
   pub shape : CoreShape
   pub is_shape : ShapeOf p id shape
@@ -79,7 +63,7 @@ pub record NewFits (p : Program) (id : TypeId) (decl : CoreDecl) : Type 0 where
   pub fields : map (λ (c : CoreField). c.ty) shape.fields ≡ decl.parameters ++ types
   pub result : Below p (Named id) decl.result
 
--- A store has values of the types of its locations, and no others.
+-- A store is typed: the types of its locations go on from those of the opening store; each location that has a type holds a value of it; and each that holds a value has a type.
 pub record StoreOk (p : Program) (S : Sig) (s : Store) : Type 0 where
   pub opened : Up (opening p) S
   pub holds : (l : ℕ) (F : Ty) → S l ≡ Some F → (v : Value) × (s l ≡ Some v) × HasV p S v F
@@ -108,13 +92,13 @@ pub record Sound (p : Program) : Type 0 where
   pub first : Has p (opening p) none p.first unit_type
   pub failures : (id : TypeId) (v : Value) → IsFailure p id → single p id ≡ Some v → HasV p (opening p) v (thrown_type p)
 
--- A closed term and its store.
+-- A closed term and its store are typed, the term at a type.
 pub record Typed (p : Program) (t : Term) (s : Store) (T : Ty) : Type 0 where
   pub types : Sig
   pub store : StoreOk p types s
   pub term : Has p types none t T
 
--- What a step leaves: the store's types have grown, and the term has its type.
+-- What a step leaves: the types of the store have grown, and store and term are typed by them, the term at the type that it had.
 pub record Kept (p : Program) (S : Sig) (b : Term) (s' : Store) (T : Ty) : Type 0 where
   pub types : Sig
   pub up : Up S types

@@ -1,4 +1,4 @@
--- Types of terms and values, over a program and the types of the locations: one rule for all forms, which says by the form what its parts and its values must have.
+-- Chapter "Types of closed terms": types of terms and values, over a program and the types of the locations. There is one rule for all forms; it says by the form what its parts and its values must have. No code types a term of a run.
 use Rattle.std.specs.Prelude.{◌≡◌, ℕ, ℤ, pos, ◌+ℤ◌, true, ◌+◌, ◌<◌, ◌≤◌, ◌⊎◌, IsTrue, List, [], ◌∷◌, ◌++◌, slice_get, Option, Some, None}
 use Rattle.std.specs.Int.{Width, w32, w64}
 use Rattle.fort_base.specs.declared.ids.DeclId.{DeclId}
@@ -31,7 +31,7 @@ use Rattle.fort_machine.specs.Forms.{place_of}
 use Rattle.fort_machine.specs.Generators.{Items, numbers_from, elements_from, no_items, items_at}
 use Rattle.fort_typed.specs.Envs.{Sort, fixed, cell, Sig, Env, none, binds, Distinct, Fresh, fixed_all, named, Part, plain, bound, plains}
 
--- One type is below another: it is that type; or the rows of the program say so; or both are tuples of such. The rows say nothing of a type that the program doesn't number, so `below` alone isn't reflexive.
+-- One type is below another: it is that type; or it is below it as a run computes from the rows; or both are tuples of such. The rows say nothing of a type that the program doesn't number, so what a run computes isn't reflexive.
 mutual
   pub data Below (p : Program) : Ty → Ty → Type 0 where
     is_same : {A B : Ty} → A ≡ B → Below p A B
@@ -42,15 +42,19 @@ mutual
     each0 : EachBelow p [] []
     each1 : {A B : Ty} {As Bs : List Ty} → Below p A B → EachBelow p As Bs → EachBelow p (A ∷ As) (B ∷ Bs)
 
+-- The type of `()`.
 abbrev pub unit_type : Ty
 unit_type = Tuple []
 
+-- The type ZZ32.
 abbrev pub small_type : Program → Ty
 small_type p = Named p.built_in.small
 
+-- The type Boolean.
 abbrev pub truth_type : Program → Ty
 truth_type p = Named p.built_in.truth
 
+-- The type of all that is thrown, `Exception`.
 abbrev pub thrown_type : Program → Ty
 thrown_type p = Named p.built_in.exception
 
@@ -64,6 +68,7 @@ Makes kind.Object = Unit {0}
 Makes (kind.Single base) = Unit {0}
 Makes _ = ⊥
 
+-- A declared type has a field of a name, at a place among its fields, and of a type.
 pub record FieldOf (p : Program) (id : TypeId) (f : NameId) (A : Ty) : Type 0 where
   pub shape : CoreShape
   pub place : ℕ
@@ -80,10 +85,11 @@ pub record ObjectFits (p : Program) (S : Sig) (id : TypeId) (base : ℕ) : Type 
   pub is_made : Makes shape.kind
   pub located : (n : ℕ) (c : CoreField) → slice_get shape.fields n ≡ Some c → S (base + n) ≡ Some c.ty
 
--- What a function's body has.
+-- The variables of a function's body: its parameters, and what it holds, at these types.
 abbrev pub vars_of : Closure → List Ty → List (ℕ × Sort)
 vars_of c ws = fixed_all c.parameters ++ named c.held ws
 
+-- A function's body has the result's type; its variables stand once; it has the type from what it takes to its result.
 abbrev pub ClosureFits : Closure → List Part → List Ty → Ty → Type 0
 ClosureFits c qs ws R = (qs ≡ record { vars = vars_of c ws; type = c.result } ∷ []) × Distinct (vars_of c ws) × (R ≡ Arrow (domain_of c.parameters) c.result)
 
@@ -96,6 +102,7 @@ SlotHas S G (slot.Location l) A = S l.0 ≡ Some A
 abbrev pub ItemsOf : Program → Ty → Ty → Type 0
 ItemsOf p A I = ((A ≡ Named p.built_in.range) × (I ≡ small_type p)) ⊎ (A ≡ Array I)
 
+-- How many items there are.
 abbrev pub count_of : Items → ℕ
 count_of (numbers_from first count) = count
 count_of (elements_from base count) = count
@@ -111,6 +118,7 @@ abbrev pub clauses : {A : Type 0} → ℕ → List (A × Ty) → Ty → List Par
 clauses x [] R = []
 clauses x (c ∷ cs) R = bound x c.1 R ∷ clauses x cs R
 
+-- What a `finally` has, where there is one: any type.
 abbrev pub last_parts : {A : Type 0} → Option A → Ty → List Part
 last_parts None L = []
 last_parts (Some t) L = plain L ∷ []
@@ -120,9 +128,6 @@ abbrev pub MarksFit : Sig → List (Loc × Value) → List Ty → Type 0
 MarksFit S [] [] = Unit {0}
 MarksFit S (m ∷ ms) (w ∷ ws) = (S m.0.0 ≡ Some w) × MarksFit S ms ws
 MarksFit S _ _ = ⊥
-
-abbrev pub Nones : List Ty → Type 0
-Nones ws = ws ≡ []
 
 -- Some declaration of a set is applicable to types, with that result.
 abbrev pub Called : Program → SetId → List Ty → Ty → Type 0
@@ -187,8 +192,8 @@ FitsV p S (Value-F.Object id base) qs ws R = ObjectFits p S id base.0 × (R ≡ 
 FitsV p S (Value-F.Array e base size) qs ws R = ArrayFits S e base.0 size × (R ≡ Array e)
 FitsV p S (Value-F.Function c) qs ws R = ClosureFits c qs ws R
 
+-- A term has a type: its form's, or one above that. So do the parts of a form, each with the variables that the form binds in it, values, and lists of values.
 mutual
-  -- A term has a type: its form's, or one above that.
   pub data Has (p : Program) (S : Sig) : Env → Term → Ty → Type 0 where
     has : {G : Env} {t : Term} {T : Ty} (R : Ty) (qs : List Part) (ws : List Ty) → Fits p S G (out-Term t) qs ws R
         → HasParts p S G (terms_in (out-Term t)) qs → HasVs p S (values_in (out-Term t)) ws → Below p R T → Has p S G t T

@@ -1,6 +1,6 @@
 -- What holds of each element of a list, and what a list of rows has set, by trying each place.
-use Rattle.std.proofs.Common.{◌≡◌, ℕ, zero, suc, ◌+◌, ◌<◌, ◌==◌, Bool, true, false, not, ◌&&◌, ◌||◌, List, [], ◌∷◌, ◌++◌, map, Option, Some, None, refl, ap, sym, ◌∙◌, subst, inl, inr, ◌⊎◌, arith, rules, IsTrue}
-use Rattle.std.specs.Prelude.{slice_get, unwrap_or, option_and_then, Contains, length}
+use Rattle.std.proofs.Common.{◌≡◌, ℕ, zero, suc, ◌+◌, ◌==◌, Bool, true, false, not, ◌&&◌, ◌||◌, List, [], ◌∷◌, ◌++◌, Option, Some, None, refl, ap, sym, ◌∙◌, subst, inl, inr, arith, rules, IsTrue}
+use Rattle.std.specs.Prelude.{slice_get, unwrap_or, option_and_then, Contains}
 use Rattle.std.specs.List.{list_all}
 use Rattle.fort_types.specs.Table.{is_set}
 use Rattle.fort_machine.specs.Parts.{IsOneOf}

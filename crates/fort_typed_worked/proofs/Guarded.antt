@@ -1,18 +1,17 @@
 -- The worked program is accepted.
-use Rattle.std.proofs.Common.{◌≡◌, ◌≢◌, ℕ, zero, suc, ◌+◌, ◌<◌, ◌==◌, Bool, true, false, not, ◌&&◌, ◌||◌, if◌then◌else◌, List, [], ◌∷◌, ◌++◌, map, Option, Some, None, refl, ap, sym, ◌∙◌, subst, inl, inr, ◌⊎◌, arith, IsTrue, ℤ, pos}
+use Rattle.std.proofs.Common.{◌≡◌, ◌≢◌, ℕ, ◌==◌, Bool, true, false, not, ◌&&◌, ◌||◌, if◌then◌else◌, List, [], ◌∷◌, ◌++◌, map, Option, Some, None, refl, ap, sym, ◌∙◌, subst, inl, inr, arith, IsTrue, ℤ, pos}
 use Rattle.std.specs.Prelude.{slice_get, Contains, nat_lt}
-use Rattle.std.specs.List.{list_all, list_any, concat}
+use Rattle.std.specs.List.{list_any, concat}
 use Rattle.std.specs.Int.{w32}
 use Rattle.fort_base.specs.declared.ids.DeclId.{DeclId}
 use Rattle.fort_base.specs.declared.ids.NameId.{NameId}
 use Rattle.fort_base.specs.declared.ids.SetId.{SetId}
 use Rattle.fort_base.specs.declared.ids.TypeId.{TypeId}
-use Rattle.fort_base.specs.declared.ty.Ty.{Ty, Tuple, out-Ty}
+use Rattle.fort_base.specs.declared.ty.Ty.{Ty, out-Ty}
 use Rattle.fort_base.specs.declared.ty.Ty.TheVariants.{Any, Named, outs-Named, outs-Any}
 use Rattle.fort_base.specs.declared.ty.Ty.TheOpen.{Ty-F}
 use Rattle.fort_core.specs.declared.primitive.Primitive.{Primitive}
 use Rattle.fort_core.specs.declared.primitive.Primitive.TheVariants.{Println, AddSmall}
-use Rattle.fort_core.specs.declared.program.CoreBody.{CoreBody}
 use Rattle.fort_core.specs.declared.program.CoreBody.TheVariants as body
 use Rattle.fort_core.specs.declared.program.CoreDecl.{CoreDecl}
 use Rattle.fort_core.specs.declared.program.CoreField.{CoreField}
@@ -20,12 +19,10 @@ use Rattle.fort_core.specs.declared.program.CoreKind.{CoreKind}
 use Rattle.fort_core.specs.declared.program.CoreKind.TheVariants as kind
 use Rattle.fort_core.specs.declared.program.CoreSet.{CoreSet}
 use Rattle.fort_core.specs.declared.program.CoreShape.{CoreShape}
-use Rattle.fort_core.specs.declared.program.Program.{Program}
 use Rattle.fort_core.specs.declared.term.Term.{Term, Call, Operator, Try}
 use Rattle.fort_core.specs.declared.term.Term as term
 use Rattle.fort_core.specs.declared.term.Term.TheVariants.{outs-Call, outs-Operator, outs-Try}
 use Rattle.fort_core.specs.declared.value.Value.{Value, Small, Object}
-use Rattle.fort_core.specs.declared.value.Value as value
 use Rattle.fort_core.specs.declared.value.Value.TheVariants.{outs-Small, outs-Tuple, outs-Object}
 use Rattle.fort_types.specs.Table.{is_set}
 use Rattle.fort_machine.specs.Types.{below}
@@ -33,24 +30,24 @@ use Rattle.fort_machine.specs.Acts.{unit, single}
 use Rattle.fort_machine.specs.Calls.{IsApplicable}
 use Rattle.fort_machine.specs.Journals.{value_in}
 use Rattle.fort_machine.specs.Runs.{location}
-use Rattle.fort_machine.specs.Worked.{type, set, decl, numbered, println_decl}
-use Rattle.fort_machine.specs.Written.{StandOnce, terms_of, constants_of, functions_in, functions_in_value, all_binders, AllWrittenValues, end_of_values, first_value, WrittenProgram}
+use Rattle.fort_machine.specs.Worked.{type, set, decl, println_decl}
+use Rattle.fort_machine.specs.Written.{StandOnce, constants_of, functions_in_value, AllWrittenValues, end_of_values, first_value, WrittenProgram}
 use Rattle.fort_worked.specs.Overflow.{sum, printing_sum, plus_decl, plain}
-use Rattle.fort_worked.proofs.WrittenForms.{Plain, Plains, none, next, PlainValue, plain_unit, plain_number, plain-Value, plain-Call, plain-Operator, plain-Try, EachDeclared, declared}
+use Rattle.fort_worked.proofs.WrittenForms.{Plain, none, next, plain_unit, plain_number, plain-Value, plain-Call, plain-Operator, plain-Try, declared}
 use Rattle.fort_typed.specs.Envs.{Sig, Env, Part, bound, plains}
 use Rattle.fort_typed.specs.Envs as envs
-use Rattle.fort_typed.specs.Typing.{Below, is_same, is_told, unit_type, small_type, IsNumber, ShapeOf, Makes, FieldOf, Called, Has, HasParts, parts0, parts1, HasV, HasVs, vs0, vs1}
+use Rattle.fort_typed.specs.Typing.{Below, is_same, is_told, unit_type, IsNumber, Makes, FieldOf, Has, parts0, parts1, HasV, vs0}
 use Rattle.fort_typed.specs.Signatures.{parameters_of, result_of}
 use Rattle.fort_typed.specs.Sound.{opening, typed_at, IsFailure, NewFits, StoreOk, Under, Sound}
 use Rattle.fort_typed.specs.Sound as sound
 use Rattle.fort_typed.specs.Goes.{IsBuiltIn, Complete}
 use Rattle.fort_typed.specs.Overloads.{KeepsRules}
-use Rattle.fort_typed.proofs.Computed.{rel, told, told_out}
+use Rattle.fort_typed.proofs.Computed.{told, told_out}
 use Rattle.fort_typed.proofs.Rules.{has_at, has_v_at, has_value}
 use Rattle.fort_typed.proofs.Laws.{no_run_is_stuck}
 use Rattle.fort_typed.proofs.Overloads.{rules_define}
 use Rattle.fort_typed_worked.specs.Guarded.{rows, locations, holding, typed, single_at, shapes, guarded_body, run_decl, guarded, GuardedIsAccepted, GuardedGoesOn}
-use Rattle.fort_typed_worked.proofs.Finding.{Each, each, one_member, all_set, found, passes, then_holds, equal_is, through_rows}
+use Rattle.fort_typed_worked.proofs.Finding.{each, one_member, all_set, found, passes, then_holds, equal_is, through_rows}
 
 -- types
 named_told : (i j : TypeId) → is_set rows i.0 j.0 ≡ true → IsTrue (below guarded (Named i) (Named j))

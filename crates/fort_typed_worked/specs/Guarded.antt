@@ -1,5 +1,5 @@
 -- Chapter "A worked program": `run(): () = try println(2147483647 + 1) catch e IntegerOverflow => () end`, with all built-in types. Nothing in the code is like it.
-use Rattle.std.specs.Prelude.{◌≡◌, ℕ, Bool, true, false, List, [], ◌∷◌, map, None}
+use Rattle.std.specs.Prelude.{ℕ, Bool, true, false, List, [], ◌∷◌, map, None}
 use Rattle.fort_base.specs.declared.ids.Loc.{Loc}
 use Rattle.fort_base.specs.declared.ty.Ty.{Ty, Tuple}
 use Rattle.fort_base.specs.declared.ty.Ty.TheVariants.{Named}
@@ -17,7 +17,7 @@ use Rattle.fort_machine.specs.Proper.{Reached}
 use Rattle.fort_machine.specs.Runs.{location}
 use Rattle.fort_machine.specs.Worked.{type, set, decl, numbered, println_decl}
 use Rattle.fort_worked.specs.Overflow.{printing_sum, plus_decl, plain}
-use Rattle.fort_typed.specs.Sound.{Sound, Defined}
+use Rattle.fort_typed.specs.Sound.{Sound}
 use Rattle.fort_typed.specs.Goes.{Complete, Goes}
 use Rattle.fort_typed.specs.Overloads.{KeepsRules}
 
