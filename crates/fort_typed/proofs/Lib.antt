@@ -32,3 +32,4 @@ pub mod Overloads
 pub mod Awake
 pub mod Shapes
 pub mod Rows
+pub mod OneSided

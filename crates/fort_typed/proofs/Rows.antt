@@ -16,7 +16,7 @@ row_there (Some row) j e = go (slice_get row j) refl e
     go None q e = absurd cc
     go (Some b) q e = (row, refl, q ∙ ap Some e)
 
-inside : (R : ℕ → ℕ → Type 0) (n : ℕ) (rows : List (List Bool)) → IsExact R n rows → (i j : ℕ) → IsTrue (is_set rows i j) → (i < n) × (j < n)
+pub inside : (R : ℕ → ℕ → Type 0) (n : ℕ) (rows : List (List Bool)) → IsExact R n rows → (i j : ℕ) → IsTrue (is_set rows i j) → (i < n) × (j < n)
 inside R n rows x i j e =
     let r = row_there (slice_get rows i) j e in
     (subst (λ m. i < m) x.high (slice_get_within rows i r.0 r.1), subst (λ m. j < m) (x.wide i r.0 r.1) (slice_get_within r.0 j true r.2))

@@ -5,7 +5,7 @@
 
 ghost use Rattle.fort_typed.specs.Sound.{RunsKeep, StaysTyped, RunIsTyped, OneDefinition};
 ghost use Rattle.fort_typed.specs.Overloads.{RulesDefine};
-ghost use Rattle.fort_typed.specs.Hierarchies.{RowsOfHierarchy};
+ghost use Rattle.fort_typed.specs.Hierarchies.{RelationFromOne, RowsOfHierarchy};
 ghost use Rattle.fort_typed.specs.Goes.{NeverStuck, NextThere, NoRunIsStuck, ReachedIsOne, ReachedIsTyped, SomeoneMayGo, StaysFinite};
 
 use fort_core::Program;
@@ -76,4 +76,9 @@ pub fn rows_of_hierarchy()
 /// So a pick may come next in the root machine: none can't be.
 pub fn next_there()
     ensures { NextThere }
+{}
+
+/// The rows of an accepted hierarchy compute below of a numbered type and any other one.
+pub fn relation_from_one()
+    ensures { RelationFromOne }
 {}
