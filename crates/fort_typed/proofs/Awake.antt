@@ -3,10 +3,12 @@ use Rattle.std.proofs.Common.{◌≡◌, ℕ, Bool, true, false, List, [], ◌�
 use Rattle.fort_base.specs.declared.ty.Ty.{Ty}
 use Rattle.fort_core.specs.declared.program.Program.{Program}
 use Rattle.fort_core.specs.declared.term.Term.{Term}
-use Rattle.fort_machine.specs.Attempts.{Awake, Sleeps}
-use Rattle.fort_machine.specs.Effects.{Store}
+use Rattle.fort_machine.specs.Attempts.{Awake, Sleeps, goes}
+use Rattle.fort_machine.specs.Effects.{Store, idle, both, aborting}
 use Rattle.fort_machine.specs.Ends.{open_yet, standing, Finished}
-use Rattle.fort_machine.specs.Frames.{Frame, on, plug, passes, passed}
+use Rattle.fort_machine.specs.Frames.{Frame, on, plug, passes, passed, trodden}
+use Rattle.fort_core.specs.declared.pick.Pick.{Step, Attempt}
+use Rattle.fort_machine.specs.Runs.{step, none as none_more, so_far, path_to, location}
 use Rattle.fort_machine.specs.Proper.{Proper}
 use Rattle.fort_machine.proofs.Places.{ready_open, plug_open}
 use Rattle.fort_machine.proofs.Ready.{local_ready, stop_ready, form_ready}
@@ -16,7 +18,7 @@ use Rattle.fort_machine.proofs.ProperRuns.{reached_is_proper}
 use Rattle.fort_typed.specs.Envs.{Sig, none}
 use Rattle.fort_typed.specs.Typing.{Has}
 use Rattle.fort_typed.specs.Sound.{Defined, StoreOk}
-use Rattle.fort_typed.specs.Goes.{Complete, Finite, Stands, at_step, at_abort, at_atomic, Goes, done, goes_at, steps_on, aborts_here, tries, NobodyMayGo, SomeoneMayGo}
+use Rattle.fort_typed.specs.Goes.{Complete, Finite, Stands, at_step, at_abort, at_atomic, Goes, done, goes_at, steps_on, aborts_here, tries, NobodyMayGo, SomeoneMayGo, NextThere}
 use Rattle.fort_typed.proofs.Facts.{Facts}
 use Rattle.fort_typed.proofs.Frames.{plug_has}
 use Rattle.fort_typed.proofs.Progress.{progress}
@@ -67,3 +69,11 @@ someone_may_go k o d all inner s t r n nobody =
     let p = (reached_is_proper k all.written inner s t r).0 in
     let f = reached_finite k r in
     someone k (facts k o) d all inner h.1.types s h.1.store f t h.0 h.1.term p nobody (progress k (facts k o) d all inner h.1.types s h.1.store f h.1.term refl p) n
+
+pub next_there : NextThere
+next_there k o d all s t r n none_next = someone_may_go k o d all false s t r n nobody
+  where
+    nobody : NobodyMayGo k false s t
+    nobody fs a e q (steps_on loc b d l f) = none_next (Step (path_to fs) (location loc)) (both d idle) (inl (goes (plug (trodden fs) b), step fs refl e q l f (none_more refl refl refl) refl))
+    nobody fs a e q (aborts_here i x) = absurd cc
+    nobody fs a e q (tries mode body form bare may) = none_next (Attempt (path_to fs) []) (aborting idle) (inr (so_far fs refl e q form bare may (none_more refl refl refl) refl))

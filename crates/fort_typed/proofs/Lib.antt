@@ -31,3 +31,5 @@ pub mod Laws
 pub mod Overloads
 pub mod Awake
 pub mod Shapes
+pub mod Rows
+pub mod OneSided

@@ -19,6 +19,7 @@ use Rattle.fort_machine.specs.Marked.{Bare}
 use Rattle.fort_machine.specs.Steps.{Acts, Local}
 use Rattle.fort_machine.specs.OneDefinition.{IsOne}
 use Rattle.fort_machine.specs.Written.{WrittenProgram}
+use Rattle.fort_machine.specs.Journals.{IsNext}
 use Rattle.fort_machine.specs.Proper.{Proper, Reached}
 use Rattle.fort_typed.specs.Envs.{Sig, none}
 use Rattle.fort_typed.specs.Typing.{ShapeOf, Makes, FieldOf, Has}
@@ -95,3 +96,7 @@ NobodyMayGo p inner s t = (fs : List Frame) (a : Term) → t ≡ plug fs a → p
 -- Where a machine of an accepted program isn't at its end, it isn't so that nobody may go on: where all who are awake have gone, a sleeper may be tried. Which thread it is can't be said here, since no test tells whether a store has a value.
 abbrev pub SomeoneMayGo : Type 0
 SomeoneMayGo = (p : Program) → Sound p → Defined p → Complete p → (inner : Bool) (s : Store) (t : Term) → Reached p inner s t → (Finished t → ⊥) → NobodyMayGo p inner s t → ⊥
+
+-- So there is a pick that may come next in the root machine, a legal one or an attempt that isn't finished: none can't be.
+abbrev pub NextThere : Type 0
+NextThere = (p : Program) → Sound p → Defined p → Complete p → (s : Store) (t : Term) → Reached p false s t → (Finished t → ⊥) → ((pick : Pick) (d : Effect) → IsNext p s t pick d → ⊥) → ⊥

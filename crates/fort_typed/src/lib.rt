@@ -5,7 +5,8 @@
 
 ghost use Rattle.fort_typed.specs.Sound.{RunsKeep, StaysTyped, RunIsTyped, OneDefinition};
 ghost use Rattle.fort_typed.specs.Overloads.{RulesDefine};
-ghost use Rattle.fort_typed.specs.Goes.{NeverStuck, NoRunIsStuck, ReachedIsOne, ReachedIsTyped, SomeoneMayGo, StaysFinite};
+ghost use Rattle.fort_typed.specs.Hierarchies.{RelationFromOne, RowsOfHierarchy};
+ghost use Rattle.fort_typed.specs.Goes.{NeverStuck, NextThere, NoRunIsStuck, ReachedIsOne, ReachedIsTyped, SomeoneMayGo, StaysFinite};
 
 use fort_core::Program;
 
@@ -65,4 +66,19 @@ pub fn rules_define()
 /// Where a machine of an accepted program isn't at its end, it isn't so that nobody may go on, sleeping forms included.
 pub fn someone_may_go()
     ensures { SomeoneMayGo }
+{}
+
+/// The rows of an accepted hierarchy go through a third type, and have nothing below an object or a leaf but itself.
+pub fn rows_of_hierarchy()
+    ensures { RowsOfHierarchy }
+{}
+
+/// So a pick may come next in the root machine: none can't be.
+pub fn next_there()
+    ensures { NextThere }
+{}
+
+/// The rows of an accepted hierarchy compute below of a numbered type and any other one.
+pub fn relation_from_one()
+    ensures { RelationFromOne }
 {}

@@ -1,5 +1,5 @@
 -- The worked program is accepted.
-use Rattle.std.proofs.Common.{◌≡◌, ◌≢◌, ℕ, ◌==◌, Bool, true, false, not, ◌&&◌, ◌||◌, if◌then◌else◌, List, [], ◌∷◌, ◌++◌, map, Option, Some, None, refl, ap, sym, ◌∙◌, subst, inl, inr, arith, IsTrue, ℤ, pos}
+use Rattle.std.proofs.Common.{◌⊎◌, ◌≡◌, ◌≢◌, ℕ, ◌==◌, Bool, true, false, not, ◌&&◌, ◌||◌, if◌then◌else◌, List, [], ◌∷◌, ◌++◌, map, Option, Some, None, refl, ap, sym, ◌∙◌, subst, inl, inr, arith, IsTrue, ℤ, pos}
 use Rattle.std.specs.Prelude.{slice_get, Contains, nat_lt}
 use Rattle.std.specs.List.{list_any, concat}
 use Rattle.std.specs.Int.{w32}
@@ -10,6 +10,7 @@ use Rattle.fort_base.specs.declared.ids.TypeId.{TypeId}
 use Rattle.fort_base.specs.declared.ty.Ty.{Ty, out-Ty}
 use Rattle.fort_base.specs.declared.ty.Ty.TheVariants.{Any, Named, outs-Named, outs-Any}
 use Rattle.fort_base.specs.declared.ty.Ty.TheOpen.{Ty-F}
+use Rattle.fort_core.specs.declared.form.Mode.TheVariants as mode
 use Rattle.fort_core.specs.declared.primitive.Primitive.{Primitive}
 use Rattle.fort_core.specs.declared.primitive.Primitive.TheVariants.{Println, AddSmall}
 use Rattle.fort_core.specs.declared.program.CoreBody.TheVariants as body
@@ -19,9 +20,9 @@ use Rattle.fort_core.specs.declared.program.CoreKind.{CoreKind}
 use Rattle.fort_core.specs.declared.program.CoreKind.TheVariants as kind
 use Rattle.fort_core.specs.declared.program.CoreSet.{CoreSet}
 use Rattle.fort_core.specs.declared.program.CoreShape.{CoreShape}
-use Rattle.fort_core.specs.declared.term.Term.{Term, Call, Operator, Try}
+use Rattle.fort_core.specs.declared.term.Term.{Term, Call, Operator, ReadField, WriteField, Let, Then, Try, Atomic}
 use Rattle.fort_core.specs.declared.term.Term as term
-use Rattle.fort_core.specs.declared.term.Term.TheVariants.{outs-Call, outs-Operator, outs-Try}
+use Rattle.fort_core.specs.declared.term.Term.TheVariants.{Variable, outs-Variable, outs-Call, outs-Operator, outs-ReadField, outs-WriteField, outs-Let, outs-Then, outs-Try, outs-Atomic}
 use Rattle.fort_core.specs.declared.value.Value.{Value, Small, Object}
 use Rattle.fort_core.specs.declared.value.Value.TheVariants.{outs-Small, outs-Tuple, outs-Object}
 use Rattle.fort_types.specs.Table.{is_set}
@@ -29,11 +30,12 @@ use Rattle.fort_machine.specs.Types.{below}
 use Rattle.fort_machine.specs.Acts.{unit, single}
 use Rattle.fort_machine.specs.Calls.{IsApplicable}
 use Rattle.fort_machine.specs.Journals.{value_in}
+use Rattle.fort_machine.specs.Scopes.{is_among}
 use Rattle.fort_machine.specs.Runs.{location}
 use Rattle.fort_machine.specs.Worked.{type, set, decl, println_decl}
-use Rattle.fort_machine.specs.Written.{StandOnce, constants_of, functions_in_value, AllWrittenValues, end_of_values, first_value, WrittenProgram}
-use Rattle.fort_worked.specs.Overflow.{sum, printing_sum, plus_decl, plain}
-use Rattle.fort_worked.proofs.WrittenForms.{Plain, none, next, plain_unit, plain_number, plain-Value, plain-Call, plain-Operator, plain-Try, declared}
+use Rattle.fort_machine.specs.Written.{Constructs, end_of_terms, StandOnce, constants_of, functions_in_value, AllWrittenValues, end_of_values, first_value, WrittenProgram}
+use Rattle.fort_worked.specs.Overflow.{plus_decl, plain}
+use Rattle.fort_worked.proofs.WrittenForms.{plain_at, plain-Then, plain-Atomic, Plain, none, next, plain_unit, plain_number, plain-Value, plain-Call, plain-Operator, plain-Try, declared}
 use Rattle.fort_typed.specs.Envs.{Sig, Env, Part, bound, plains}
 use Rattle.fort_typed.specs.Envs as envs
 use Rattle.fort_typed.specs.Typing.{Below, is_same, is_told, unit_type, IsNumber, Makes, FieldOf, Has, parts0, parts1, HasV, vs0}
@@ -46,7 +48,7 @@ use Rattle.fort_typed.proofs.Computed.{told, told_out}
 use Rattle.fort_typed.proofs.Rules.{has_at, has_v_at, has_value}
 use Rattle.fort_typed.proofs.Laws.{no_run_is_stuck}
 use Rattle.fort_typed.proofs.Overloads.{rules_define}
-use Rattle.fort_typed_worked.specs.Guarded.{rows, locations, holding, typed, single_at, shapes, guarded_body, run_decl, guarded, GuardedIsAccepted, GuardedGoesOn}
+use Rattle.fort_typed_worked.specs.Guarded.{rows, locations, holding, typed, single_at, count_name, number, count, counter, counter_type, shapes, figure, making, reading, adding, setting, printing, counting, counter_decl, guarded_body, run_decl, guarded, GuardedIsAccepted, GuardedGoesOn}
 use Rattle.fort_typed_worked.proofs.Finding.{each, one_member, all_set, found, passes, then_holds, equal_is, through_rows}
 
 -- types
@@ -85,40 +87,113 @@ println_applies = record { members = record { decls = decl 1 ∷ [] }; is_set = 
 run_applies : IsApplicable guarded (set 0) [] (decl 0) run_decl
 run_applies = record { members = record { decls = decl 0 ∷ [] }; is_set = refl; is_member = (0, omega arith, refl); is_decl = refl; applies = refl }
 
--- the terms
-module _ (S : Sig) (G : Env) where
-  fresh : envs.Fresh [] G
-  fresh z B e = refl
+counter_applies : IsApplicable guarded (set 3) (small ∷ []) (decl 3) counter_decl
+counter_applies = record { members = record { decls = decl 3 ∷ [] }; is_set = refl; is_member = (0, omega arith, refl); is_decl = refl; applies = ap (λ b. b && true) (named_told (type 2) (type 2) refl) }
 
-  sum_has : Has guarded S G sum small
-  sum_has = has_at guarded S (outs-Operator (set 2) _) (record {
-    own = small;
-    qs = plains (small ∷ small ∷ []);
+abbrev count_field : FieldOf guarded (type 17) count_name small
+count_field = record { shape = counter; place = 0; field = count; is_shape = refl; is_place = refl; is_field = refl; is_type = refl }
+
+-- the terms
+fresh : (G : Env) → envs.Fresh [] G
+fresh G z B e = refl
+
+module _ (S : Sig) where
+  abbrev G : Env
+  G = envs.binds (envs.fixed_all ((0, counter_type) ∷ [])) envs.none
+
+  figure_has : {G : Env} (n : ℕ) → IsNumber w32 (pos n) → Has guarded S G (figure n) small
+  figure_has n w = has_value guarded S self (number_has S (pos n) w)
+
+  making_has : Has guarded S envs.none making counter_type
+  making_has = has_at guarded S (outs-Call (set 3) _) (record {
+    own = counter_type;
+    qs = plains (small ∷ []);
     ws = [];
-    fits = (small ∷ small ∷ [], refl, (decl 2, plus_decl, sum_applies, refl));
-    parts = parts1 fresh (has_value guarded S self (number_has S (pos 2147483647) refl)) (parts1 fresh (has_value guarded S self (number_has S (pos 1) refl)) parts0);
+    fits = (small ∷ [], refl, (decl 3, counter_decl, counter_applies, refl));
+    parts = parts1 (fresh envs.none) (figure_has 2147483647 refl) parts0;
     values = vs0;
     below = is_same refl;
   })
 
-  printing_has : Has guarded S G printing_sum unit_type
+  variable_has : Has guarded S G (Variable 0) counter_type
+  variable_has = has_at guarded S (outs-Variable 0) (record { own = counter_type; qs = []; ws = []; fits = refl; parts = parts0; values = vs0; below = is_same refl })
+
+  reading_has : Has guarded S G reading small
+  reading_has = has_at guarded S (outs-ReadField (Variable 0) count_name) (record {
+    own = small;
+    qs = envs.plain counter_type ∷ [];
+    ws = [];
+    fits = (type 17, count_field, refl);
+    parts = parts1 (fresh G) variable_has parts0;
+    values = vs0;
+    below = is_same refl;
+  })
+
+  adding_has : Has guarded S G adding small
+  adding_has = has_at guarded S (outs-Operator (set 2) _) (record {
+    own = small;
+    qs = plains (small ∷ small ∷ []);
+    ws = [];
+    fits = (small ∷ small ∷ [], refl, (decl 2, plus_decl, sum_applies, refl));
+    parts = parts1 (fresh G) reading_has (parts1 (fresh G) (figure_has 1 refl) parts0);
+    values = vs0;
+    below = is_same refl;
+  })
+
+  writing_has : Has guarded S G (WriteField (Variable 0) count_name adding) unit_type
+  writing_has = has_at guarded S (outs-WriteField (Variable 0) count_name adding) (record {
+    own = unit_type;
+    qs = envs.plain counter_type ∷ envs.plain small ∷ [];
+    ws = [];
+    fits = (type 17, small, count_field, tt, refl, refl);
+    parts = parts1 (fresh G) variable_has (parts1 (fresh G) adding_has parts0);
+    values = vs0;
+    below = is_same refl;
+  })
+
+  setting_has : Has guarded S G setting unit_type
+  setting_has = has_at guarded S (outs-Atomic mode.Atomic _) (record { own = unit_type; qs = envs.plain unit_type ∷ []; ws = []; fits = refl; parts = parts1 (fresh G) writing_has parts0; values = vs0; below = is_same refl })
+
+  printing_has : Has guarded S G printing unit_type
   printing_has = has_at guarded S (outs-Call (set 1) _) (record {
     own = unit_type;
     qs = plains (small ∷ []);
     ws = [];
     fits = (small ∷ [], refl, (decl 1, println_decl, println_applies, refl));
-    parts = parts1 fresh sum_has parts0;
+    parts = parts1 (fresh G) reading_has parts0;
+    values = vs0;
+    below = is_same refl;
+  })
+
+  both_has : Has guarded S G (Then setting printing) unit_type
+  both_has = has_at guarded S (outs-Then setting printing) (record {
+    own = unit_type;
+    qs = envs.plain unit_type ∷ envs.plain unit_type ∷ [];
+    ws = [];
+    fits = (unit_type, refl);
+    parts = parts1 (fresh G) setting_has (parts1 (fresh G) printing_has parts0);
+    values = vs0;
+    below = is_same refl;
+  })
+
+  counting_has : Has guarded S envs.none counting unit_type
+  counting_has = has_at guarded S (outs-Let ((0, counter_type) ∷ []) making (Then setting printing)) (record {
+    own = unit_type;
+    qs = envs.plain counter_type ∷ record { vars = envs.fixed_all ((0, counter_type) ∷ []); type = unit_type } ∷ [];
+    ws = [];
+    fits = (refl, (refl, tt));
+    parts = parts1 (fresh envs.none) making_has (parts1 (λ z B e. absurd cc) both_has parts0);
     values = vs0;
     below = is_same refl;
   })
 
 body_has : (S : Sig) → Has guarded S envs.none guarded_body unit_type
-body_has S = has_at guarded S (outs-Try printing_sum 0 ((term.Value unit, Named (type 7)) ∷ []) None) (record {
+body_has S = has_at guarded S (outs-Try counting 1 ((term.Value unit, Named (type 7)) ∷ []) None) (record {
   own = unit_type;
-  qs = envs.plain unit_type ∷ bound 0 (Named (type 7)) unit_type ∷ [];
+  qs = envs.plain unit_type ∷ bound 1 (Named (type 7)) unit_type ∷ [];
   ws = [];
   fits = (unit_type, refl);
-  parts = parts1 (fresh S envs.none) (printing_has S envs.none) (parts1 (λ z B e. absurd cc) (has_value guarded S self (unit_has S)) parts0);
+  parts = parts1 (fresh envs.none) (counting_has S) (parts1 (λ z B e. absurd cc) (has_value guarded S self (unit_has S)) parts0);
   values = vs0;
   below = is_same refl;
 })
@@ -177,11 +252,19 @@ made_low s m (Some r) e = let z : r ≡ s = cc in ap (λ (x : CoreShape). is_low
     by kind.Object m = refl
     by (kind.Single base) m = refl
 
--- no type has a field
-fieldless : (id : TypeId) (f : NameId) (A : Ty) → FieldOf guarded id f A → ⊥
-fieldless id f A i =
-    let none_of : i.shape.fields ≡ [] = each (λ (s : CoreShape). s.fields ≡ []) shapes (refl, (refl, (refl, (refl, (refl, (refl, (refl, (refl, (refl, (refl, (refl, (refl, (refl, (refl, (refl, (refl, (refl, tt))))))))))))))))) id.0 i.shape i.is_shape in
-    let z : slice_get [] i.place ≡ Some i.field = ap (λ (fs : List CoreField). slice_get fs i.place) (sym none_of) ∙ i.is_field in absurd cc
+-- only `Counter` has a field
+abbrev IsBare : CoreShape → Type 0
+IsBare s = (s.fields ≡ []) ⊎ (s ≡ counter)
+
+has_counter : (id : TypeId) (f : NameId) (A : Ty) (i : FieldOf guarded id f A) → i.shape ≡ counter
+has_counter id f A i = go (each IsBare shapes (inl refl, (inl refl, (inl refl, (inl refl, (inl refl, (inl refl, (inl refl, (inl refl, (inl refl, (inl refl, (inl refl, (inl refl, (inl refl, (inl refl, (inl refl, (inl refl, (inl refl, (inr refl, tt)))))))))))))))))) id.0 i.shape i.is_shape)
+  where
+    go : IsBare i.shape → i.shape ≡ counter
+    go (inl none_of) = let z : slice_get [] i.place ≡ Some i.field = ap (λ (fs : List CoreField). slice_get fs i.place) (sym none_of) ∙ i.is_field in absurd cc
+    go (inr e) = e
+
+field_low : (id : TypeId) (f : NameId) (A : Ty) → FieldOf guarded id f A → low_of (slice_get shapes id.0) ≡ true
+field_low id f A i = ap low_of i.is_shape ∙ ap (λ (s : CoreShape). is_low s.kind) (has_counter id f A i)
 
 -- each set has one declaration
 abbrev IsAlone : CoreSet → Type 0
@@ -189,7 +272,7 @@ IsAlone s = (d : DeclId) × (s.decls ≡ d ∷ [])
 
 alone : (n : SetId) (members : CoreSet) (d e : DeclId) → slice_get guarded.sets n.0 ≡ Some members → Contains members.decls d → Contains members.decls e → d ≡ e
 alone n members d e q c b =
-    let a = each IsAlone guarded.sets ((decl 0, refl), ((decl 1, refl), ((decl 2, refl), tt))) n.0 members q in
+    let a = each IsAlone guarded.sets ((decl 0, refl), ((decl 1, refl), ((decl 2, refl), ((decl 3, refl), tt)))) n.0 members q in
     sym (one_member a.0 d (subst (λ ds. Contains ds d) a.1 c)) ∙ one_member a.0 e (subst (λ ds. Contains ds e) a.1 b)
 
 one_decl : (n : SetId) (ts us : List Ty) (d e : DeclId) (x y : CoreDecl) → IsApplicable guarded n ts d x → IsApplicable guarded n us e y → (d ≡ e) × (x ≡ y)
@@ -201,7 +284,7 @@ one_decl n ts us d e x y a b =
     let v : x ≡ y = cc in (q, v)
 
 concrete : (d : DeclId) (x : CoreDecl) → slice_get guarded.decls d.0 ≡ Some x → x.body ≢ body.Abstract
-concrete d x e = each (λ (c : CoreDecl). c.body ≢ body.Abstract) guarded.decls ((λ q. cc), ((λ q. cc), ((λ q. cc), tt))) d.0 x e
+concrete d x e = each (λ (c : CoreDecl). c.body ≢ body.Abstract) guarded.decls ((λ q. cc), ((λ q. cc), ((λ q. cc), ((λ q. cc), tt)))) d.0 x e
 
 keeps_rules : KeepsRules guarded
 keeps_rules n ts d x vs a = record {
@@ -265,7 +348,7 @@ BodyHas c = (t : Term) → c.body ≡ body.Plain t → Has guarded (opening guar
 bodies : (d : DeclId) (c : CoreDecl) (t : Term) → slice_get guarded.decls d.0 ≡ Some c → c.body ≡ body.Plain t → Has guarded (opening guarded) (envs.binds (sound.numbered 0 c.parameters) envs.none) t c.result
 bodies d c t e q = each BodyHas guarded.decls (
   (λ t q. let z : guarded_body ≡ t = cc in subst (λ u. Has guarded (opening guarded) envs.none u unit_type) z (body_has (opening guarded))),
-  ((λ t q. absurd cc), ((λ t q. absurd cc), tt)),
+  ((λ t q. absurd cc), ((λ t q. absurd cc), ((λ t q. absurd cc), tt))),
 ) d.0 c e t q
 
 abbrev HasSignature : CoreDecl → Type 0
@@ -276,21 +359,27 @@ primitives d c f e q = each HasSignature guarded.decls (
   (λ f q. absurd cc),
   (
     (λ f q. let z : Println ≡ f = cc in subst (λ g. (println_decl.parameters ≡ parameters_of guarded g) × (println_decl.result ≡ result_of guarded g)) z (refl, refl)),
-    ((λ f q. let z : AddSmall ≡ f = cc in subst (λ g. (plus_decl.parameters ≡ parameters_of guarded g) × (plus_decl.result ≡ result_of guarded g)) z (refl, refl)), tt),
+    ((λ f q. let z : AddSmall ≡ f = cc in subst (λ g. (plus_decl.parameters ≡ parameters_of guarded g) × (plus_decl.result ≡ result_of guarded g)) z (refl, refl)), ((λ f q. absurd cc), tt)),
   ),
 ) d.0 c e f q
 
-abbrev MakesNothing : CoreDecl → Type 0
-MakesNothing c = (id : TypeId) → c.body ≡ body.New id → ⊥
+abbrev Makers : CoreDecl → Type 0
+Makers c = (id : TypeId) → c.body ≡ body.New id → NewFits guarded id c
+
+counter_made : NewFits guarded (type 17) counter_decl
+counter_made = record { shape = counter; is_shape = refl; is_made = tt; types = []; constants_have = vs0; fields = refl; result = is_same refl }
 
 constructors : (d : DeclId) (c : CoreDecl) (id : TypeId) → slice_get guarded.decls d.0 ≡ Some c → c.body ≡ body.New id → NewFits guarded id c
-constructors d c id e q = absurd (each MakesNothing guarded.decls ((λ id q. cc), ((λ id q. cc), ((λ id q. cc), tt))) d.0 c e id q)
+constructors d c id e q = each Makers guarded.decls (
+  (λ id q. absurd cc),
+  ((λ id q. absurd cc), ((λ id q. absurd cc), ((λ id q. let z : type 17 ≡ id = cc in subst (λ (i : TypeId). NewFits guarded i counter_decl) z counter_made), tt))),
+) d.0 c e id q
 
 guarded_is_sound : Sound guarded
 guarded_is_sound = record {
   through = through_rows rows refl;
   leaf = λ i j s e m h. under_low i j (made_low s m (slice_get shapes j.0) e) h;
-  fields = λ i j f A s x e m h. absurd (fieldless j f A x);
+  fields = λ i j f A s x e m h. (A, subst (λ (t : TypeId). FieldOf guarded t f A) (sym (under_low i j (field_low j f A x) h)) x, is_same refl);
   results = λ n ts us d e x y a b h. subst (λ (c : CoreDecl). Below guarded x.result c.result) (one_decl n ts us d e x y a b).1 (is_same refl);
   bodies = bodies;
   primitives = primitives;
@@ -301,9 +390,37 @@ guarded_is_sound = record {
 }
 
 -- as it is written
-body_is : Plain guarded_body (0 ∷ [])
-body_is = plain-Try printing_sum 0 (term.Value unit) (Named (type 7))
-    (plain-Call (set 1) _ (next (plain-Operator (set 2) _ (next (plain-Value _ (plain_number (pos 2147483647))) (next (plain-Value _ (plain_number (pos 1))) none))) none)) (plain-Value unit plain_unit) refl
+figure_is : (n : ℕ) → Plain (figure n) []
+figure_is n = plain-Value _ (plain_number (pos n))
+
+variable_is : Plain (Variable 0) []
+variable_is = plain_at (Variable 0) _ [] (outs-Variable 0) (record { before_runs = tt; no_value = tt; unnested = (tt, refl) }) end_of_terms end_of_values refl refl
+
+reading_is : Plain reading []
+reading_is = let ps = next variable_is none in
+    plain_at reading _ [] (outs-ReadField (Variable 0) count_name) (record { before_runs = tt; no_value = tt; unnested = (tt, refl) }) ps.are_written end_of_values (ap concat ps.binders) ps.functions
+
+adding_is : Plain adding []
+adding_is = plain-Operator (set 2) _ (next reading_is (next (figure_is 1) none))
+
+writing_is : Plain (WriteField (Variable 0) count_name adding) []
+writing_is = let ps = next variable_is (next adding_is none) in
+    plain_at _ _ [] (outs-WriteField (Variable 0) count_name adding) (record { before_runs = tt; no_value = tt; unnested = (tt, refl) }) ps.are_written end_of_values (ap concat ps.binders) ps.functions
+
+both_is : Plain (Then setting printing) []
+both_is = plain-Then setting printing (plain-Atomic mode.Atomic _ writing_is) (plain-Call (set 1) _ (next reading_is none))
+
+counting_is : Plain counting (0 ∷ [])
+counting_is = let ps = next (plain-Call (set 3) _ (next (figure_is 2147483647) none)) (next both_is none) in let bs = next both_is none in
+    plain_at counting _ (0 ∷ []) (outs-Let ((0, counter_type) ∷ []) making (Then setting printing))
+    (record { before_runs = tt; no_value = tt; unnested = ((refl, tt), ap (λ zs. list_any (λ n. is_among n zs) (0 ∷ [])) (ap concat bs.binders)) })
+    ps.are_written end_of_values (ap (λ zs. 0 ∷ concat zs) ps.binders) ps.functions
+
+body_is : Plain guarded_body (1 ∷ 0 ∷ [])
+body_is = plain-Try counting 1 (term.Value unit) (Named (type 7)) counting_is (plain-Value unit plain_unit) refl
+
+counter_is : Constructs guarded (type 17) (number ∷ [])
+counter_is = record { shape = counter; is_shape = refl; awaited = count ∷ []; constant = []; are_fields = refl; have_none = (refl, tt); have_constants = tt; are_parameters = refl }
 
 units_written : (ns : List ℕ) → AllWrittenValues (map (λ (n : ℕ). unit) ns)
 units_written [] = end_of_values
@@ -326,7 +443,7 @@ guarded_is_written =
       terms = ps.are_written;
       values = ten_written;
       numbers = subst StandOnce (sym (ap (λ z. z ++ concat (map functions_in_value (constants_of guarded))) ps.functions ∙ no_functions)) tt;
-      declarations = λ d c e. declared guarded guarded.decls (ap (list_any (λ n. nat_lt n 0)) body_is.binders, (tt, (tt, tt))) d.0 c e;
+      declarations = λ d c e. declared guarded guarded.decls (ap (list_any (λ n. nat_lt n 0)) body_is.binders, (tt, (tt, (counter_is, tt)))) d.0 c e;
     }
 
 -- and complete
@@ -345,7 +462,11 @@ guarded_is_complete = record {
   singles = singles;
   only = λ b i h u. under_low i b (ap low_of (leaf_shape b h)) u;
   unmade = λ b s h e m. let z : Some (plain kind.Leaf) ≡ Some s = sym (leaf_shape b h) ∙ e in let y : plain kind.Leaf ≡ s = cc in subst (λ (x : CoreShape). Makes x.kind) (sym y) m;
-  fieldless = λ b i f A h u x. fieldless i f A x;
+  fieldless = λ b i f A h u x.
+      let e = under_low b i (field_low i f A x) u in
+      let z : Some (plain kind.Leaf) ≡ Some counter = sym (leaf_shape b h) ∙ ap (λ (t : TypeId). slice_get shapes t.0) e ∙ x.is_shape ∙ ap Some (has_counter i f A x) in
+      let y : plain kind.Leaf ≡ counter = cc in
+      let k : kind.Leaf ≡ kind.Object = ap (λ (s : CoreShape). s.kind) y in cc;
   small_large = differ 2 3 (λ e. omega (arith, e));
   small_text = differ 2 4 (λ e. omega (arith, e));
   small_truth = differ 2 5 (λ e. omega (arith, e));

@@ -5,8 +5,8 @@
 
 ghost use Rattle.fort_typed_worked.specs.Guarded.{GuardedIsAccepted, GuardedGoesOn};
 
-/// The program `run(): () = try println(2147483647 + 1) catch e IntegerOverflow => () end`, with all built-in types, is
-/// sound, complete and keeps the rules on overloading; so no run of it is stuck.
+/// A program with an object of one field, which an atomic form adds to until the sum is too large, and with all built-in
+/// types, is sound, complete and keeps the rules on overloading; so no run of it is stuck.
 pub fn guarded_is_accepted()
     ensures accepted { GuardedIsAccepted }
     ensures goes { GuardedGoesOn }

@@ -22,22 +22,22 @@ use Rattle.fort_machine.specs.Scopes.{is_among}
 use Rattle.fort_machine.specs.Written.{all_binders_at, all_binders, closure_binders, AreApart, IsWritten, IsWrittenValue, Written, written, AllWritten, end_of_terms, first_term, WrittenValue, written_value, AllWrittenValues, end_of_values, first_value, functions_at, value_functions_at, closure_functions_at, functions_in, functions_in_value, IsDeclared}
 
 -- what is in a layer
-abbrev value_binders : Value → Unit {0}
+abbrev pub value_binders : Value → Unit {0}
 value_binders = fold-Value (List ℕ) (Unit {0}) (List ℕ) all_binders_at (λ v. tt) (λ c. closure_binders c ++ c.body)
 
-abbrev closures_binders : Closure → List ℕ
+abbrev pub closures_binders : Closure → List ℕ
 closures_binders = fold-Closure (List ℕ) (Unit {0}) (List ℕ) all_binders_at (λ v. tt) (λ c. closure_binders c ++ c.body)
 
-abbrev functions_in_closure : Closure → List ℕ
+abbrev pub functions_in_closure : Closure → List ℕ
 functions_in_closure = fold-Closure (List ℕ) (List ℕ) (List ℕ) functions_at value_functions_at closure_functions_at
 
-abbrev binders_out : Term-F Term Value Closure → List ℕ
+abbrev pub binders_out : Term-F Term Value Closure → List ℕ
 binders_out y = all_binders_at (map-Term Term Value Closure (List ℕ) (Unit {0}) (List ℕ) all_binders value_binders closures_binders y)
 
-abbrev functions_out : Term-F Term Value Closure → List ℕ
+abbrev pub functions_out : Term-F Term Value Closure → List ℕ
 functions_out y = functions_at (map-Term Term Value Closure (List ℕ) (List ℕ) (List ℕ) functions_in functions_in_value functions_in_closure y)
 
-abbrev functions_out_value : Value-F Term Value Closure → List ℕ
+abbrev pub functions_out_value : Value-F Term Value Closure → List ℕ
 functions_out_value y = value_functions_at (map-Value Term Value Closure (List ℕ) (List ℕ) (List ℕ) functions_in functions_in_value functions_in_closure y)
 
 -- a term that is written, binds these, and has no function in it
@@ -61,7 +61,7 @@ next {t} {ts} {xs} {xss} h hs = record {
   functions = ap (λ z. z ++ concat (map functions_in ts)) h.functions ∙ hs.functions;
 }
 
-plain_at : (t : Term) (y : Term-F Term Value Closure) (xs : List ℕ) → out-Term t ≡ y → IsWritten y → AllWritten (terms_in y) → AllWrittenValues (values_in y) → binders_out y ≡ xs → functions_out y ≡ [] → Plain t xs
+pub plain_at : (t : Term) (y : Term-F Term Value Closure) (xs : List ℕ) → out-Term t ≡ y → IsWritten y → AllWritten (terms_in y) → AllWrittenValues (values_in y) → binders_out y ≡ xs → functions_out y ≡ [] → Plain t xs
 plain_at t y xs e w ts vs b f = record {
   is_written = written (subst IsWritten (sym e) w) (subst (λ z. AllWritten (terms_in z)) (sym e) ts) (subst (λ z. AllWrittenValues (values_in z)) (sym e) vs);
   binders = fold_out-Term (List ℕ) (Unit {0}) (List ℕ) all_binders_at (λ v. tt) (λ c. closure_binders c ++ c.body) t ∙ ap binders_out e ∙ b;
