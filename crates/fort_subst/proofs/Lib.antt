@@ -1,3 +1,0 @@
-pub mod Equations
-pub mod Kept
-pub mod Shallow
