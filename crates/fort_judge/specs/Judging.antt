@@ -116,3 +116,20 @@ judge_clause b = record { place = b.place; ty = b.ty; value = b.value }
 -- what a form answers
 unfoldable pub judged : Facts → Form → Judge
 judged k = fold-Form Judge Piece Arm Giving Clause (judge_form k) judge_item judge_branch judge_generator judge_clause
+
+-- what an item is, a clause, a generator
+unfoldable pub judged_item : Facts → Item → Piece
+judged_item k = fold-Item Judge Piece Arm Giving Clause (judge_form k) judge_item judge_branch judge_generator judge_clause
+
+unfoldable pub judged_branch : Facts → Branch → Arm
+judged_branch k = fold-Branch Judge Piece Arm Giving Clause (judge_form k) judge_item judge_branch judge_generator judge_clause
+
+unfoldable pub judged_generator : Facts → Generator → Giving
+judged_generator k = fold-Generator Judge Piece Arm Giving Clause (judge_form k) judge_item judge_branch judge_generator judge_clause
+
+unfoldable pub judged_clause : Facts → TypeBranch → Clause
+judged_clause k = fold-TypeBranch Judge Piece Arm Giving Clause (judge_form k) judge_item judge_branch judge_generator judge_clause
+
+-- the level of a form, with what its parts answer
+unfoldable pub level : Facts → Form → Form-F Judge Piece Arm Giving Clause
+level k f = map-Form Form Item Branch Generator TypeBranch Judge Piece Arm Giving Clause (judged k) (judged_item k) (judged_branch k) (judged_generator k) (judged_clause k) (out-Form f)

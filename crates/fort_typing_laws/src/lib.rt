@@ -1,0 +1,6 @@
+//! Laws of typing: what the rules say is what the judge answers.
+#![tactic(auto)]
+
+mod laws;
+
+pub use laws::juxtaposition_is_computed;
