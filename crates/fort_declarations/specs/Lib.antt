@@ -1,4 +1,3 @@
 pub mod Names
 pub mod Methods
 pub mod Declarations
-pub mod Whole

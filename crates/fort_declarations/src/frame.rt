@@ -3,9 +3,7 @@
 ghost use Rattle.std.specs.Prelude.{◌≡◌, IfOk};
 ghost use Rattle.fort_reading.specs.Parser.{Reads};
 ghost use Rattle.fort_declarations.specs.Declarations as spec;
-ghost use Rattle.fort_declarations.specs.Whole.{ReadsWhole};
 
-use crate::parsed::Parsed;
 use crate::syntax::Syntax;
 use fort_base::{Bytes, List, Memory};
 use fort_reading::{Cursor, Fault};
@@ -77,8 +75,8 @@ pub fn whole(
     texts: &[Bytes],
     depth: usize,
     floor: usize,
-) -> Result<Parsed, Fault>
-    ensures { ReadsWhole ((spec.whole names.now depth texts.now).run tokens.old) result tokens.new }
+) -> Result<Component, Fault>
+    ensures { Reads ((spec.whole names.now depth texts.now).run tokens.old) result tokens.new }
 {
     let syntax = Syntax {
         alloc,
@@ -87,9 +85,8 @@ pub fn whole(
         floor,
     };
     let component = syntax.component(tokens, texts)?;
-    let parsed = Parsed { component };
     match tokens.next() {
-        None => Ok(parsed),
+        None => Ok(component),
         Some(_) => Err(Fault::Syntax),
     }
 }

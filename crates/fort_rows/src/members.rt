@@ -14,8 +14,8 @@ fn members_of(rt: &impl Abort, alloc: Global, source: &str) -> Result<Members, C
     assert!(rt; source.len() <= 1_048_576);
     let all = tokens(alloc, source.as_bytes())?;
     let tree = component(alloc, &all)?;
-    let types = hierarchy(alloc, &tree.component)?;
-    members(alloc, &tree.component, &types)
+    let types = hierarchy(alloc, &tree)?;
+    members(alloc, &tree, &types)
 }
 
 /// How a source is answered: the number of its rule and its place, or three zeros where it is accepted.
