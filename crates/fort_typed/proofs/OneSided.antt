@@ -51,7 +51,7 @@ never : IsTrue false ↔ ⊥
 never = (λ t. let f : false ≡ true = t in cc, λ w. absurd w)
 
 -- lists go place by place
-lists : (f : Ty → Relation) (up : Bool) (R : Ty → Ty → Type 0) (xs ys : List Ty)
+pub lists : (f : Ty → Relation) (up : Bool) (R : Ty → Ty → Type 0) (xs ys : List Ty)
     → ((k : ℕ) (x y : Ty) → slice_get xs k ≡ Some x → slice_get ys k ≡ Some y → IsTrue (f x up y) ↔ R x y) → IsTrue (each_below (map f xs) up ys) ↔ Along R xs ys
 lists f up R [] [] w = (λ t. (refl, λ k x y e. absurd cc), λ u. refl)
 lists f up R [] (y ∷ ys) w = (λ t. absurd (let f : false ≡ true = t in cc), λ u. absurd (let n = u.0 in omega arith))
