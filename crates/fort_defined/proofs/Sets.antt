@@ -1,5 +1,5 @@
 -- The one most specific member of an overload set is that of the program's set.
-use Rattle.std.proofs.Common.{◌≡◌, ◌≢◌, ℕ, zero, suc, ◌<◌, ◌==◌, Bool, true, false, not, IsTrue, List, [], ◌∷◌, map, length, Some, ◌↔◌, refl, ap, sym, ◌∙◌, subst, arith}
+use Rattle.std.proofs.Common.{◌≡◌, ℕ, zero, suc, ◌<◌, ◌==◌, true, IsTrue, List, [], ◌∷◌, length, Some, ◌↔◌, refl, ap, sym, ◌∙◌, subst, arith}
 use Rattle.std.specs.Prelude.{slice_get, slice_index_or, Contains}
 use Rattle.std.proofs.lemmas.Option.{slice_get_within}
 use Rattle.fort_base.specs.declared.ids.DeclId.{DeclId}
@@ -23,11 +23,11 @@ use Rattle.fort_set.specs.Best as best
 use Rattle.fort_set.proofs.Chosen.{exactly_one, never_abstract}
 use Rattle.fort_machine.specs.Types.{all_below}
 use Rattle.fort_machine.specs.Calls.{IsApplicable, IsMoreSpecific, IsMostSpecific}
-use Rattle.fort_typed.specs.Overloads.{AreOfValues, OneApplies, KeepsRules}
+use Rattle.fort_typed.specs.Overloads.{AreOfValues, OneApplies}
 use Rattle.fort_typed.proofs.Bind.{Tells, alike, apart, tells, self_same}
 use Rattle.fort_typed.proofs.Computed.{turns}
 use Rattle.fort_typed.proofs.OneSided.{lists, relation_from_one}
-use Rattle.fort_defined.specs.Sets.{IsMade, ComesFrom, SetsKeep, ValuesAreLeaves, SetsKeepRules}
+use Rattle.fort_defined.specs.Sets.{ComesFrom, ValuesAreLeaves, SetsKeepRules}
 
 -- places of a list
 found : {A : Type 0} (xs : List A) (k : ℕ) (d : A) → k < length xs → slice_index_or xs k d ≡ d → slice_get xs k ≡ Some d

@@ -1,5 +1,5 @@
 -- Chapter "Dispatch": the sets of a program and the overload sets from which they come. The translation makes the first of the second, one by one.
-use Rattle.std.specs.Prelude.{◌≡◌, ℕ, length, slice_get, Some}
+use Rattle.std.specs.Prelude.{◌≡◌, ℕ, slice_get, Some}
 use Rattle.fort_base.specs.declared.ids.DeclId.{DeclId}
 use Rattle.fort_base.specs.declared.ids.SetId.{SetId}
 use Rattle.fort_base.specs.declared.ids.TypeId.{TypeId}

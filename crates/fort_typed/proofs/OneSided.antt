@@ -7,7 +7,7 @@ use Rattle.fort_base.specs.declared.ty.Ty.TheOpen.{Ty-F}
 use Rattle.fort_types.specs.Hierarchy.{DeclaredTypes, Sound, Path}
 use Rattle.fort_types.specs.Types.{Below, declared, parts, function, elements, shape_of, IsNumbered, no_name, name, in_parts, in_sides, in_element}
 use Rattle.fort_types.specs.Layers.{Along, BelowLayer}
-use Rattle.fort_types.specs.Table.{is_set, HasRows}
+use Rattle.fort_types.specs.Table.{HasRows}
 use Rattle.fort_types.specs.Relation.{Relation, each_below, below_at, relation}
 use Rattle.fort_types.proofs.ByParts.{Each, Parts, by_parts}
 use Rattle.fort_types.proofs.ByLayers.{layers_of_below, below_of_layers}
