@@ -7,7 +7,7 @@ use Rattle.fort_base.specs.declared.ty.Ty.TheOpen.{Ty-F}
 use Rattle.fort_types.specs.Hierarchy.{DeclaredTypes, Sound, Path}
 use Rattle.fort_types.specs.Types.{Below, declared, parts, function, elements, shape_of, IsNumbered, no_name, name, in_parts, in_sides, in_element}
 use Rattle.fort_types.specs.Layers.{Along, BelowLayer}
-use Rattle.fort_types.specs.Table.{is_set, HasRows}
+use Rattle.fort_types.specs.Table.{HasRows}
 use Rattle.fort_types.specs.Relation.{Relation, each_below, below_at, relation}
 use Rattle.fort_types.proofs.ByParts.{Each, Parts, by_parts}
 use Rattle.fort_types.proofs.ByLayers.{layers_of_below, below_of_layers}
@@ -51,7 +51,7 @@ never : IsTrue false ↔ ⊥
 never = (λ t. let f : false ≡ true = t in cc, λ w. absurd w)
 
 -- lists go place by place
-lists : (f : Ty → Relation) (up : Bool) (R : Ty → Ty → Type 0) (xs ys : List Ty)
+pub lists : (f : Ty → Relation) (up : Bool) (R : Ty → Ty → Type 0) (xs ys : List Ty)
     → ((k : ℕ) (x y : Ty) → slice_get xs k ≡ Some x → slice_get ys k ≡ Some y → IsTrue (f x up y) ↔ R x y) → IsTrue (each_below (map f xs) up ys) ↔ Along R xs ys
 lists f up R [] [] w = (λ t. (refl, λ k x y e. absurd cc), λ u. refl)
 lists f up R [] (y ∷ ys) w = (λ t. absurd (let f : false ≡ true = t in cc), λ u. absurd (let n = u.0 in omega arith))

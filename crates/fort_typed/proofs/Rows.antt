@@ -1,5 +1,5 @@
 -- The rows of an accepted hierarchy.
-use Rattle.std.proofs.Common.{◌≡◌, ℕ, ◌<◌, Bool, true, false, List, Option, Some, None, refl, ap, sym, ◌∙◌, subst, IsTrue}
+use Rattle.std.proofs.Common.{◌≡◌, ℕ, ◌<◌, Bool, true, false, List, Option, Some, None, refl, ap, ◌∙◌, subst, IsTrue}
 use Rattle.std.specs.Prelude.{length, slice_get, unwrap_or, option_and_then}
 use Rattle.std.proofs.lemmas.Option.{slice_get_within}
 use Rattle.fort_types.specs.Hierarchy.{Path}
