@@ -1,4 +1,3 @@
 pub mod Opened
-pub mod Rests
 pub mod Nodes
 pub mod Stack

@@ -13,15 +13,13 @@ mod primitive;
 mod program;
 mod release;
 mod same;
-mod same_blocks;
-mod same_forms;
 mod same_parts;
 mod term;
 mod value;
 
 pub use form::{Mode, Order, Slot, Span};
 pub use journal::{Ending, Journal};
-pub use node::{ClosureNode, Node, PickNode, ValueNode};
+pub use node::PickNode;
 pub use path::Path;
 pub use pick::Pick;
 pub use primitive::Primitive;

@@ -2,7 +2,7 @@
 use crate::primitive::Primitive;
 use crate::term::Term;
 use crate::value::Value;
-use fort_base::{Bytes, DeclId, List, Loc, NameId, Ty, TypeId, TypeTable};
+use fort_base::{Bytes, DeclId, List, Loc, NameId, Shared, Ty, TypeId, TypeTable};
 
 /// What makes values of a declared type.
 #[derive(Clone, Copy, Debug, PartialEq, Eq)]
@@ -46,7 +46,7 @@ pub struct CoreSet {
 #[derive(Drop)]
 pub enum CoreBody {
     /// Goes on as this term, in which the i-th parameter, counted from 0, is the variable i.
-    Plain(Term),
+    Plain(Shared<Term>),
     /// Gives the answer of a built-in declaration.
     Primitive(Primitive),
     /// Nothing: an abstract method.
@@ -114,7 +114,7 @@ pub struct Program {
     /// The declarations, by number.
     pub decls: List<CoreDecl>,
     /// The call of `run`.
-    pub first: Term,
+    pub first: Shared<Term>,
     /// The top-level variables and the locations of the single objects, with their opening values.
     pub opening: List<(Loc, Value)>,
     /// The type of each of these locations, in the same order.

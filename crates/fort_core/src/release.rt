@@ -1,22 +1,26 @@
 //! How the parts of terms and values are let go.
 use crate::term::Term;
 use crate::value::Value;
-use fort_base::{Boxed, List, Loc, Ty};
+use fort_base::{List, Loc, Shared, Ty};
 
 #[cycle(core)]
-pub fn drop_boxed(term: Boxed<Term>) {
-    let _term = term.into_inner();
+pub fn drop_part(term: Shared<Term>) {
+    let _term = term.last();
 }
 
 #[cycle(core)]
-pub fn drop_terms(mut terms: List<Term>) {
-    while let Some(_term) = terms.pop() {}
+pub fn drop_terms(mut terms: List<Shared<Term>>) {
+    while let Some(term) = terms.pop() {
+        let _term = term.last();
+    }
     terms.destroy_empty();
 }
 
 #[cycle(core)]
-pub fn drop_clauses(mut clauses: List<(Term, Ty)>) {
-    while let Some((_clause, _ty)) = clauses.pop() {}
+pub fn drop_clauses(mut clauses: List<(Shared<Term>, Shared<Ty>)>) {
+    while let Some((clause, _ty)) = clauses.pop() {
+        let _clause = clause.last();
+    }
     clauses.destroy_empty();
 }
 

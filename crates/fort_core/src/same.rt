@@ -1,7 +1,10 @@
-//! Whether two values are the same data, and two terms alike: along the rests of blocks by a loop.
+//! Whether two terms are alike: along the rests of blocks by a loop.
 ghost use Rattle.std.specs.Prelude.{◌≡◌, ◌↔◌, IsTrue};
 
-use crate::same_parts::{same_boxed, same_parameters};
+use crate::same_parts::{
+    same_clauses, same_finally, same_marks, same_name, same_parameters, same_part, same_set,
+    same_terms,
+};
 use crate::term::Term;
 
 impl Term {
@@ -15,21 +18,21 @@ impl Term {
         'along: loop {
             match (left, right) {
                 (Term::Then(a, b), Term::Then(c, d)) => {
-                    if !same_boxed(a, c) {
+                    if !same_part(a, c) {
                         return false;
                     }
                     left = b.get();
                     right = d.get();
                 }
                 (Term::Let(x, a, b), Term::Let(y, c, d)) => {
-                    if !(same_parameters(x, y) && same_boxed(a, c)) {
+                    if !(same_parameters(x.get(), y.get()) && same_part(a, c)) {
                         return false;
                     }
                     left = b.get();
                     right = d.get();
                 }
                 (Term::Mutable(x, s, a, b), Term::Mutable(y, t, c, d)) => {
-                    if !(*x == *y && s.same(t) && same_boxed(a, c)) {
+                    if !(*x == *y && s.get().same(t.get()) && same_part(a, c)) {
                         return false;
                     }
                     left = b.get();
@@ -46,48 +49,69 @@ impl Term {
     fn same_last(&self, other: &Term) -> bool
         ensures { IsTrue result ↔ (self.now ≡ other.now) }
     {
-        match other {
-            Term::Value(value) => self.is_value(value),
-            Term::Throw(thrown) => self.is_throw(thrown),
-            Term::Variable(variable) => self.is_variable(*variable),
-            Term::Group(parts) => self.is_group(parts),
-            Term::Fn(closure) => self.is_fn(closure),
-            Term::Call(set, arguments) => self.is_call(*set, arguments),
-            Term::Operator(set, operands) => self.is_operator(*set, operands),
-            Term::Apply(function, argument) => self.is_apply(function, argument),
-            Term::Fill(ty, size, value) => self.is_fill(ty, size, value),
-            Term::Let(variables, first, rest) => self.is_let(variables, first, rest),
-            Term::Mutable(variable, ty, first, rest) => {
-                self.is_mutable(*variable, ty, first, rest)
+        match (self, other) {
+            (Term::Value(v), Term::Value(w)) => v.same(w),
+            (Term::Throw(a), Term::Throw(d)) => same_part(a, d),
+            (Term::Variable(x), Term::Variable(y)) => *x == *y,
+            (Term::Group(a), Term::Group(d)) => same_terms(a, d),
+            (Term::Fn(f), Term::Fn(g)) => f.get().same(g.get()),
+            (Term::Call(s, a), Term::Call(t, d)) => same_set(*s, *t) && same_terms(a, d),
+            (Term::Operator(s, a), Term::Operator(t, d)) => same_set(*s, *t) && same_terms(a, d),
+            (Term::Apply(a, b), Term::Apply(d, e)) => same_part(a, d) && same_part(b, e),
+            (Term::Fill(s, a, b), Term::Fill(t, d, e)) => {
+                s.get().same(t.get()) && same_part(a, d) && same_part(b, e)
             }
-            Term::Read(slot) => self.is_read(*slot),
-            Term::Write(slot, value) => self.is_write(*slot, value),
-            Term::ReadField(object, field) => self.is_read_field(object, *field),
-            Term::WriteField(object, field, value) => self.is_write_field(object, *field, value),
-            Term::ReadElement(array, index) => self.is_read_element(array, index),
-            Term::WriteElement(array, index, value) => self.is_write_element(array, index, value),
-            Term::Size(array) => self.is_size(array),
-            Term::Then(first, rest) => self.is_then(first, rest),
-            Term::If(test, yes, no) => self.is_if(test, yes, no),
-            Term::While(test, body) => self.is_while(test, body),
-            Term::Typecase(variable, subject, clauses, other) => {
-                self.is_typecase(*variable, subject, clauses, other)
+            (Term::Let(x, a, b), Term::Let(y, d, e)) => {
+                same_parameters(x.get(), y.get()) && same_part(a, d) && same_part(b, e)
             }
-            Term::For(order, span, variable, source, body) => {
-                self.is_for(*order, *span, *variable, source, body)
+            (Term::Mutable(x, s, a, b), Term::Mutable(y, t, d, e)) => {
+                *x == *y && s.get().same(t.get()) && same_part(a, d) && same_part(b, e)
             }
-            Term::ForHalves(first, second) => self.is_for_halves(first, second),
-            Term::Reduce(order, span, set, empty, variable, source, body) => {
-                self.is_reduce(*order, *span, *set, empty, *variable, source, body)
+            (Term::Read(s), Term::Read(t)) => *s == *t,
+            (Term::Write(s, a), Term::Write(t, d)) => *s == *t && same_part(a, d),
+            (Term::ReadField(a, m), Term::ReadField(d, n)) => same_name(*m, *n) && same_part(a, d),
+            (Term::WriteField(a, m, b), Term::WriteField(d, n, e)) => {
+                same_name(*m, *n) && same_part(a, d) && same_part(b, e)
             }
-            Term::ReduceHalves(set, first, second) => self.is_reduce_halves(*set, first, second),
-            Term::Also(blocks) => self.is_also(blocks),
-            Term::Try(body, variable, clauses, last) => {
-                self.is_try(body, *variable, clauses, last)
+            (Term::ReadElement(a, b), Term::ReadElement(d, e)) => {
+                same_part(a, d) && same_part(b, e)
             }
-            Term::Atomic(mode, body) => self.is_atomic(*mode, body),
-            Term::Asleep(marks, body) => self.is_asleep(marks, body),
-            Term::Stepped(part) => self.is_stepped(part),
+            (Term::WriteElement(a, b, c), Term::WriteElement(d, e, f)) => {
+                same_part(a, d) && same_part(b, e) && same_part(c, f)
+            }
+            (Term::Size(a), Term::Size(d)) => same_part(a, d),
+            (Term::Then(a, b), Term::Then(d, e)) => same_part(a, d) && same_part(b, e),
+            (Term::If(a, b, c), Term::If(d, e, f)) => {
+                same_part(a, d) && same_part(b, e) && same_part(c, f)
+            }
+            (Term::While(a, b), Term::While(d, e)) => same_part(a, d) && same_part(b, e),
+            (Term::Typecase(x, a, m, b), Term::Typecase(y, d, n, e)) => {
+                *x == *y && same_part(a, d) && same_clauses(m, n) && same_part(b, e)
+            }
+            (Term::For(o, s, x, a, b), Term::For(p, t, y, d, e)) => {
+                *o == *p && *s == *t && *x == *y && same_part(a, d) && same_part(b, e)
+            }
+            (Term::ForHalves(a, b), Term::ForHalves(d, e)) => same_part(a, d) && same_part(b, e),
+            (Term::Reduce(o, s, m, a, x, b, c), Term::Reduce(p, t, n, d, y, e, f)) => {
+                *o == *p
+                    && *s == *t
+                    && same_set(*m, *n)
+                    && *x == *y
+                    && same_part(a, d)
+                    && same_part(b, e)
+                    && same_part(c, f)
+            }
+            (Term::ReduceHalves(s, a, b), Term::ReduceHalves(t, d, e)) => {
+                same_set(*s, *t) && same_part(a, d) && same_part(b, e)
+            }
+            (Term::Also(a), Term::Also(d)) => same_terms(a, d),
+            (Term::Try(a, x, m, b), Term::Try(d, y, n, e)) => {
+                *x == *y && same_part(a, d) && same_clauses(m, n) && same_finally(b, e)
+            }
+            (Term::Atomic(m, a), Term::Atomic(n, d)) => *m == *n && same_part(a, d),
+            (Term::Asleep(m, a), Term::Asleep(n, d)) => same_marks(m, n) && same_part(a, d),
+            (Term::Stepped(a), Term::Stepped(d)) => same_part(a, d),
+            _ => false,
         }
     }
 }

@@ -3,7 +3,7 @@ ghost use Rattle.std.specs.Prelude.{◌≡◌, ◌↔◌, IsTrue};
 
 use crate::term::Term;
 use crate::value::{Closure, Value};
-use fort_base::{Boxed, List, Loc, NameId, SetId, Ty};
+use fort_base::{List, Loc, NameId, SetId, Shared, Ty};
 
 pub fn same_parameters(left: &List<(u32, Ty)>, right: &List<(u32, Ty)>) -> bool
     ensures { IsTrue result ↔ (left.now ≡ right.now) }
@@ -34,14 +34,14 @@ pub fn same_name(left: NameId, right: NameId) -> bool
 }
 
 #[cycle(same)]
-pub fn same_boxed(a: &Boxed<Term>, b: &Boxed<Term>) -> bool
+pub fn same_part(a: &Shared<Term>, b: &Shared<Term>) -> bool
     ensures { IsTrue result ↔ (a.now ≡ b.now) }
 {
     a.get().same(b.get())
 }
 
 #[cycle(same)]
-pub fn same_finally(left: &Option<Boxed<Term>>, right: &Option<Boxed<Term>>) -> bool
+pub fn same_finally(left: &Option<Shared<Term>>, right: &Option<Shared<Term>>) -> bool
     ensures { IsTrue result ↔ (left.now ≡ right.now) }
 {
     match (left, right) {
@@ -52,7 +52,7 @@ pub fn same_finally(left: &Option<Boxed<Term>>, right: &Option<Boxed<Term>>) -> 
 }
 
 #[cycle(same)]
-pub fn same_terms(left: &List<Term>, right: &List<Term>) -> bool
+pub fn same_terms(left: &List<Shared<Term>>, right: &List<Shared<Term>>) -> bool
     ensures { IsTrue result ↔ (left.now ≡ right.now) }
 {
     let a = left.as_slice();
@@ -61,7 +61,7 @@ pub fn same_terms(left: &List<Term>, right: &List<Term>) -> bool
         return false;
     }
     for i in 0..a.len() {
-        if !(a[i].same(&b[i])) {
+        if !(a[i].get().same(b[i].get())) {
             return false;
         }
     }
@@ -69,7 +69,10 @@ pub fn same_terms(left: &List<Term>, right: &List<Term>) -> bool
 }
 
 #[cycle(same)]
-pub fn same_clauses(left: &List<(Term, Ty)>, right: &List<(Term, Ty)>) -> bool
+pub fn same_clauses(
+    left: &List<(Shared<Term>, Shared<Ty>)>,
+    right: &List<(Shared<Term>, Shared<Ty>)>,
+) -> bool
     ensures { IsTrue result ↔ (left.now ≡ right.now) }
 {
     let a = left.as_slice();
@@ -78,7 +81,7 @@ pub fn same_clauses(left: &List<(Term, Ty)>, right: &List<(Term, Ty)>) -> bool
         return false;
     }
     for i in 0..a.len() {
-        if !(a[i].0.same(&b[i].0) && a[i].1.same(&b[i].1)) {
+        if !(a[i].0.get().same(b[i].0.get()) && a[i].1.get().same(b[i].1.get())) {
             return false;
         }
     }
@@ -115,12 +118,14 @@ impl Value {
             (Value::Small(a), Value::Small(b)) => *a == *b,
             (Value::Large(a), Value::Large(b)) => *a == *b,
             (Value::Truth(a), Value::Truth(b)) => *a == *b,
-            (Value::Text(a), Value::Text(b)) => a.as_slice() == b.as_slice(),
-            (Value::Tuple(a), Value::Tuple(b)) => same_values(a, b),
+            (Value::Text(a), Value::Text(b)) => a.get().as_slice() == b.get().as_slice(),
+            (Value::Tuple(a), Value::Tuple(b)) => same_values(a.get(), b.get()),
             (Value::Range(a, m), Value::Range(b, n)) => *a == *b && *m == *n,
             (Value::Object(s, a), Value::Object(t, b)) => *s == *t && *a == *b,
-            (Value::Array(s, a, m), Value::Array(t, b, n)) => s.same(t) && *a == *b && *m == *n,
-            (Value::Function(a), Value::Function(b)) => a.same(b),
+            (Value::Array(s, a, m), Value::Array(t, b, n)) => s.get().same(t.get())
+                && *a == *b
+                && *m == *n,
+            (Value::Function(a), Value::Function(b)) => a.get().same(b.get()),
             _ => false,
         }
     }
@@ -150,9 +155,9 @@ impl Closure {
         ensures { IsTrue result ↔ (self.now ≡ other.now) }
     {
         self.number == other.number
-            && same_parameters(&self.parameters, &other.parameters)
-            && self.result.same(&other.result)
-            && same_boxed(&self.body, &other.body)
+            && same_parameters(self.parameters.get(), other.parameters.get())
+            && self.result.get().same(other.result.get())
+            && same_part(&self.body, &other.body)
             && same_held(&self.held, &other.held)
     }
 }
