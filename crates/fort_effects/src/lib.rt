@@ -1,0 +1,11 @@
+//! What a run and the attempts in it have done to the store: cells of locations, in layers over the store. The chapter
+//! "Store and effects" of docs/MACHINE.md.
+#![tactic(auto)]
+
+mod cell;
+mod layer;
+mod layers;
+
+pub use cell::{Cell, Closing, Left};
+pub use layer::Layer;
+pub use layers::Layers;
