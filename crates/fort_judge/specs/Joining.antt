@@ -127,15 +127,15 @@ pub data Further : Type 0 where
   stop : Option Fault → Further
 
 -- what comes of two elements takes their place; where it is `Nothing` and isn't the whole it breaks 603
-abbrev pub replaced : Around → Made → Option Fault → Further
-replaced a (a_made.Gives t) found = cond (is_nothing (type_of t) && not (is_whole a.before a.after))
-    (on (a.before ++ made a.one.place a_meaning.Unknown ∷ a.after) (breaks MISMATCH a.one.place found))
-    (on (a.before ++ made a.one.place (a_meaning.Value t) ∷ a.after) found)
-replaced a (a_made.Breaks x) found = on (a.before ++ made a.one.place a_meaning.Unknown ∷ a.after) (breaks x.rule x.place found)
-replaced a a_made.Stops found = stop found
+abbrev pub replaced : List Part → Place → List Part → Made → Option Fault → Further
+replaced before place after (a_made.Gives t) found = cond (is_whole before after || not (is_nothing (type_of t)))
+    (on (before ++ made place (a_meaning.Value t) ∷ after) found)
+    (on (before ++ made place a_meaning.Unknown ∷ after) (breaks MISMATCH place found))
+replaced before place after (a_made.Breaks x) found = on (before ++ made place a_meaning.Unknown ∷ after) (breaks x.rule x.place found)
+replaced before place after a_made.Stops found = stop found
 
 abbrev pub replaced_in : (Part → Part → Made) → Option Around → Option Fault → Further
-replaced_in way (Some a) found = replaced a (way a.one a.other) found
+replaced_in way (Some a) found = replaced a.before a.one.place a.after (way a.one a.other) found
 replaced_in way None found = stop found
 
 -- the next rewriting is done
@@ -151,15 +151,20 @@ rewritten_by k ps (Err a_fault.Memory) found = stop found
 unfoldable pub rewritten : Facts → List Part → Option Fault → Further
 rewritten k ps found = rewritten_by k ps (next_rewriting (elements ps)) found
 
+-- what a run is after a rewriting
+abbrev pub further : (Option Fault → List Part → Outcome) → Further → Outcome
+further next (on qs new) = next new qs
+further next (stop new) = untyped new
+
 -- a run of one element is that; else it goes on, with as many rewritings left
-abbrev pub run_at : Option Fault → List Part → (Option Fault → List Part → Outcome) → Facts → Outcome
-run_at found [] next k = untyped found
-run_at found (p ∷ []) next k = record { seen = p.meaning; found = found }
-run_at found (p ∷ q ∷ ps) next k = elim (rewritten k (p ∷ q ∷ ps) found) [ on qs new ↦ next new qs | stop new ↦ untyped new ]
+abbrev pub run_at : (Option Fault → List Part → Outcome) → Facts → Option Fault → List Part → Outcome
+run_at next k found [] = untyped found
+run_at next k found (p ∷ []) = record { seen = p.meaning; found = found }
+run_at next k found (p ∷ q ∷ ps) = further next (rewritten k (p ∷ q ∷ ps) found)
 
 abbrev pub run_within : Facts → ℕ → Option Fault → List Part → Outcome
 run_within k zero found ps = untyped found
-run_within k (suc n) found ps = run_at found ps (run_within k n) k
+run_within k (suc n) found ps = run_at (run_within k n) k found ps
 
 -- what a run of elements is
 unfoldable pub run : Facts → List Part → Option Fault → Outcome

@@ -1,1 +1,2 @@
 pub mod Juxtaposing
+pub mod Running

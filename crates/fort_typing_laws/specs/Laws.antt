@@ -1,12 +1,21 @@
 -- The chapter "Juxtaposition": what the judge computes of elements is what the chapter's rules say.
-use Rattle.std.specs.Prelude.{◌≡◌, List, Result}
+use Rattle.std.specs.Prelude.{◌≡◌, List, Option, Result}
 use Rattle.fort_base.specs.declared.refusal.CheckFault.{CheckFault}
 use Rattle.fort_juxt.specs.declared.elements.Element.{Element}
 use Rattle.fort_juxt.specs.declared.elements.Grouping.{Grouping}
 use Rattle.fort_juxt.specs.declared.elements.Tight.{Tight}
 use Rattle.fort_juxt.specs.Tight.{Rewrites}
 use Rattle.fort_juxt.specs.Loose.{Groups}
+use Rattle.fort_typed_form.specs.declared.typed_form.TypedForm.{TypedForm}
+use Rattle.fort_known.specs.declared.fault.Fault.{Fault}
+use Rattle.fort_known.specs.Known.{Knows}
+use Rattle.fort_typing_rules.specs.declared.part.Part.{Part}
+use Rattle.fort_typing_rules.specs.Calls.{Calls}
+use Rattle.fort_typing_rules.specs.Elements.{Becomes}
+use Rattle.fort_judge.specs.Tests.{value}
+use Rattle.fort_judge.specs.Joining.{run}
 use Rattle.fort_judge.specs.Juxtaposing.{next_rewriting, grouping_of}
+use Rattle.fort_typing_laws.specs.Deciding.{Decides}
 
 -- The next rewriting of a run, or its refusal, is the one that is computed.
 abbrev pub RewritingIsComputed : Type 0
@@ -15,3 +24,11 @@ RewritingIsComputed = (es : List Element) (r : Result Tight CheckFault) → Rewr
 -- The grouping of elements, or its refusal, is the one that is computed.
 abbrev pub GroupingIsComputed : Type 0
 GroupingIsComputed = (es : List Element) (r : Result Grouping CheckFault) → Groups es r → grouping_of es ≡ r
+
+-- Where what is computed of types and calls is what the rules say of them: a run that becomes a typed form is answered with it.
+abbrev pub RunIsComputed : Type 0
+RunIsComputed = (k : Knows) → Decides k → (ps : List Part) (t : TypedForm) → Becomes k (Calls k) ps t → (found : Option Fault) → run k.facts ps found ≡ value t found
+
+-- So a run becomes one typed form at most.
+abbrev pub OneRun : Type 0
+OneRun = (k : Knows) → Decides k → (ps : List Part) (t u : TypedForm) → Becomes k (Calls k) ps t → Becomes k (Calls k) ps u → t ≡ u

@@ -1,8 +1,15 @@
 //! Laws of typing.
-ghost use Rattle.fort_typing_laws.specs.Laws.{GroupingIsComputed, RewritingIsComputed};
+ghost use Rattle.fort_typing_laws.specs.Laws.{GroupingIsComputed, OneRun, RewritingIsComputed, RunIsComputed};
 
 /// A law: the next rewriting of a run, the grouping of elements, and the refusals of both are those that the judge computes.
 pub fn juxtaposition_is_computed()
     ensures rewriting { RewritingIsComputed }
     ensures grouping { GroupingIsComputed }
+{}
+
+/// A law, where what is computed of types and calls is what the rules say of them: a run that becomes a typed form is answered with it, and so it
+/// becomes one at most.
+pub fn run_is_computed()
+    ensures answered { RunIsComputed }
+    ensures one { OneRun }
 {}

@@ -43,7 +43,7 @@ module _ (k : Knows) (C D : Calling) (lift : (set : SetId) (types : List Ty) (re
   follows (field v0 v1 v2 v3 h4 h5 h6 h7) = field v0 v1 v2 v3 h4 h5 h6 h7
   follows (no_field v0 v1 v2 h3 h4 h5 h6) = no_field v0 v1 v2 h3 h4 h5 h6
   follows (size v0 v1 v2 v3 h4 h5 h6 h7) = size v0 v1 v2 v3 h4 h5 h6 h7
-  follows (method v0 v1 v2 v3 v4 v5 h6 h7 h8 h9 h10) = method v0 v1 v2 v3 v4 v5 h6 h7 h8 (lift _ _ _ _ h9) h10
+  follows (method v0 v1 v2 v3 v4 v5 h6 h7 h8 h9 h10 h11) = method v0 v1 v2 v3 v4 v5 h6 h7 h8 h9 (lift _ _ _ _ h10) h11
   follows (no_method v0 v1 v2 v3 h4 h5 h6 h7 h8) = no_method v0 v1 v2 v3 h4 h5 h6 h7 h8
   follows (no_method_call v0 v1 v2 v3 v4 h5 h6 h7 h8 h9 h10) = no_method_call v0 v1 v2 v3 v4 h5 h6 h7 h8 h9 h10
 
@@ -54,7 +54,7 @@ module _ (k : Knows) (C D : Calling) (lift : (set : SetId) (types : List Ty) (re
 
   becomes : {i0 : List Part} {i1 : TypedForm} → Becomes k C i0 i1 → Becomes k D i0 i1
   becomes (whole v0 h1 h2) = whole v0 h1 h2
-  becomes (on v0 v1 v2 v3 h4 h5) = on v0 v1 v2 v3 (rewrites h4) (becomes h5)
+  becomes (on v0 v1 v2 v3 h4 h5 h6) = on v0 v1 v2 v3 (rewrites h4) h5 (becomes h6)
 
   groups : {ps : List Part} {i0 : Grouping} {i1 : Part} → Grouped k C ps i0 i1 → Grouped k D ps i0 i1
   groups (of_one v0 h1 h2) = of_one v0 h1 h2

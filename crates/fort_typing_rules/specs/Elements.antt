@@ -143,7 +143,7 @@ pub data Follows (k : Knows) (C : Calling) (a p : Part) (m : Made) : Type 0 wher
       → is_size k.facts u name ts ≡ true → m ≡ gives (a_typed.Size zz32 u) → Follows k C a p m
   -- `o.m(e, ..)` is a call with o first; no dotted method of the name: 601 at it
   method : (u : TypedForm) (at : Place) (name : NameId) (ts : List TypedForm) (result : Ty) (widened : List Bool) → a.meaning ≡ a_meaning.Value u
-      → p.meaning ≡ a_meaning.Method at name ts → is_size k.facts u name ts ≡ false
+      → p.meaning ≡ a_meaning.Method at name ts → is_size k.facts u name ts ≡ false → is_method k.facts name ≡ true
       → C (method_set k.facts name (suc (length ts))) (type_of u ∷ types_of ts) result widened
       → m ≡ gives (a_typed.Call result (chosen (method_set k.facts name (suc (length ts))) widened) (u ∷ ts)) → Follows k C a p m
   no_method : (u : TypedForm) (at : Place) (name : NameId) (ts : List TypedForm) → a.meaning ≡ a_meaning.Value u
@@ -177,10 +177,14 @@ meaning_of whole (breaks rule at) = a_meaning.Unknown
 abbrev pub rewritten : List Part → Place → Made → List Part → List Part
 rewritten before place m after = before ++ made place (meaning_of (is_whole before after) m) ∷ after
 
+-- what comes of two elements may be an element again: it is the whole, or isn't `Nothing`
+abbrev pub not_barred : List Part → TypedForm → List Part → Bool
+not_barred before u after = is_whole before after || not (is_nothing (type_of u))
+
 -- A run becomes one typed form.
 pub data Becomes (k : Knows) (C : Calling) : List Part → TypedForm → Type 0 where
   whole : {ps : List Part} {t : TypedForm} (p : Part) → ps ≡ p ∷ [] → p.meaning ≡ a_meaning.Value t → Becomes k C ps t
-  on : {ps : List Part} {t : TypedForm} (before after : List Part) (place : Place) (u : TypedForm) → Rewritten k C ps before place (gives u) after
+  on : {ps : List Part} {t : TypedForm} (before after : List Part) (place : Place) (u : TypedForm) → Rewritten k C ps before place (gives u) after → not_barred before u after ≡ true
       → Becomes k C (rewritten before place (gives u) after) t → Becomes k C ps t
 
 -- A run breaks a rule.
