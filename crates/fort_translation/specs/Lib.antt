@@ -1,0 +1,11 @@
+pub mod Making
+pub mod Parts
+pub mod Values
+pub mod Calls
+pub mod Items
+pub mod Choices
+pub mod Targets
+pub mod Translated
+pub mod Bodies
+pub mod Shapes
+pub mod Programs
