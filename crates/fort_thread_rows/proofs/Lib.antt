@@ -1,0 +1,4 @@
+pub mod Chain
+pub mod Joined
+pub mod Counted
+pub mod Settled

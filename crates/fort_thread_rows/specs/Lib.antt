@@ -1,0 +1,4 @@
+pub mod Lines
+pub mod Wrote
+pub mod Jobs
+pub mod Counts
