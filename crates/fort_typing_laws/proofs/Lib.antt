@@ -1,2 +1,3 @@
 pub mod Juxtaposing
 pub mod Running
+pub mod Beside

@@ -11,9 +11,9 @@ use Rattle.fort_known.specs.declared.fault.Fault.{Fault}
 use Rattle.fort_known.specs.Known.{Knows}
 use Rattle.fort_typing_rules.specs.declared.part.Part.{Part}
 use Rattle.fort_typing_rules.specs.Calls.{Calls}
-use Rattle.fort_typing_rules.specs.Elements.{Becomes}
+use Rattle.fort_typing_rules.specs.Elements.{Becomes, Stands}
 use Rattle.fort_judge.specs.Tests.{value}
-use Rattle.fort_judge.specs.Joining.{run}
+use Rattle.fort_judge.specs.Joining.{run, beside}
 use Rattle.fort_judge.specs.Juxtaposing.{next_rewriting, grouping_of}
 use Rattle.fort_typing_laws.specs.Deciding.{Decides}
 
@@ -32,3 +32,10 @@ RunIsComputed = (k : Knows) → Decides k → (ps : List Part) (t : TypedForm) �
 -- So a run becomes one typed form at most.
 abbrev pub OneRun : Type 0
 OneRun = (k : Knows) → Decides k → (ps : List Part) (t u : TypedForm) → Becomes k (Calls k) ps t → Becomes k (Calls k) ps u → t ≡ u
+
+-- Likewise a juxtaposition.
+abbrev pub BesideIsComputed : Type 0
+BesideIsComputed = (k : Knows) → Decides k → (ps : List Part) (t : TypedForm) → Stands k (Calls k) ps t → (found : Option Fault) → beside k.facts ps found ≡ value t found
+
+abbrev pub OneBeside : Type 0
+OneBeside = (k : Knows) → Decides k → (ps : List Part) (t u : TypedForm) → Stands k (Calls k) ps t → Stands k (Calls k) ps u → t ≡ u
