@@ -1,3 +1,4 @@
 pub mod Juxtaposing
+pub mod Wide
 pub mod Running
 pub mod Beside

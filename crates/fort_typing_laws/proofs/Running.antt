@@ -31,6 +31,7 @@ use Rattle.fort_judge.specs.Joining.{call, call_by, operation, operation_by, val
 use Rattle.fort_typing_laws.specs.Deciding.{Decides}
 use Rattle.fort_typing_laws.specs.Laws.{RunIsComputed, OneRun}
 use Rattle.fort_typing_laws.proofs.Juxtaposing.{rewriting_is_computed}
+use Rattle.fort_typing_laws.proofs.Wide.{unlike}
 
 -- what the rules make, as the judge says it
 abbrev pub to : rule.Made → Made
@@ -80,7 +81,7 @@ module _ (k : Knows) (D : Decides k) where
   applies-is f a m (rule.value g u domain result fm arrow am b me) = both f a _ _ fm am ∙ ap (value_applied k.facts a.place g u) arrow
       ∙ ap (λ c. cond c (a_made.Gives (a_typed.Apply result g u)) (a_made.Breaks (fault MISMATCH a.place))) (D.below (type_of u) domain b) ∙ sym (ap to me)
   applies-is f a m (rule.no_argument g u domain result fm arrow am b me) = both f a _ _ fm am ∙ ap (value_applied k.facts a.place g u) arrow
-      ∙ ap (λ c. cond c (a_made.Gives (a_typed.Apply result g u)) (a_made.Breaks (fault MISMATCH a.place))) (D.unlike (type_of u) domain b) ∙ sym (ap to me)
+      ∙ ap (λ c. cond c (a_made.Gives (a_typed.Apply result g u)) (a_made.Breaks (fault MISMATCH a.place))) (unlike k D (type_of u) domain b) ∙ sym (ap to me)
 
   both_joined : (a b : Part) (m n : Meaning) → a.meaning ≡ m → b.meaning ≡ n → joined k.facts a b ≡ joined_by k.facts a.place m n
   unfolding joined
