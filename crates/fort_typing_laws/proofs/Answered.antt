@@ -18,6 +18,7 @@ use Rattle.fort_form.specs.declared.form.Item.{Item, out-Item, map-Item, fold_ou
 use Rattle.fort_form.specs.declared.form.Branch.{Branch, out-Branch}
 use Rattle.fort_form.specs.declared.form.Generator.{Generator, out-Generator}
 use Rattle.fort_form.specs.declared.form.TypeBranch.{TypeBranch, out-TypeBranch}
+use Rattle.fort_typed_form.specs.declared.typed_form.Chosen.{Chosen}
 use Rattle.fort_typed_form.specs.declared.typed_form.TypedForm.{TypedForm, the_lemmas as typed_lemmas}
 use Rattle.fort_typed_form.specs.declared.typed_form.TypedForm.TheVariants as a_typed
 use Rattle.fort_known.specs.declared.fault.Fault.{Fault}
@@ -408,3 +409,81 @@ module _ (k : Knows) (D : Decides k) where
   ask-with-is name ty slot d v bs wf found h =
       ap (back_to bs) (ask-is rule.a_value a_want.Value slot d v (rule.with_clause bs name ty) wf found value_ h.0 h.1)
       ∙ ap (λ (cs : List Binding). st (kept slot v wf) cs found) (clause_goes bs name ty)
+
+  -- ---- sides of a chain
+
+  side-step : (op : Option Op) (d : Form) (u : TypedForm) (bs : List Binding) (wf : Frame) (found : Option Fault) (w : Frame) → Answered bs rule.an_operand d u
+      → after_side k.facts op (judged k.facts d).place (Some u) (st (kept a_slot.First u wf) bs found) ≡ st w bs found
+      → take_side k.facts op (judged k.facts d).place (said (judged k.facts d) (st wf bs found)) ≡ st (record w { side = Some (record { place = (judged k.facts d).place; ty = type_of u }) }) bs found
+  unfolding take_side said
+  side-step op d u bs wf found w h e =
+      let p = (judged k.facts d).place in
+      let fin : State → Option TypedForm → State = λ t n. record t { frame = record t.frame { side = side_of p n } } in
+      ap (λ (o : Outcome). let v = taken k.facts a_want.Operand p o.seen o.found in fin (after_side k.facts op p v.node (st (kept_if a_slot.First v.node wf) bs v.found)) v.node) (h.0 found)
+      ∙ ap (λ (v : Valued). fin (after_side k.facts op p v.node (st (kept_if a_slot.First v.node wf) bs v.found)) v.node) (taken-is rule.an_operand a_want.Operand p u found operand_ h.1)
+      ∙ ap (λ (t : State). fin t (Some u)) e
+
+  abbrev pub sides_of : List Op → List Judge → State → State
+  sides_of [] js s = sides k.facts None [] js s
+  sides_of (op ∷ ops) js s = sides k.facts (Some op) ops js s
+
+  first-side : (ops : List Op) (d : Form) (js : List Judge) (s : State) → sides k.facts None ops (judged k.facts d ∷ js) s ≡ sides_of ops js (take_side k.facts None (judged k.facts d).place (said (judged k.facts d) s))
+  unfolding sides
+  first-side [] d js s = refl
+  first-side (op ∷ ops) d js s = refl
+
+  next-side : (op : Op) (ops : List Op) (d : Form) (js : List Judge) (s : State) → sides k.facts (Some op) ops (judged k.facts d ∷ js) s ≡ sides_of ops js (take_side k.facts (Some op) (judged k.facts d).place (said (judged k.facts d) s))
+  unfolding sides
+  next-side op [] d js s = refl
+  next-side op (next ∷ ops) d js s = refl
+
+  no-side : (s : State) → sides_of [] [] s ≡ s
+  unfolding sides
+  no-side s = refl
+
+  -- what the sides of a chain leave
+  pub record Left (s : State) (wf : Frame) (bs : List Binding) (found : Option Fault) (ts : List TypedForm) (cs : List Chosen) : Type 0 where
+    pub frame : Frame
+    pub is : s ≡ st frame bs found
+    pub firsts : frame.first ≡ wf.first ++ ts
+    pub calls : frame.calls ≡ wf.calls ++ cs
+    pub whole : frame.broken ≡ wf.broken
+
+  sides-is : {ops : List Op} {all : List TypedForm} {cs : List Chosen} → rule.Compares k (Calls k) ops all cs → (ds : List Form) (a : TypedForm) (us : List TypedForm) (place : Place) (bs : List Binding) (wf : Frame) (found : Option Fault)
+      → all ≡ a ∷ us → wf.side ≡ Some (record { place = place; ty = type_of a }) → AllAnswered bs rule.an_operand ds us → Left (sides_of ops (map (judged k.facts) ds) (st wf bs found)) wf bs found us cs
+  sides-is {ops = ops} {cs = cs} (rule.no_more b e1 e2 e3) [] a [] place bs wf found is side h = record {
+    frame = wf;
+    is = ap (λ (os : List Op). sides_of os [] (st wf bs found)) e1 ∙ no-side (st wf bs found);
+    firsts = sym (nothing_behind wf.first);
+    calls = sym (nothing_behind wf.calls) ∙ ap (λ (c : List Chosen). wf.calls ++ c) (sym e3);
+    whole = refl;
+  }
+  sides-is (rule.no_more b e1 e2 e3) [] a (u ∷ us) place bs wf found is side h = absurd h
+  sides-is (rule.no_more b e1 e2 e3) (d ∷ ds) a [] place bs wf found is side h = absurd h
+  sides-is (rule.no_more b e1 e2 e3) (d ∷ ds) a (u ∷ us) place bs wf found is side h = absurd cc
+  sides-is (rule.more op others b c vs result widened rest e1 e2 call_ below_ next e3) [] a [] place bs wf found is side h = absurd cc
+  sides-is (rule.more op others b c vs result widened rest e1 e2 call_ below_ next e3) [] a (u ∷ us) place bs wf found is side h = absurd h
+  sides-is (rule.more op others b c vs result widened rest e1 e2 call_ below_ next e3) (d ∷ ds) a [] place bs wf found is side h = absurd h
+  sides-is {ops = ops} {cs = cs} (rule.more op others b c vs result widened rest e1 e2 call_ below_ next e3) (d ∷ ds) a (u ∷ us) place bs wf found is side h =
+      let same_a : a ≡ b = cc in
+      let same_u : u ≡ c = cc in
+      let same_us : us ≡ vs = cc in
+      let call : Calls k (operator_set k.facts op 2) (type_of a ∷ type_of u ∷ []) result widened = subst (λ (x : TypedForm). Calls k (operator_set k.facts op 2) (type_of x ∷ type_of u ∷ []) result widened) (sym same_a)
+      (subst (λ (x : TypedForm). Calls k (operator_set k.facts op 2) (type_of b ∷ type_of x ∷ []) result widened) (sym same_u) call_) in
+      let p = (judged k.facts d).place in
+      let w : Frame = record wf { first = wf.first ++ u ∷ []; calls = wf.calls ++ chosen (operator_set k.facts op 2) widened ∷ [] } in
+      let w' : Frame = record w { side = Some (record { place = p; ty = type_of u }) } in
+      let after : after_side k.facts (Some op) p (Some u) (st (kept a_slot.First u wf) bs found) ≡ st w bs found =
+      ap (λ (o : Option Side). compared k.facts op (side_place p o) (side_type o) (Some u) (st (kept a_slot.First u wf) bs found)) side
+      ∙ compared-is op place a u result widened bs (kept a_slot.First u wf) found call below_ in
+      let left = sides-is next ds u us p bs w' found (ap (λ (x : TypedForm). x ∷ vs) (sym same_u) ∙ ap (λ (xs : List TypedForm). u ∷ xs) (sym same_us)) refl h.1 in
+      record {
+        frame = left.frame;
+        is = ap (λ (os : List Op). sides_of os (judged k.facts d ∷ map (judged k.facts) ds) (st wf bs found)) e1
+            ∙ next-side op others d (map (judged k.facts) ds) (st wf bs found)
+            ∙ ap (sides_of others (map (judged k.facts) ds)) (side-step (Some op) d u bs wf found w h.0 after)
+            ∙ left.is;
+        firsts = left.firsts ∙ one_behind wf.first us u;
+        calls = left.calls ∙ one_behind wf.calls rest (chosen (operator_set k.facts op 2) widened) ∙ ap (λ (c : List Chosen). wf.calls ++ c) (sym e3);
+        whole = left.whole;
+      }
