@@ -31,6 +31,7 @@ use Rattle.fort_judge.specs.Joining.{call, call_by, operation, operation_by, val
 use Rattle.fort_typing_laws.specs.Deciding.{Decides}
 use Rattle.fort_typing_laws.specs.Laws.{RunIsComputed, OneRun}
 use Rattle.fort_typing_laws.proofs.Juxtaposing.{rewriting_is_computed}
+use Rattle.fort_typing_laws.proofs.Wide.{unlike}
 
 -- what the rules make, as the judge says it
 abbrev pub to : rule.Made → Made
@@ -59,7 +60,7 @@ module _ (k : Knows) (D : Decides k) where
   unfolding call
   call-breaks set ts place r c = ap (call_by set ts place) (D.refuses set (types_of ts) r c)
 
-  operation-is : (set : SetId) (ts : List TypedForm) (place : Place) (result : Ty) (widened : List Bool) → Calls k set (types_of ts) result widened
+  pub operation-is : (set : SetId) (ts : List TypedForm) (place : Place) (result : Ty) (widened : List Bool) → Calls k set (types_of ts) result widened
       → operation k.facts set ts place ≡ a_made.Gives (a_typed.Operation result (rule.chosen set widened) ts)
   unfolding operation
   operation-is set ts place result widened c = ap (operation_by set ts place) (D.calls set (types_of ts) result widened c)
@@ -74,19 +75,19 @@ module _ (k : Knows) (D : Decides k) where
   unfolding applied
   both f a m n p q = ap (λ u. applied_to k.facts f a u a.meaning) p ∙ ap (applied_to k.facts f a m) q
 
-  applies-is : (f a : Part) (m : rule.Made) → rule.Applies k (Calls k) f a m → applied k.facts f a ≡ to m
+  pub applies-is : (f a : Part) (m : rule.Made) → rule.Applies k (Calls k) f a m → applied k.facts f a ≡ to m
   applies-is f a m (rule.call name u result widened fm am c me) = both f a _ _ fm am ∙ call-is _ (rule.arguments a u) f.place result widened c ∙ sym (ap to me)
   applies-is f a m (rule.no_call name u r fm am c me) = both f a _ _ fm am ∙ call-breaks _ (rule.arguments a u) f.place r c ∙ sym (ap to me)
   applies-is f a m (rule.value g u domain result fm arrow am b me) = both f a _ _ fm am ∙ ap (value_applied k.facts a.place g u) arrow
       ∙ ap (λ c. cond c (a_made.Gives (a_typed.Apply result g u)) (a_made.Breaks (fault MISMATCH a.place))) (D.below (type_of u) domain b) ∙ sym (ap to me)
   applies-is f a m (rule.no_argument g u domain result fm arrow am b me) = both f a _ _ fm am ∙ ap (value_applied k.facts a.place g u) arrow
-      ∙ ap (λ c. cond c (a_made.Gives (a_typed.Apply result g u)) (a_made.Breaks (fault MISMATCH a.place))) (D.unlike (type_of u) domain b) ∙ sym (ap to me)
+      ∙ ap (λ c. cond c (a_made.Gives (a_typed.Apply result g u)) (a_made.Breaks (fault MISMATCH a.place))) (unlike k D (type_of u) domain b) ∙ sym (ap to me)
 
   both_joined : (a b : Part) (m n : Meaning) → a.meaning ≡ m → b.meaning ≡ n → joined k.facts a b ≡ joined_by k.facts a.place m n
   unfolding joined
   both_joined a b m n p q = ap (λ u. joined_by k.facts a.place u b.meaning) p ∙ ap (joined_by k.facts a.place m) q
 
-  joins-is : (a b : Part) (m : rule.Made) → rule.Joins k (Calls k) a b m → joined k.facts a b ≡ to m
+  pub joins-is : (a b : Part) (m : rule.Made) → rule.Joins k (Calls k) a b m → joined k.facts a b ≡ to m
   joins-is a b m (rule.joining u v result widened am bm c me) = both_joined a b _ _ am bm ∙ operation-is _ (u ∷ v ∷ []) a.place result widened c ∙ sym (ap to me)
   joins-is a b m (rule.no_joining u v r am bm c me) = both_joined a b _ _ am bm ∙ operation-breaks _ (u ∷ v ∷ []) a.place r c ∙ sym (ap to me)
 
@@ -183,7 +184,7 @@ module _ (k : Knows) (D : Decides k) where
   becomes-is {ps = ps} (rule.whole p is m) (suc n) found l = ap (run_at (run_within k.facts n) k.facts found) is ∙ ap (λ (w : Meaning). record { seen = w; found = found }) m
   becomes-is {ps = ps} {t = t} (rule.on before after place u step free rest) n found l = one_step ps before after place u t found step free n l (λ m r. becomes-is rest m found r)
 
-value-once : {t u : TypedForm} {found : Option Fault} → value t found ≡ value u found → t ≡ u
+pub value-once : {t u : TypedForm} {found : Option Fault} → value t found ≡ value u found → t ≡ u
 value-once {t = t} {u = u} e = let m : a_meaning.Value t ≡ a_meaning.Value u = ap (λ (o : Outcome). o.seen) e in cc
 
 pub run_is_computed : RunIsComputed

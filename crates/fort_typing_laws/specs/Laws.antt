@@ -1,6 +1,7 @@
 -- The chapter "Juxtaposition": what the judge computes of elements is what the chapter's rules say.
-use Rattle.std.specs.Prelude.{◌≡◌, List, Option, Result}
+use Rattle.std.specs.Prelude.{◌≡◌, List, Option, Some, None, Result}
 use Rattle.fort_base.specs.declared.refusal.CheckFault.{CheckFault}
+use Rattle.fort_base.specs.declared.ty.Ty.{Ty}
 use Rattle.fort_juxt.specs.declared.elements.Element.{Element}
 use Rattle.fort_juxt.specs.declared.elements.Grouping.{Grouping}
 use Rattle.fort_juxt.specs.declared.elements.Tight.{Tight}
@@ -10,10 +11,11 @@ use Rattle.fort_typed_form.specs.declared.typed_form.TypedForm.{TypedForm}
 use Rattle.fort_known.specs.declared.fault.Fault.{Fault}
 use Rattle.fort_known.specs.Known.{Knows}
 use Rattle.fort_typing_rules.specs.declared.part.Part.{Part}
+use Rattle.fort_typing_rules.specs.Types.{IsWidest, HasNoWidest}
 use Rattle.fort_typing_rules.specs.Calls.{Calls}
-use Rattle.fort_typing_rules.specs.Elements.{Becomes}
-use Rattle.fort_judge.specs.Tests.{value}
-use Rattle.fort_judge.specs.Joining.{run}
+use Rattle.fort_typing_rules.specs.Elements.{Becomes, Stands}
+use Rattle.fort_judge.specs.Tests.{value, widest}
+use Rattle.fort_judge.specs.Joining.{run, beside}
 use Rattle.fort_judge.specs.Juxtaposing.{next_rewriting, grouping_of}
 use Rattle.fort_typing_laws.specs.Deciding.{Decides}
 
@@ -32,3 +34,15 @@ RunIsComputed = (k : Knows) → Decides k → (ps : List Part) (t : TypedForm) �
 -- So a run becomes one typed form at most.
 abbrev pub OneRun : Type 0
 OneRun = (k : Knows) → Decides k → (ps : List Part) (t u : TypedForm) → Becomes k (Calls k) ps t → Becomes k (Calls k) ps u → t ≡ u
+
+-- Likewise a juxtaposition.
+abbrev pub BesideIsComputed : Type 0
+BesideIsComputed = (k : Knows) → Decides k → (ps : List Part) (t : TypedForm) → Stands k (Calls k) ps t → (found : Option Fault) → beside k.facts ps found ≡ value t found
+
+abbrev pub OneBeside : Type 0
+OneBeside = (k : Knows) → Decides k → (ps : List Part) (t u : TypedForm) → Stands k (Calls k) ps t → Stands k (Calls k) ps u → t ≡ u
+
+-- The widest type of several, or that there is none, is what is computed.
+pub record WidestIsComputed : Type 0 where
+  pub one : (k : Knows) → Decides k → (types : List Ty) (t : Ty) → IsWidest k types t → widest k.facts types ≡ Some t
+  pub none : (k : Knows) → Decides k → (types : List Ty) → HasNoWidest k types → widest k.facts types ≡ None

@@ -1,5 +1,5 @@
 //! Laws of typing.
-ghost use Rattle.fort_typing_laws.specs.Laws.{GroupingIsComputed, OneRun, RewritingIsComputed, RunIsComputed};
+ghost use Rattle.fort_typing_laws.specs.Laws.{BesideIsComputed, GroupingIsComputed, OneBeside, OneRun, RewritingIsComputed, RunIsComputed, WidestIsComputed};
 
 /// A law: the next rewriting of a run, the grouping of elements, and the refusals of both are those that the judge computes.
 pub fn juxtaposition_is_computed()
@@ -12,4 +12,15 @@ pub fn juxtaposition_is_computed()
 pub fn run_is_computed()
     ensures answered { RunIsComputed }
     ensures one { OneRun }
+{}
+
+/// A law: likewise of a juxtaposition.
+pub fn beside_is_computed()
+    ensures answered { BesideIsComputed }
+    ensures one { OneBeside }
+{}
+
+/// A law: the widest type of several, or that there is none, is what the judge computes.
+pub fn widest_is_computed()
+    ensures { WidestIsComputed }
 {}

@@ -3,4 +3,6 @@
 
 mod laws;
 
-pub use laws::{juxtaposition_is_computed, run_is_computed};
+pub use laws::{
+    beside_is_computed, juxtaposition_is_computed, run_is_computed, widest_is_computed,
+};

@@ -1,5 +1,5 @@
 -- The chapter "Typing": built-in types, the type of a typed form, and the place of a form.
-use Rattle.std.specs.Prelude.{◌≡◌, ◌≢◌, ℕ, nat_le, Bool, true, false, cond, ◌&&◌, List, [], ◌∷◌, Option, Some, None, map, slice_get}
+use Rattle.std.specs.Prelude.{◌≡◌, ◌≤◌, ℕ, nat_le, Bool, true, false, cond, ◌&&◌, List, [], ◌∷◌, Option, Some, None, map, slice_get}
 use Rattle.fort_base.specs.declared.ids.NameId.{NameId}
 use Rattle.fort_base.specs.declared.ids.TypeId.{TypeId}
 use Rattle.fort_base.specs.declared.refusal.Place.{Place}
@@ -92,7 +92,7 @@ pub record IsWidest (k : Knows) (types : List Ty) (t : Ty) : Type 0 where
   pub at : ℕ
   pub is : slice_get types at ≡ Some t
   pub over : AreAllBelow k types t
-  pub first : (j : ℕ) (x : Ty) → slice_get types j ≡ Some x → AreAllBelow k types x → nat_le at j ≡ true
+  pub first : (j : ℕ) (x : Ty) → slice_get types j ≡ Some x → AreAllBelow k types x → at ≤ j
 
 -- Several types have no widest one.
 abbrev pub HasNoWidest : Knows → List Ty → Type 0
