@@ -1,0 +1,3 @@
+pub mod FormsFlats
+pub mod FormsBlocks
+pub mod TypePlaces

@@ -1,0 +1,11 @@
+-- What the forms of a component hang on beside its trees. The code looks it up in tables.
+use Rattle.std.specs.Prelude.{Option}
+use Rattle.fort_base.specs.declared.refusal.Place.{Place}
+use Rattle.fort_base.specs.declared.ty.Ty.{Ty}
+use Rattle.fort_tree.specs.declared.grouped.Grouped.{Grouped}
+use Rattle.fort_tree.specs.declared.types.TypeTree.{TypeTree}
+
+-- The type that a tree writes, and the grouping of the flat expression that begins at a place, where one does.
+pub record Source : Type 0 where
+  pub written : TypeTree → Ty
+  pub grouping : Place → Option Grouped
