@@ -1,2 +1,4 @@
 pub mod Touched
 pub mod Seen
+pub mod Popped
+pub mod Closed

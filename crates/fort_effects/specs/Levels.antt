@@ -3,12 +3,14 @@ use Rattle.std.specs.Prelude.{◌≡◌, ℕ, ◌+◌, List, [], ◌∷◌, ◌+
 use Rattle.indexmap.specs.IndexMap.{get}
 use Rattle.fort_core.specs.declared.program.Program.{Program}
 use Rattle.fort_core.specs.declared.value.Value.{Value}
-use Rattle.fort_machine.specs.Effects.{Store, Effect, idle, both, paid, only_at, afterwards}
+use Rattle.fort_machine.specs.Effects.{Store, Effect, idle, both, paid, only_at, FitsAll, afterwards, completing, failing, aborting}
 use Rattle.fort_machine.specs.Cells as machine
 use Rattle.fort_machine.specs.Journals.{opening_store}
 use Rattle.fort_machine.specs.Plain.{put}
 use Rattle.fort_store.specs.Held.{held}
 use Rattle.fort_effects.specs.Cells.{cell_of}
+use Rattle.fort_effects.specs.declared.cell.Closing.{Closing}
+use Rattle.fort_effects.specs.declared.cell.Closing.TheVariants.{Completed, Failed, Aborted}
 use Rattle.fort_effects.specs.declared.layer.Layer.{Layer}
 use Rattle.fort_effects.specs.declared.layers.Layers.{Layers}
 
@@ -74,6 +76,31 @@ opened v = record { store = v.store; output = v.output; cost = v.cost; attempts 
 -- One location is touched, at a cost.
 abbrev pub touching : ℕ → machine.Cell → ℕ → Effect
 touching l c cost = record (paid cost) { cells = only_at l c }
+
+-- The levels with these attempts.
+abbrev pub with_attempts : Levels → List Effect → Levels
+with_attempts v es = record { store = v.store; output = v.output; cost = v.cost; attempts = es }
+
+-- What an attempt did, once it ended so.
+abbrev pub closing : Closing → Effect → Effect
+closing Completed d = completing d
+closing Failed d = failing d
+closing Aborted d = aborting d
+
+-- What is printed after an attempt that ended so: its text only where it completed.
+abbrev pub text_after : Closing → List ℕ → List ℕ → List ℕ
+text_after Completed output text = output ++ text
+text_after Failed output text = output
+text_after Aborted output text = output
+
+-- The root's levels once its only attempt ended so.
+abbrev pub root_closed : Closing → Store → List ℕ → ℕ → Effect → Levels
+root_closed c s output cost e = added_to (closing c e) (record { store = s; output = output; cost = cost; attempts = [] }) []
+
+-- An attempt is open, and the store below it suits what it did.
+abbrev pub IsOpen : Store → List Effect → Type 0
+IsOpen s [] = ⊥
+IsOpen s (e ∷ es) = FitsAll e (through s es)
 
 -- The sum of what attempts cost, each 1 for itself.
 abbrev pub attempts_cost : List Effect → ℕ

@@ -1,3 +1,4 @@
 pub mod Cells
 pub mod Levels
 pub mod Calls
+pub mod Closes

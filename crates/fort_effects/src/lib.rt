@@ -3,6 +3,7 @@
 #![tactic(auto)]
 
 mod cell;
+mod close;
 mod layer;
 mod layers;
 
