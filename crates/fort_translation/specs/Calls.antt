@@ -8,9 +8,13 @@ use Rattle.fort_translation.specs.Parts.{Given, Part, maker_of}
 use Rattle.fort_translation.specs.Values.{unit_term}
 
 -- An argument, with a call of `widen` round it where it is widened.
+abbrev pub argument : Given → Bool → Term → Term
+argument g true t = Call g.widen (t ∷ [])
+argument g false t = t
+
+-- The arguments of a call.
 abbrev pub widened : Given → List Bool → List Term → List Term
-widened g (true ∷ ws) (t ∷ ts) = Call g.widen (t ∷ []) ∷ widened g ws ts
-widened g (false ∷ ws) (t ∷ ts) = t ∷ widened g ws ts
+widened g (w ∷ ws) (t ∷ ts) = argument g w t ∷ widened g ws ts
 widened g [] ts = ts
 widened g ws [] = []
 

@@ -1,5 +1,6 @@
 pub mod Making
 pub mod Parts
+pub mod Read
 pub mod Values
 pub mod Calls
 pub mod Items

@@ -9,7 +9,7 @@ use Rattle.fort_core.specs.declared.term.Term.{Term, Throw, Variable, Apply, Fil
 use Rattle.fort_core.specs.declared.term.Term as term
 use Rattle.fort_core.specs.declared.value.Value.{Truth}
 use Rattle.fort_machine.specs.Ends.{group}
-use Rattle.fort_typed_form.specs.declared.typed_form.TypedForm.{TypedForm, fold-TypedForm}
+use Rattle.fort_typed_form.specs.declared.typed_form.TypedForm.{TypedForm, fold-TypedForm, out-TypedForm}
 use Rattle.fort_typed_form.specs.declared.typed_form.TypedForm.TheOpen.{TypedForm-F}
 use Rattle.std.specs.Prelude.{pos}
 use Rattle.fort_translation.specs.Making.{Scope, Maker, Made, number_of, still, one, two, many}
@@ -115,6 +115,10 @@ part_at g form = record { ty = type_at form; maker = made_at g form; role = role
 -- A form as a part.
 unfoldable pub part : Given → TypedForm → Part
 part g = fold-TypedForm Part (part_at g)
+
+-- The type of a form.
+abbrev pub type_of : TypedForm → Ty
+type_of form = type_at (out-TypedForm form)
 
 -- The term of a form, by the names in scope and the next numbers.
 abbrev pub translated : Given → TypedForm → Maker

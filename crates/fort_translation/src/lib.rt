@@ -2,5 +2,7 @@
 #![tactic(auto)]
 
 mod counter;
+mod given;
 
 pub use counter::Counter;
+pub use given::Known;
