@@ -267,8 +267,8 @@ side_of place None = None
 
 -- the form that was asked is the next side of a chain, behind an operator or none
 abbrev pub after_side : Facts → Option Op → Place → Option TypedForm → State → State
-after_side k (Some op) place node s = compared k op (side_place place s.frame.side) (side_type s.frame.side) node s
-after_side k None place node s = s
+after_side k (Some op) place t s = compared k op (side_place place s.frame.side) (side_type s.frame.side) t s
+after_side k None place t s = s
 
 unfoldable pub take_side : Facts → Option Op → Place → State → State
 take_side k op place s = let v = taken k a_want.Operand place s.seen s.found in
