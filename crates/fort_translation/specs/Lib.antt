@@ -10,3 +10,4 @@ pub mod Translated
 pub mod Bodies
 pub mod Shapes
 pub mod Programs
+pub mod Worked

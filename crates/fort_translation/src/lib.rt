@@ -3,6 +3,8 @@
 
 mod counter;
 mod given;
+mod laws;
 
 pub use counter::Counter;
 pub use given::Known;
+pub use laws::forms_are_worked;
