@@ -1,32 +1,28 @@
 -- What has a type is answered with it.
-use Rattle.std.proofs.Common.{◌≡◌, ◌⊎◌, inl, inr, ℕ, suc, Bool, true, false, not, cond, ◌&&◌, ◌||◌, List, [], ◌∷◌, ◌++◌, length, map, take, slice_get, Option, Some, None, rules, refl, ap, ◌∙◌, sym, subst}
+use Rattle.std.proofs.Common.{◌≡◌, inl, inr, Bool, true, false, not, cond, ◌&&◌, List, [], ◌∷◌, ◌++◌, length, map, take, Option, Some, None, rules, refl, ap, ◌∙◌, sym, subst}
 use Rattle.std.specs.Prelude.{option_map}
 use Rattle.fort_base.specs.declared.ids.NameId.{NameId}
 use Rattle.fort_base.specs.declared.ids.SetId.{SetId}
-use Rattle.fort_base.specs.declared.ids.TypeId.{TypeId}
 use Rattle.fort_base.specs.declared.refusal.Place.{Place}
 use Rattle.fort_base.specs.declared.rules.TheConstants.{MISMATCH, NOT_AN_EXCEPTION}
-use Rattle.fort_base.specs.declared.ty.Ty.{Ty, out-Ty, the_lemmas as ty_lemmas}
-use Rattle.fort_base.specs.declared.ty.Ty.TheVariants as a_type
+use Rattle.fort_base.specs.declared.ty.Ty.{Ty, the_lemmas as ty_lemmas}
 use Rattle.fort_ops.specs.declared.op.Op.{Op}
 use Rattle.fort_ops.specs.declared.op.Op.TheVariants as an_op
-use Rattle.fort_set.specs.declared.field.Field.{Field}
 use Rattle.fort_scope.specs.declared.binding.Binding.{Binding}
 use Rattle.fort_form.specs.declared.form.Form.{Form, out-Form, map-Form, fold_out-Form}
 use Rattle.fort_form.specs.declared.form.Form.TheOpen.{Form-F, Item-F}
 use Rattle.fort_form.specs.declared.form.Item.{Item, out-Item, map-Item, fold_out-Item}
-use Rattle.fort_form.specs.declared.form.Branch.{Branch, out-Branch}
+use Rattle.fort_form.specs.declared.form.Branch.{Branch}
 use Rattle.fort_form.specs.declared.form.Generator.{Generator, out-Generator}
 use Rattle.fort_form.specs.declared.form.TypeBranch.{TypeBranch, out-TypeBranch}
 use Rattle.fort_form.specs.declared.form.Reduction.{Reduction}
 use Rattle.fort_form.specs.declared.form.Reduction.TheVariants as a_reduction
-use Rattle.fort_form.specs.declared.form.Parameter.{Parameter}
 use Rattle.fort_form.specs.declared.form.Update.{Update}
 use Rattle.fort_typed_form.specs.declared.typed_form.Chosen.{Chosen}
 use Rattle.fort_typed_form.specs.declared.typed_form.TypedForm.{TypedForm, out-TypedForm, the_lemmas as typed_lemmas}
 use Rattle.fort_typed_form.specs.declared.typed_form.TypedForm.TheVariants as a_typed
 use Rattle.fort_known.specs.declared.fault.Fault.{Fault}
-use Rattle.fort_known.specs.Known.{Facts, Knows}
+use Rattle.fort_known.specs.Known.{Knows}
 use Rattle.fort_known.specs.Below.{is_below}
 use Rattle.fort_known.specs.Names.{Standing, a_binding, a_field, a_variable, a_single, functions, is_visible, standing}
 use Rattle.fort_known.specs.Sets.{operator_set}
@@ -49,11 +45,11 @@ use Rattle.fort_judge.specs.declared.frame.Side.{Side}
 use Rattle.fort_judge.specs.declared.frame.Outcome.{Outcome}
 use Rattle.fort_judge.specs.declared.frame.Valued.{Valued}
 use Rattle.fort_judge.specs.Faults.{breaks}
-use Rattle.fort_judge.specs.Tests.{suits, rule_of, no_node, valued, taken, as_wanted, value, refused, untyped}
-use Rattle.fort_judge.specs.Parts.{Judge, Piece, local, locals, expression, Arm, Clause, Giving, State, begin, opened, is_broken, said, ask, ask_below, asks, ask_if, ask_with, unless_lost, back_to, with_bindings, shadows, bind, bind_all, bind_parts, watch, take_part, take_below, below_by, as_wanted_below, with_frame, kept, kept_if, declares, declares_all, take_initial, take_initials, item, items, given_by, gives, take_source, sources, compared_by, compared, side_type, side_place, side_of, after_side, take_side, sides, take_subject, take_test, clauses, arms, catches, cases, lost_if_broken, head_type, else_with, element_meaning, element_found, take_element, elements, targeted, assigned_valued, take_assigned}
+use Rattle.fort_judge.specs.Tests.{suits, rule_of, no_node, valued, taken, value, refused, untyped}
+use Rattle.fort_judge.specs.Parts.{Judge, Piece, Arm, Clause, Giving, State, begin, opened, is_broken, said, ask, ask_below, asks, ask_if, ask_with, unless_lost, back_to, shadows, bind, bind_all, bind_parts, watch, take_part, take_below, below_by, as_wanted_below, kept, kept_if, declares, declares_all, take_initial, take_initials, item, items, given_by, gives, take_source, sources, compared_by, compared, side_type, side_place, side_of, after_side, take_side, sides, take_subject, take_test, clauses, arms, catches, cases, lost_if_broken, head_type, else_with, element_meaning, element_found, take_element, elements, targeted, assigned_valued, take_assigned}
 use Rattle.fort_judge.proofs.Levels.{arm-is, giving-is, clause-is}
 use Rattle.fort_judge.proofs.Kept.{take_whole}
-use Rattle.fort_judge.specs.Closing.{close_at, last_type, unbroken, means, made_outcome, by_widest, name_by, name_answer, receiver, sum_by, if_answer, case_answer, typecase_answer, try_answer, assign_answer, assigned_by, reduced, giving_name, clause_type as close_clause_type}
+use Rattle.fort_judge.specs.Closing.{close_at, last_type, unbroken, made_outcome, by_widest, name_by, name_answer, receiver, sum_by, if_answer, case_answer, typecase_answer, try_answer, assign_answer, assigned_by, reduced, giving_name, clause_type as close_clause_type}
 use Rattle.fort_judge.specs.Joining.{operation, operation_by}
 use Rattle.fort_judge.specs.Judging.{inside, reduction_want, takes_by, take_target, assigned_part, judge_form, judge_item, judge_branch, judge_generator, judge_clause, judged, judged_item, judged_branch, judged_generator, judged_clause}
 use Rattle.fort_typing_laws.specs.Deciding.{Decides}
