@@ -1,30 +1,30 @@
 -- What has a type is answered with it.
-use Rattle.std.proofs.Common.{◌≡◌, ◌⊎◌, inl, inr, ℕ, suc, Bool, true, false, not, cond, ◌&&◌, ◌||◌, List, [], ◌∷◌, ◌++◌, length, map, take, slice_get, Option, Some, None, rules, refl, ap, ◌∙◌, sym, subst}
+use Rattle.std.proofs.Common.{◌≡◌, inl, inr, Bool, true, false, not, cond, ◌&&◌, List, [], ◌∷◌, ◌++◌, length, map, take, Option, Some, None, rules, refl, ap, ◌∙◌, sym, subst}
 use Rattle.std.specs.Prelude.{option_map}
 use Rattle.fort_base.specs.declared.ids.NameId.{NameId}
 use Rattle.fort_base.specs.declared.ids.SetId.{SetId}
-use Rattle.fort_base.specs.declared.ids.TypeId.{TypeId}
 use Rattle.fort_base.specs.declared.refusal.Place.{Place}
-use Rattle.fort_base.specs.declared.rules.TheConstants.{MISMATCH}
-use Rattle.fort_base.specs.declared.ty.Ty.{Ty, out-Ty, the_lemmas as ty_lemmas}
-use Rattle.fort_base.specs.declared.ty.Ty.TheVariants as a_type
+use Rattle.fort_base.specs.declared.rules.TheConstants.{MISMATCH, NOT_AN_EXCEPTION}
+use Rattle.fort_base.specs.declared.ty.Ty.{Ty, the_lemmas as ty_lemmas}
 use Rattle.fort_ops.specs.declared.op.Op.{Op}
 use Rattle.fort_ops.specs.declared.op.Op.TheVariants as an_op
-use Rattle.fort_set.specs.declared.field.Field.{Field}
 use Rattle.fort_scope.specs.declared.binding.Binding.{Binding}
 use Rattle.fort_form.specs.declared.form.Form.{Form, out-Form, map-Form, fold_out-Form}
 use Rattle.fort_form.specs.declared.form.Form.TheOpen.{Form-F, Item-F}
 use Rattle.fort_form.specs.declared.form.Item.{Item, out-Item, map-Item, fold_out-Item}
-use Rattle.fort_form.specs.declared.form.Branch.{Branch, out-Branch}
+use Rattle.fort_form.specs.declared.form.Branch.{Branch}
 use Rattle.fort_form.specs.declared.form.Generator.{Generator, out-Generator}
 use Rattle.fort_form.specs.declared.form.TypeBranch.{TypeBranch, out-TypeBranch}
+use Rattle.fort_form.specs.declared.form.Reduction.{Reduction}
+use Rattle.fort_form.specs.declared.form.Reduction.TheVariants as a_reduction
+use Rattle.fort_form.specs.declared.form.Update.{Update}
 use Rattle.fort_typed_form.specs.declared.typed_form.Chosen.{Chosen}
-use Rattle.fort_typed_form.specs.declared.typed_form.TypedForm.{TypedForm, the_lemmas as typed_lemmas}
+use Rattle.fort_typed_form.specs.declared.typed_form.TypedForm.{TypedForm, out-TypedForm, the_lemmas as typed_lemmas}
 use Rattle.fort_typed_form.specs.declared.typed_form.TypedForm.TheVariants as a_typed
 use Rattle.fort_known.specs.declared.fault.Fault.{Fault}
-use Rattle.fort_known.specs.Known.{Facts, Knows}
+use Rattle.fort_known.specs.Known.{Knows}
 use Rattle.fort_known.specs.Below.{is_below}
-use Rattle.fort_known.specs.Names.{is_visible, standing}
+use Rattle.fort_known.specs.Names.{Standing, a_binding, a_field, a_variable, a_single, functions, is_visible, standing}
 use Rattle.fort_known.specs.Sets.{operator_set}
 use Rattle.fort_called.specs.Called.{called}
 use Rattle.fort_called.specs.declared.called.Called.{Called}
@@ -33,7 +33,7 @@ use Rattle.fort_typing_rules.specs.declared.part.Part.{Part}
 use Rattle.fort_typing_rules.specs.declared.part.Meaning.{Meaning}
 use Rattle.fort_typing_rules.specs.declared.part.Meaning.TheVariants as a_meaning
 use Rattle.fort_typing_rules.specs.Calls.{Calls}
-use Rattle.fort_typing_rules.specs.Types.{IsBelow, place_at, place_of, boolean, zz32, zz64, unit, exception, given, type_of, types_of}
+use Rattle.fort_typing_rules.specs.Types.{IsBelow, IsWidest, place_at, place_of, boolean, zz32, zz64, unit, exception, given, type_of, types_of}
 use Rattle.fort_typing_rules.specs.Elements.{chosen}
 use Rattle.fort_typing_rules.specs.Typing as rule
 use Rattle.fort_judge.specs.declared.frame.Want.{Want}
@@ -45,13 +45,18 @@ use Rattle.fort_judge.specs.declared.frame.Side.{Side}
 use Rattle.fort_judge.specs.declared.frame.Outcome.{Outcome}
 use Rattle.fort_judge.specs.declared.frame.Valued.{Valued}
 use Rattle.fort_judge.specs.Faults.{breaks}
-use Rattle.fort_judge.specs.Tests.{suits, rule_of, no_node, valued, taken, as_wanted, value}
-use Rattle.fort_judge.specs.Parts.{Judge, Piece, local, locals, expression, Arm, Clause, Giving, State, begin, opened, said, ask, ask_below, asks, ask_if, ask_with, unless_lost, back_to, with_bindings, shadows, bind, bind_all, bind_parts, watch, take_part, take_below, below_by, as_wanted_below, with_frame, kept, kept_if, declares, declares_all, take_initial, take_initials, item, items, given_by, gives, take_source, sources, compared_by, compared, side_type, side_place, side_of, after_side, take_side, sides, take_subject, take_test, clauses, arms, catches, cases, lost_if_broken, head_type, else_with, element_meaning, element_found, take_element, elements, targeted, assigned_valued, take_assigned}
+use Rattle.fort_judge.specs.Tests.{suits, rule_of, no_node, valued, taken, value, refused, untyped}
+use Rattle.fort_judge.specs.Parts.{Judge, Piece, Arm, Clause, Giving, State, begin, opened, is_broken, said, ask, ask_below, asks, ask_if, ask_with, unless_lost, back_to, shadows, bind, bind_all, bind_parts, watch, take_part, take_below, below_by, as_wanted_below, kept, kept_if, declares, declares_all, take_initial, take_initials, item, items, given_by, gives, take_source, sources, compared_by, compared, side_type, side_place, side_of, after_side, take_side, sides, take_subject, take_test, clauses, arms, catches, cases, lost_if_broken, head_type, else_with, element_meaning, element_found, take_element, elements, targeted, assigned_valued, take_assigned}
 use Rattle.fort_judge.proofs.Levels.{arm-is, giving-is, clause-is}
 use Rattle.fort_judge.proofs.Kept.{take_whole}
-use Rattle.fort_judge.specs.Closing.{close_at, last_type, unbroken, means, made_outcome, by_widest, name_by, name_answer, receiver, sum_by}
-use Rattle.fort_judge.specs.Judging.{inside, judge_form, judge_item, judge_branch, judge_generator, judge_clause, judged, judged_item, judged_branch, judged_generator, judged_clause}
+use Rattle.fort_judge.specs.Closing.{close_at, last_type, unbroken, made_outcome, by_widest, name_by, name_answer, receiver, sum_by, if_answer, case_answer, typecase_answer, try_answer, assign_answer, assigned_by, reduced, giving_name, clause_type as close_clause_type}
+use Rattle.fort_judge.specs.Joining.{operation, operation_by}
+use Rattle.fort_judge.specs.Judging.{inside, reduction_want, takes_by, take_target, assigned_part, judge_form, judge_item, judge_branch, judge_generator, judge_clause, judged, judged_item, judged_branch, judged_generator, judged_clause}
 use Rattle.fort_typing_laws.specs.Deciding.{Decides}
+use Rattle.fort_typing_laws.specs.Laws.{HasIsAnswered, OneTypedForm}
+use Rattle.fort_typing_laws.proofs.Wide.{widest_is_computed}
+use Rattle.fort_typing_laws.proofs.Running.{run_is_computed, value-once}
+use Rattle.fort_typing_laws.proofs.Beside.{beside_is_computed}
 
 -- what the judge wants is what the rules want
 pub data Same : rule.Want → Want → Type 0 where
@@ -487,3 +492,537 @@ module _ (k : Knows) (D : Decides k) where
         calls = left.calls ∙ one_behind wf.calls rest (chosen (operator_set k.facts op 2) widened) ∙ ap (λ (c : List Chosen). wf.calls ++ c) (sym e3);
         whole = left.whole;
       }
+
+  -- ---- several parts at once
+
+  firsts-is : (want : rule.Want) (w : Want) (ds : List Form) (ts : List TypedForm) (bs : List Binding) (found : Option Fault) → Same want w → AllAnswered bs want ds ts
+      → asks k.facts a_slot.First w (map (judged k.facts) ds) (st opened bs found) ≡ st (record opened { first = ts }) bs found
+  firsts-is want w ds ts bs found m h = asks-is want w a_slot.First ds ts bs opened found m h ∙ ap (λ (x : Frame). st x bs found) (kepts-first ts opened)
+
+  none-asked : (bs : List Binding) (want : rule.Want) {es : List Form} {ts : List TypedForm} → es ≡ [] → ts ≡ [] → AllAnswered bs want es ts
+  none-asked bs want {ts = ts} e1 e2 = subst (λ (xs : List Form). AllAnswered bs want xs ts) (sym e1) (subst (λ (xs : List TypedForm). AllAnswered bs want [] xs) (sym e2) tt)
+
+  one-asked : (bs : List Binding) (want : rule.Want) {es : List Form} {ts : List TypedForm} (d : Form) (ds : List Form) (u : TypedForm) (us : List TypedForm) → es ≡ d ∷ ds → ts ≡ u ∷ us
+      → Answered bs want d u → AllAnswered bs want ds us → AllAnswered bs want es ts
+  one-asked bs want {ts = ts} d ds u us e1 e2 h i = subst (λ (xs : List Form). AllAnswered bs want xs ts) (sym e1) (subst (λ (xs : List TypedForm). AllAnswered bs want (d ∷ ds) xs) (sym e2) (h, i))
+
+  abbrev pub MayBeAnswered : List Binding → rule.Want → Option Form → Option TypedForm → Type 0
+  MayBeAnswered bs want None None = Unit {0}
+  MayBeAnswered bs want None (Some t) = ⊥
+  MayBeAnswered bs want (Some d) None = ⊥
+  MayBeAnswered bs want (Some d) (Some t) = Answered bs want d t
+
+  none-behind : (bs : List Binding) (want : rule.Want) {other : Option Form} {w : Option TypedForm} → other ≡ None → w ≡ None → MayBeAnswered bs want other w
+  none-behind bs want {w = w} e1 e2 = subst (λ (x : Option Form). MayBeAnswered bs want x w) (sym e1) (subst (λ (x : Option TypedForm). MayBeAnswered bs want None x) (sym e2) tt)
+
+  some-behind : (bs : List Binding) (want : rule.Want) {other : Option Form} {w : Option TypedForm} (d : Form) (u : TypedForm) → other ≡ Some d → w ≡ Some u → Answered bs want d u → MayBeAnswered bs want other w
+  some-behind bs want {w = w} d u e1 e2 h = subst (λ (x : Option Form). MayBeAnswered bs want x w) (sym e1) (subst (λ (x : Option TypedForm). MayBeAnswered bs want (Some d) x) (sym e2) h)
+
+  ask-if-is : (want : rule.Want) (w : Want) (other : Option Form) (t : Option TypedForm) (bs : List Binding) (wf : Frame) (found : Option Fault) → Same want w → wf.last ≡ None → MayBeAnswered bs want other t
+      → ask_if k.facts a_slot.Last w (option_map (judged k.facts) other) (st wf bs found) ≡ st (record wf { last = t }) bs found
+  ask-if-is want w None None bs wf found m l h = ap (λ (x : Option TypedForm). st (record wf { last = x }) bs found) l
+  ask-if-is want w None (Some t) bs wf found m l h = absurd h
+  ask-if-is want w (Some d) None bs wf found m l h = absurd h
+  ask-if-is want w (Some d) (Some t) bs wf found m l h = ask-is want w a_slot.Last d t bs wf found m h.0 h.1
+
+  else-with-is : (name : Option (Place × NameId)) (s : TypedForm) (other : Option Form) (t : Option TypedForm) (bs : List Binding) (wf : Frame) (found : Option Fault) → wf.head ≡ Some s → wf.last ≡ None
+      → MayBeAnswered (rule.with_clause bs name (type_of s)) rule.a_value other t
+      → else_with k.facts name (option_map (judged k.facts) other) (st wf bs found) ≡ st (record wf { last = t }) bs found
+  else-with-is name s None None bs wf found e l h = ap (λ (x : Option TypedForm). st (record wf { last = x }) bs found) l
+  else-with-is name s None (Some t) bs wf found e l h = absurd h
+  else-with-is name s (Some d) None bs wf found e l h = absurd h
+  else-with-is name s (Some d) (Some t) bs wf found e l h =
+      ap (λ (x : Option TypedForm). ask_with k.facts name (head_type x) a_slot.Last (judged k.facts d) (st wf bs found)) e ∙ ask-with-is name (type_of s) a_slot.Last d t bs wf found h
+
+  -- ---- how forms are closed
+
+  closes-name : (p : Place) (name : NameId) (bs : List Binding) (found : Option Fault) (s : Standing) → standing k.facts bs name ≡ s → name_answer k.facts p name bs found ≡ name_by p name s found
+  unfolding name_answer
+  closes-name p name bs found s h = ap (λ (x : Standing). name_by p name x found) h
+
+  closes-operator : (set : SetId) (ts : List TypedForm) (p : Place) (result : Ty) (widened : List Bool) (found : Option Fault) → Calls k set (types_of ts) result widened
+      → made_outcome (operation k.facts set ts p) found ≡ value (a_typed.Operation result (chosen set widened) ts) found
+  unfolding operation
+  closes-operator set ts p result widened found c = ap (λ (x : Called). made_outcome (operation_by set ts p x) found) (D.calls set (types_of ts) result widened c)
+
+  closes-if-alone : (p : Place) (tests values : List TypedForm) (found : Option Fault)
+      → if_answer k.facts p None (record opened { first = tests; second = values }) found ≡ value (a_typed.If unit tests values None) found
+  unfolding if_answer
+  closes-if-alone p tests values found = refl
+
+  closes-if-else : (p : Place) (j : Judge) (tests values : List TypedForm) (u : TypedForm) (ty : Ty) (found : Option Fault) → IsWidest k (types_of values ++ type_of u ∷ []) ty
+      → if_answer k.facts p (Some j) (record opened { first = tests; second = values; last = Some u }) found ≡ value (a_typed.If ty tests values (Some u)) found
+  unfolding if_answer
+  closes-if-else p j tests values u ty found h = ap (λ (x : Option Ty). by_widest p x found (λ y. a_typed.If y tests values (Some u))) (widest_is_computed.one k D _ ty h)
+
+  closes-case : (p : Place) (u : TypedForm) (side : Option Side) (cs : List Chosen) (tests values : List TypedForm) (w : Option TypedForm) (ty : Ty) (found : Option Fault) → IsWidest k (types_of values ++ rule.else_types w) ty
+      → case_answer k.facts p (record opened { head = Some u; first = tests; second = values; last = w; calls = cs; side = side }) found ≡ value (a_typed.Case ty u cs tests values w) found
+  unfolding case_answer
+  closes-case p u side cs tests values w ty found h = ap (λ (x : Option Ty). by_widest p x found (λ y. a_typed.Case y u cs tests values w)) (widest_is_computed.one k D _ ty h)
+
+  closes-typecase : (p : Place) (name : NameId) (types : List Ty) (u : TypedForm) (values : List TypedForm) (w : Option TypedForm) (ty : Ty) (found : Option Fault) → IsWidest k (types_of values ++ rule.else_types w) ty
+      → typecase_answer k.facts p name types (record opened { head = Some u; second = values; last = w }) found ≡ value (a_typed.Typecase ty name u types values w) found
+  unfolding typecase_answer
+  closes-typecase p name types u values w ty found h = ap (λ (x : Option Ty). by_widest p x found (λ y. a_typed.Typecase y name u types values w)) (widest_is_computed.one k D _ ty h)
+
+  closes-try : (p : Place) (name : Option (Place × NameId)) (types : List Ty) (u : TypedForm) (values : List TypedForm) (w : Option TypedForm) (ty : Ty) (found : Option Fault) → IsWidest k (type_of u ∷ types_of values) ty
+      → try_answer k.facts p name types (record opened { head = Some u; second = values; last = w }) found ≡ value (a_typed.Try ty u (rule.bound_name name) types values w) found
+  unfolding try_answer
+  closes-try p name types u values w ty found h = ap (λ (x : Option Ty). by_widest p x found (λ y. a_typed.Try y u (rule.bound_name name) types values w)) (widest_is_computed.one k D _ ty h)
+
+  closes-assign : (p : Place) (sign : Update) (u w : TypedForm) (found : Option Fault) → rule.update_operator sign ≡ None
+      → assign_answer k.facts p sign (record opened { head = Some u; last = Some w }) found ≡ value (a_typed.Assign unit u w) found
+  unfolding assign_answer
+  closes-assign p sign u w found h = ap (λ (x : Option Op). assigned_by k.facts p x u w found) h
+
+  closes-update : (p : Place) (sign : Update) (op : Op) (u w : TypedForm) (result : Ty) (widened : List Bool) (found : Option Fault) → rule.update_operator sign ≡ Some op
+      → Calls k (operator_set k.facts op 2) (type_of u ∷ type_of w ∷ []) result widened → IsBelow k result (type_of u)
+      → assign_answer k.facts p sign (record opened { head = Some u; last = Some w }) found ≡ value (a_typed.Update unit u (chosen (operator_set k.facts op 2) widened) w) found
+  unfolding assign_answer
+  closes-update p sign op u w result widened found h c b =
+      ap (λ (x : Option Op). assigned_by k.facts p x u w found) h
+      ∙ ap (λ (x : Called). sum_by k.facts op p u w x found) (D.calls _ _ result widened c)
+      ∙ ap (λ c. cond c (value (a_typed.Update unit u (chosen (operator_set k.facts op 2) widened) w) found) (refused MISMATCH p found)) (D.below result (type_of u) b)
+
+  -- ---- a chain
+
+  chain-is : (ops : List Op) (es : List Form) (ts : List TypedForm) (cs : List Chosen) (bs : List Binding) (found : Option Fault) → rule.Compares k (Calls k) ops ts cs → AllAnswered bs rule.an_operand es ts
+      → (w : Frame) × (sides k.facts None ops (map (judged k.facts) es) (st opened bs found) ≡ st w bs found) × (w.first ≡ ts) × (w.calls ≡ cs) × (w.broken ≡ false)
+  chain-is ops [] [] cs bs found (rule.no_more b e1 e2 e3) h = absurd cc
+  chain-is ops [] [] cs bs found (rule.more op others b c vs result widened rest e1 e2 call_ below_ next e3) h = absurd cc
+  chain-is ops (d ∷ ds) [] cs bs found c h = absurd h
+  chain-is ops [] (a ∷ us) cs bs found c h = absurd h
+  chain-is ops (d ∷ ds) (a ∷ us) cs bs found c h =
+      let p = (judged k.facts d).place in
+      let w : Frame = kept a_slot.First a opened in
+      let w' : Frame = record w { side = Some (record { place = p; ty = type_of a }) } in
+      let left = sides-is c ds a us p bs w' found refl refl h.1 in
+      (left.frame, first-side ops d (map (judged k.facts) ds) (st opened bs found) ∙ ap (sides_of ops (map (judged k.facts) ds)) (side-step None d a bs opened found w h.0 refl) ∙ left.is, left.firsts, left.calls, left.whole)
+
+  closes-chain : (w : Frame) (ts : List TypedForm) (cs : List Chosen) (found : Option Fault) → w.first ≡ ts → w.calls ≡ cs → w.broken ≡ false
+      → unbroken w found (value (a_typed.Chain boolean (operator_set k.facts an_op.And 2) w.calls w.first) found) ≡ value (a_typed.Chain boolean (operator_set k.facts an_op.And 2) cs ts) found
+  closes-chain w ts cs found e1 e2 e3 = ap (λ c. cond c (untyped found) (value (a_typed.Chain boolean (operator_set k.facts an_op.And 2) w.calls w.first) found)) e3
+      ∙ ap (λ (x : List Chosen). value (a_typed.Chain boolean (operator_set k.facts an_op.And 2) x w.first) found) e2
+      ∙ ap (λ (x : List TypedForm). value (a_typed.Chain boolean (operator_set k.facts an_op.And 2) cs x) found) e1
+
+  -- ---- one step of what stands in a row
+
+  no-elements : (s : State) → elements [] s ≡ s
+  unfolding elements
+  no-elements s = refl
+
+  no-sources : (s : State) → sources k.facts [] s ≡ s
+  unfolding sources
+  no-sources s = refl
+
+  no-clauses : (s : State) → clauses k.facts [] s ≡ s
+  unfolding clauses
+  no-clauses s = refl
+
+  no-cases : (name : Option (Place × NameId)) (s : State) → cases k.facts name [] s ≡ s
+  unfolding cases
+  no-cases name s = refl
+
+  no-items : (s : State) → items k.facts [] s ≡ s
+  unfolding items
+  no-items s = refl
+
+  last-piece : (p : Piece) (s : State) → items k.facts (p ∷ []) s ≡ item k.facts a_want.Value p s
+  unfolding items
+  last-piece p s = refl
+
+  source-step : (g : Generator) (more : List Generator) (u : TypedForm) (ty : Ty) (bs : List Binding) (wf : Frame) (found : Option Fault) → is_visible k.facts bs (out-Generator g).name ≡ false
+      → Answered bs rule.an_operand (out-Generator g).source u → given (type_of u) ≡ Some ty → wf.lost ≡ false
+      → sources k.facts (map (judged_generator k.facts) (g ∷ more)) (st wf bs found)
+      ≡ sources k.facts (map (judged_generator k.facts) more) (st (kept a_slot.First u wf) (bs ++ rule.binding (out-Generator g).place (out-Generator g).name ty ∷ []) found)
+  unfolding sources
+  source-step g more u ty bs wf found fresh h gv l =
+      let rest = sources k.facts (map (judged_generator k.facts) more) in
+      let after = st (kept a_slot.First u wf) (bs ++ rule.binding (out-Generator g).place (out-Generator g).name ty ∷ []) found in
+      ap (λ (x : Giving). unless_lost rest (take_source k.facts x.place x.name x.source.place (said x.source (watch k.facts (Some (x.place, x.name)) (st wf bs found))))) (giving-is k.facts g)
+      ∙ ap (unless_lost rest) (source-is g u ty bs wf found fresh h gv l)
+      ∙ ap (λ c. cond c after (rest after)) l
+
+  clause-step : (b : Branch) (more : List Branch) (s u v : TypedForm) (place : Place) (result : Ty) (widened : List Bool) (bs : List Binding) (wf : Frame) (found : Option Fault)
+      → wf.side ≡ Some (record { place = place; ty = type_of s }) → Answered bs rule.an_operand (rule.test_of b) u
+      → Calls k (operator_set k.facts an_op.Eq 2) (type_of s ∷ type_of u ∷ []) result widened → IsBelow k result boolean → Answered bs rule.a_value (rule.value_of b) v
+      → clauses k.facts (map (judged_branch k.facts) (b ∷ more)) (st wf bs found)
+      ≡ clauses k.facts (map (judged_branch k.facts) more) (st (record wf { first = wf.first ++ u ∷ []; second = wf.second ++ v ∷ []; calls = wf.calls ++ chosen (operator_set k.facts an_op.Eq 2) widened ∷ [] }) bs found)
+  unfolding clauses
+  clause-step b more s u v place result widened bs wf found side h c bl i =
+      let rest = clauses k.facts (map (judged_branch k.facts) more) in
+      ap (λ (a : Arm). rest (ask k.facts a_slot.Second a_want.Value a.value (take_test k.facts a.test.place (said a.test (st wf bs found))))) (arm-is k.facts b)
+      ∙ ap (λ (x : State). rest (ask k.facts a_slot.Second a_want.Value (judged k.facts (rule.value_of b)) x)) (test-is (rule.test_of b) s u place result widened bs wf found side h c bl)
+      ∙ ap rest (ask-is rule.a_value a_want.Value a_slot.Second (rule.value_of b) v bs (record wf { first = wf.first ++ u ∷ []; calls = wf.calls ++ chosen (operator_set k.facts an_op.Eq 2) widened ∷ [] }) found value_ i.0 i.1)
+
+  case-step : (name : Option (Place × NameId)) (b : TypeBranch) (more : List TypeBranch) (v : TypedForm) (bs : List Binding) (wf : Frame) (found : Option Fault)
+      → Answered (rule.with_clause bs name (rule.clause_type b)) rule.a_value (out-TypeBranch b).value v
+      → cases k.facts name (map (judged_clause k.facts) (b ∷ more)) (st wf bs found) ≡ cases k.facts name (map (judged_clause k.facts) more) (st (kept a_slot.Second v wf) bs found)
+  unfolding cases
+  case-step name b more v bs wf found h =
+      let rest = cases k.facts name (map (judged_clause k.facts) more) in
+      ap (λ (c : Clause). rest (ask_with k.facts name c.ty a_slot.Second c.value (st wf bs found))) (clause-is k.facts b)
+      ∙ ap rest (ask-with-is name (rule.clause_type b) a_slot.Second (out-TypeBranch b).value v bs wf found h)
+
+  catches-is : (branches : List TypeBranch) (s : State) → rule.AreExceptions k branches → catches k.facts (map (judged_clause k.facts) branches) s ≡ s
+  unfolding catches
+  catches-is [] s h = refl
+  catches-is (b ∷ more) s h =
+      let rest = catches k.facts (map (judged_clause k.facts) more) in
+      ap (λ (c : Clause). rest (cond (is_below k.facts c.ty exception) s (record s { frame = is_broken s.frame; found = breaks NOT_AN_EXCEPTION c.place s.found }))) (clause-is k.facts b)
+      ∙ ap (λ c. rest (cond c s (record s { frame = is_broken s.frame; found = breaks NOT_AN_EXCEPTION (out-TypeBranch b).place s.found }))) (D.below (rule.clause_type b) exception h.0)
+      ∙ catches-is more s h.1
+
+  clause-types : (branches : List TypeBranch) → map close_clause_type (map (judged_clause k.facts) branches) ≡ map rule.clause_type branches
+  clause-types [] = refl
+  clause-types (b ∷ more) = ap (λ (c : Clause). c.ty ∷ map close_clause_type (map (judged_clause k.facts) more)) (clause-is k.facts b) ∙ ap (λ (ts : List Ty). rule.clause_type b ∷ ts) (clause-types more)
+
+  giving-names : (gs : List Generator) → map giving_name (map (judged_generator k.facts) gs) ≡ map rule.generator_name gs
+  giving-names [] = refl
+  giving-names (g ∷ more) = ap (λ (x : Giving). giving_name x ∷ map giving_name (map (judged_generator k.facts) more)) (giving-is k.facts g)
+      ∙ ap (λ (ns : List (NameId × Bool)). rule.generator_name g ∷ ns) (giving-names more)
+
+  free-again : (c : Bool) → cond c false true ≡ true → c ≡ false
+  free-again true h = absurd cc
+  free-again false h = refl
+
+  watch-is : (name : Option (Place × NameId)) (bs : List Binding) (wf : Frame) (found : Option Fault) → rule.is_fresh k bs name ≡ true → watch k.facts name (st wf bs found) ≡ st wf bs found
+  unfolding watch
+  watch-is None bs wf found h = refl
+  watch-is (Some (p, name)) bs wf found h = ap (λ c. cond c (shadows p (st wf bs found)) (st wf bs found)) (free-again (is_visible k.facts bs name) h)
+
+  subject-is : (d : Form) (u : TypedForm) (bs : List Binding) (wf : Frame) (found : Option Fault) → Answered bs rule.an_operand d u
+      → take_subject k.facts (judged k.facts d).place (said (judged k.facts d) (st wf bs found)) ≡ st (record (kept a_slot.Head u wf) { side = Some (record { place = (judged k.facts d).place; ty = type_of u }) }) bs found
+  unfolding take_subject said
+  subject-is d u bs wf found h =
+      let p = (judged k.facts d).place in
+      ap (λ (o : Outcome). let v = taken k.facts a_want.Operand p o.seen o.found in st (record (kept_if a_slot.Head v.node wf) { side = side_of p v.node }) bs v.found) (h.0 found)
+      ∙ ap (λ (v : Valued). st (record (kept_if a_slot.Head v.node wf) { side = side_of p v.node }) bs v.found) (taken-is rule.an_operand a_want.Operand p u found operand_ h.1)
+
+  same-reduction : (r : Reduction) → Same (rule.reduction_want r) (reduction_want r)
+  same-reduction a_reduction.Sum = number_
+  same-reduction a_reduction.Product = number_
+  same-reduction a_reduction.Maximum = number_
+  same-reduction a_reduction.Minimum = number_
+  same-reduction a_reduction.Conjunction = truth_
+  same-reduction a_reduction.Disjunction = truth_
+
+  -- ---- assignments
+
+  abbrev pub with_seen : Meaning → Frame → List Binding → Option Fault → State
+  with_seen m w bs found = record { seen = m; frame = w; bindings = bs; found = found }
+
+  target-step : (d : Form) (u : TypedForm) (bs : List Binding) (wf : Frame) (found : Option Fault) → Answers bs d u → rule.is_target k d u ≡ true
+      → take_target k.facts (judged k.facts d) (said (judged k.facts d) (st wf bs found)) ≡ with_seen (a_meaning.Value u) (kept a_slot.Head u wf) bs found
+  unfolding take_target said rule.is_target
+  target-step d u bs wf found a h =
+      let j = judged k.facts d in
+      ap (λ (o : Outcome). targeted j.place (takes_by k.facts j o.seen) o.seen (with_seen o.seen wf bs o.found)) (a found)
+      ∙ ap (λ c. targeted j.place c (a_meaning.Value u) (with_seen (a_meaning.Value u) wf bs found)) (ap (λ c. c && rule.takes_at k.facts (out-TypedForm u)) (target-is d) ∙ h)
+
+  assigned-is : (d : Form) (u w : TypedForm) (m : Meaning) (bs : List Binding) (wf : Frame) (found : Option Fault) → wf.head ≡ Some u → Answered bs (rule.below (type_of u)) d w
+      → take_assigned k.facts (judged k.facts d).place (said (judged k.facts d) (with_seen m wf bs found)) ≡ st (kept a_slot.Last w wf) bs found
+  unfolding take_assigned said as_wanted_below valued
+  assigned-is d u w m bs wf found e h =
+      let p = (judged k.facts d).place in
+      let fin : Valued → State = λ v. st (kept_if a_slot.Last v.node wf) bs v.found in
+      ap (λ (o : Outcome). fin (assigned_valued k.facts p wf.head (with_seen o.seen wf bs o.found))) (h.0 found)
+      ∙ ap (λ (x : Option TypedForm). fin (assigned_valued k.facts p x (with_seen (a_meaning.Value w) wf bs found))) e
+      ∙ ap fin (below-is (type_of u) p w found (D.below _ _ h.1))
+
+  ask-seen : (w : Want) (slot : Slot) (j : Judge) (m : Meaning) (wf : Frame) (bs : List Binding) (found : Option Fault) → ask k.facts slot w j (with_seen m wf bs found) ≡ ask k.facts slot w j (st wf bs found)
+  unfolding ask said
+  ask-seen w slot j m wf bs found = refl
+
+  -- ---- forms of which a part may be lacking
+
+  pub at-level : (e : Form) {x : Form-F Form Item Branch Generator TypeBranch} {y : Form-F Judge Piece Arm Giving Clause} {o : Outcome} (bs : List Binding) (found : Option Fault) (s : State) → out-Form e ≡ x → mapped x ≡ y
+      → inside k.facts y (begin bs found) ≡ s → close_at k.facts y s.frame bs s.found ≡ o → (judged k.facts e).answer bs found ≡ o
+  at-level e {y = y} bs found s is same parts closes = ap (λ (j : Judge). j.answer bs found) (judged-out e ∙ ap (λ z. judge_form k.facts (mapped z)) is ∙ ap (judge_form k.facts) same)
+      ∙ ap (λ (t : State). close_at k.facts y t.frame bs t.found) parts ∙ closes
+
+  mapped-case : (p : Place) (s : Form) (branches : List Branch) (other : Option Form)
+      → mapped (Form-F.Case p s branches other) ≡ Form-F.Case p (judged k.facts s) (map (judged_branch k.facts) branches) (option_map (judged k.facts) other)
+  mapped-case p s branches None = refl
+  mapped-case p s branches (Some d) = refl
+
+  mapped-typecase : (p spot : Place) (name : NameId) (s : Form) (branches : List TypeBranch) (other : Option Form)
+      → mapped (Form-F.Typecase p spot name s branches other) ≡ Form-F.Typecase p spot name (judged k.facts s) (map (judged_clause k.facts) branches) (option_map (judged k.facts) other)
+  mapped-typecase p spot name s branches None = refl
+  mapped-typecase p spot name s branches (Some d) = refl
+
+  mapped-try : (p : Place) (b : Form) (name : Option (Place × NameId)) (branches : List TypeBranch) (last : Option Form)
+      → mapped (Form-F.Try p b name branches last) ≡ Form-F.Try p (judged k.facts b) name (map (judged_clause k.facts) branches) (option_map (judged k.facts) last)
+  mapped-try p b name branches None = refl
+  mapped-try p b name branches (Some d) = refl
+
+  -- ---- whole forms
+
+  abbrev pub ItemsLeave : List Binding → List Item → List TypedForm → Type 0
+  ItemsLeave bs is ts = (wf : Frame) (found : Option Fault) → wf.lost ≡ false → Reaches (items k.facts (map (judged_item k.facts) is) (st wf bs found)) (record wf { first = wf.first ++ ts }) found
+
+  mutual
+    pub has-answered : {bs : List Binding} {e : Form} {t : TypedForm} → rule.Has k (Calls k) bs e t → (found : Option Fault) → (judged k.facts e).answer bs found ≡ value t found
+    has-answered {bs = bs} {e = e} (rule.number p n is te) found = at e bs found (st opened bs found) is refl (ap (λ u. value u found) (sym te))
+    has-answered {bs = bs} {e = e} (rule.words p n is te) found = at e bs found (st opened bs found) is refl (ap (λ u. value u found) (sym te))
+    has-answered {bs = bs} {e = e} (rule.truth p b is te) found = at e bs found (st opened bs found) is refl (ap (λ u. value u found) (sym te))
+    has-answered {bs = bs} {e = e} (rule.receiver p o is own te) found = at e bs found (st opened bs found) is refl (ap (λ x. receiver p x found) own ∙ ap (λ u. value u found) (sym te))
+    has-answered {bs = bs} {e = e} (rule.local p name b is s te) found = at e bs found (st opened bs found) is refl (closes-name p name bs found (a_binding b) s ∙ ap (λ u. value u found) (sym te))
+    has-answered {bs = bs} {e = e} (rule.own p name o f is s te) found = at e bs found (st opened bs found) is refl (closes-name p name bs found (a_field o f) s ∙ ap (λ u. value u found) (sym te))
+    has-answered {bs = bs} {e = e} (rule.top p name n v is s te) found = at e bs found (st opened bs found) is refl (closes-name p name bs found (a_variable n v) s ∙ ap (λ u. value u found) (sym te))
+    has-answered {bs = bs} {e = e} (rule.single p name o is s te) found = at e bs found (st opened bs found) is refl (closes-name p name bs found (a_single o) s ∙ ap (λ u. value u found) (sym te))
+    has-answered {bs = bs} {e = e} {t = t} (rule.parens p d is h) found =
+        let a = as-answered h in
+        at e bs found (st (kept a_slot.Head t opened) bs found) is (ask-is rule.a_value a_want.Value a_slot.Head d t bs opened found value_ a.0 a.1) refl
+    has-answered {bs = bs} {e = e} (rule.tuple p es ts is h te) found =
+        at e bs found (st (record opened { first = ts }) bs found) is (firsts-is rule.an_operand a_want.Operand es ts bs found operand_ (each-answered h)) (ap (λ u. value u found) (sym te))
+    has-answered {bs = bs} {e = e} (rule.operator p op es ts result widened is h c te) found =
+        at e bs found (st (record opened { first = ts }) bs found) is (firsts-is rule.an_operand a_want.Operand es ts bs found operand_ (each-answered h))
+        (closes-operator (operator_set k.facts op (length ts)) ts p result widened found c ∙ ap (λ u. value u found) (sym te))
+    has-answered {bs = bs} {e = e} (rule.chain p ops es ts cs is h c te) found =
+        let left = chain-is ops es ts cs bs found c (each-answered h) in
+        at e bs found (st left.0 bs found) is left.1 (closes-chain left.0 ts cs found left.2 left.3 left.4 ∙ ap (λ u. value u found) (sym te))
+    has-answered {bs = bs} {e = e} {t = t} (rule.beside p es ps is h s) found =
+        at e bs found (st (record opened { parts = ps }) bs found) is (parts-answered h opened found) (beside_is_computed k D ps t s found)
+    has-answered {bs = bs} {e = e} {t = t} (rule.run p es ps is h b) found =
+        at e bs found (st (record opened { parts = ps }) bs found) is (parts-answered h opened found) (run_is_computed k D ps t b found)
+    has-answered {bs = bs} {e = e} (rule.fill p ty n v u w is hu hw te) found =
+        let a = as-answered hu in let b = as-answered hw in
+        at e bs found (st (kept a_slot.Last w (kept a_slot.Head u opened)) bs found) is
+        (ap (ask_below k.facts ty (judged k.facts v)) (ask-is (rule.below zz32) a_want.Small a_slot.Head n u bs opened found small_ a.0 a.1)
+        ∙ ask-below-is ty v w bs (kept a_slot.Head u opened) found b.0 (D.below _ _ b.1))
+        (ap (λ x. value x found) (sym te))
+    has-answered {bs = bs} {e = e} (rule.block p is ts ty eq h te) found =
+        let r = items-answered h opened found refl in
+        at e bs found (st (record opened { first = ts }) r.0 found) eq r.1 (ap (λ (x : Ty). value (a_typed.Block x ts) found) (block-type h) ∙ ap (λ u. value u found) (sym te))
+    has-answered {bs = bs} {e = e} {t = t} (rule.do_one p b is h) found =
+        let a = as-answered h in
+        at e bs found (st (kept a_slot.Head t opened) bs found) is (ask-is rule.a_value a_want.Value a_slot.Head b t bs opened found value_ a.0 a.1) refl
+    has-answered {bs = bs} {e = e} (rule.do_also p a b others ts is h te) found =
+        at e bs found (st (record opened { first = ts }) bs found) is (firsts-is (rule.below unit) a_want.Unit (a ∷ b ∷ others) ts bs found unit_ (each-answered h)) (ap (λ u. value u found) (sym te))
+    has-answered {bs = bs} {e = e} (rule.if_alone p branches tests values is h i te) found =
+        at e bs found (st (record opened { first = tests; second = values }) bs found) is
+        (arms-is a_want.Unit (rule.below unit) branches tests values bs opened found unit_ (each-answered h) (each-answered i))
+        (closes-if-alone p tests values found ∙ ap (λ u. value u found) (sym te))
+    has-answered {bs = bs} {e = e} (rule.if_else p branches d tests values u ty is h i hd wide te) found =
+        let a = as-answered hd in
+        at e bs found (st (record opened { first = tests; second = values; last = Some u }) bs found) is
+        (ap (ask k.facts a_slot.Last a_want.Value (judged k.facts d)) (arms-is a_want.Value rule.a_value branches tests values bs opened found value_ (each-answered h) (each-answered i))
+        ∙ ask-is rule.a_value a_want.Value a_slot.Last d u bs (record opened { first = tests; second = values }) found value_ a.0 a.1)
+        (closes-if-else p (judged k.facts d) tests values u ty found wide ∙ ap (λ u. value u found) (sym te))
+    has-answered {bs = bs} {e = e} (rule.while_do p c b u v is hc hb te) found =
+        let x = as-answered hc in let y = as-answered hb in
+        at e bs found (st (kept a_slot.Last v (kept a_slot.Head u opened)) bs found) is
+        (ap (ask k.facts a_slot.Last a_want.Unit (judged k.facts b)) (ask-is rule.a_truth a_want.Truth a_slot.Head c u bs opened found truth_ x.0 x.1)
+        ∙ ask-is (rule.below unit) a_want.Unit a_slot.Last b v bs (kept a_slot.Head u opened) found unit_ y.0 y.1)
+        (ap (λ x. value x found) (sym te))
+    has-answered {bs = bs} {e = e} (rule.for_do p gs b inner us v is hs hb te) found =
+        let a = as-answered hb in
+        at e bs found (st (record opened { first = us; last = Some v }) inner found) is
+        (ap (unless_lost (ask k.facts a_slot.Last a_want.Unit (judged k.facts b))) (sources-answered hs opened found refl)
+        ∙ ask-is (rule.below unit) a_want.Unit a_slot.Last b v inner (record opened { first = us }) found unit_ a.0 a.1)
+        (ap (λ (ns : List (NameId × Bool)). value (a_typed.For unit ns us v) found) (giving-names gs) ∙ ap (λ u. value u found) (sym te))
+    has-answered {bs = bs} {e = e} (rule.case p s branches other u cs tests values w ty is hs hc ho wide te) found =
+        let place = (judged k.facts s).place in
+        let side : Option Side = Some (record { place = place; ty = type_of u }) in
+        at-level e bs found (st (record opened { head = Some u; first = tests; second = values; last = w; calls = cs; side = side }) bs found) is (mapped-case p s branches other)
+        (ap (λ (x : State). ask_if k.facts a_slot.Last a_want.Value (option_map (judged k.facts) other) (clauses k.facts (map (judged_branch k.facts) branches) x)) (subject-is s u bs opened found (as-answered hs))
+        ∙ ap (ask_if k.facts a_slot.Last a_want.Value (option_map (judged k.facts) other)) (clauses-answered hc place (record opened { head = Some u; side = side }) found refl)
+        ∙ ask-if-is rule.a_value a_want.Value other w bs (record opened { head = Some u; first = tests; second = values; calls = cs; side = side }) found value_ refl (else-answered ho))
+        (closes-case p u side cs tests values w ty found wide ∙ ap (λ u. value u found) (sym te))
+    has-answered {bs = bs} {e = e} (rule.typecase p spot name s branches other u values w ty is free hs hc ho wide te) found =
+        let a = as-answered hs in
+        let bound : Option (Place × NameId) = Some (spot, name) in
+        let rest : State → State = λ x. else_with k.facts bound (option_map (judged k.facts) other) (cases k.facts bound (map (judged_clause k.facts) branches) x) in
+        at-level e bs found (st (record opened { head = Some u; second = values; last = w }) bs found) is (mapped-typecase p spot name s branches other)
+        (ap (λ (x : State). unless_lost rest (lost_if_broken (ask k.facts a_slot.Head a_want.Value (judged k.facts s) x))) (watch-is bound bs opened found (ap (λ c. cond c false true) free))
+        ∙ ap (λ (x : State). unless_lost rest (lost_if_broken x)) (ask-is rule.a_value a_want.Value a_slot.Head s u bs opened found value_ a.0 a.1)
+        ∙ ap (else_with k.facts bound (option_map (judged k.facts) other)) (cases-answered hc (record opened { head = Some u }) found)
+        ∙ else-with-is bound u other w bs (record opened { head = Some u; second = values }) found refl refl (else-answered ho))
+        (ap (λ (types : List Ty). typecase_answer k.facts p name types (record opened { head = Some u; second = values; last = w }) found) (clause-types branches)
+        ∙ closes-typecase p name (map rule.clause_type branches) u values w ty found wide ∙ ap (λ u. value u found) (sym te))
+    has-answered {bs = bs} {e = e} (rule.try_catch p b name branches last u values w ty is hb fresh exceptions hc hl wide te) found =
+        let a = as-answered hb in
+        let js = map (judged_clause k.facts) branches in
+        let final : State → State = ask_if k.facts a_slot.Last a_want.Unit (option_map (judged k.facts) last) in
+        let w1 : Frame = record opened { head = Some u } in
+        at-level e bs found (st (record opened { head = Some u; second = values; last = w }) bs found) is (mapped-try p b name branches last)
+        (ap (λ (x : State). final (unless_lost (cases k.facts name js) (catches k.facts js (watch k.facts name x)))) (ask-is rule.a_value a_want.Value a_slot.Head b u bs opened found value_ a.0 a.1)
+        ∙ ap (λ (x : State). final (unless_lost (cases k.facts name js) (catches k.facts js x))) (watch-is name bs w1 found fresh)
+        ∙ ap (λ (x : State). final (unless_lost (cases k.facts name js) x)) (catches-is branches (st w1 bs found) exceptions)
+        ∙ ap final (cases-answered hc w1 found)
+        ∙ ask-if-is (rule.below unit) a_want.Unit last w bs (record opened { head = Some u; second = values }) found unit_ refl (finally-answered hl))
+        (ap (λ (types : List Ty). try_answer k.facts p name types (record opened { head = Some u; second = values; last = w }) found) (clause-types branches)
+        ∙ closes-try p name (map rule.clause_type branches) u values w ty found wide ∙ ap (λ u. value u found) (sym te))
+    has-answered {bs = bs} {e = e} (rule.atomic p d u is h te) found =
+        let a = as-answered h in
+        at e bs found (st (kept a_slot.Head u opened) bs found) is (ask-is rule.a_value a_want.Value a_slot.Head d u bs opened found value_ a.0 a.1) (ap (λ x. value x found) (sym te))
+    has-answered {bs = bs} {e = e} (rule.tryatomic p d u is h te) found =
+        let a = as-answered h in
+        at e bs found (st (kept a_slot.Head u opened) bs found) is (ask-is rule.a_value a_want.Value a_slot.Head d u bs opened found value_ a.0 a.1) (ap (λ x. value x found) (sym te))
+    has-answered {bs = bs} {e = e} (rule.throw p d u is h te) found =
+        let a = as-answered h in
+        at e bs found (st (kept a_slot.Head u opened) bs found) is (ask-is rule.an_exception a_want.Exception a_slot.Head d u bs opened found exception_ a.0 a.1) (ap (λ x. value x found) (sym te))
+    has-answered {bs = bs} {e = e} (rule.function p ps d inner u is b h te) found =
+        let a = as-answered h in
+        at e bs found (st (kept a_slot.Head u opened) inner found) is
+        (ap (unless_lost (ask k.facts a_slot.Head a_want.Value (judged k.facts d))) (binds-is b opened found refl)
+        ∙ ask-is rule.a_value a_want.Value a_slot.Head d u inner opened found value_ a.0 a.1)
+        (ap (λ x. value x found) (sym te))
+    has-answered {bs = bs} {e = e} (rule.reduce p r g d inner s u is hs h te) found =
+        let a = as-answered h in
+        at e bs found (st (record opened { first = s ∷ []; last = Some u }) inner found) is
+        (ap (unless_lost (ask k.facts a_slot.Last (reduction_want r) (judged k.facts d))) (sources-answered hs opened found refl)
+        ∙ ask-is (rule.reduction_want r) (reduction_want r) a_slot.Last d u inner (record opened { first = s ∷ [] }) found (same-reduction r) a.0 a.1)
+        (ap (λ (x : Giving). reduced k.facts r x (s ∷ []) u found) (giving-is k.facts g) ∙ ap (λ x. value x found) (sym te))
+    has-answered {bs = bs} {e = e} (rule.assign p d v sign u w is none hd target h te) found =
+        let place = (judged k.facts d).place in
+        let seen = with_seen (a_meaning.Value u) (kept a_slot.Head u opened) bs found in
+        at e bs found (st (kept a_slot.Last w (kept a_slot.Head u opened)) bs found) is
+        (ap (assigned_part k.facts (rule.update_operator sign) (judged k.facts v)) (target-step d u bs opened found (has-answered hd) target)
+        ∙ ap (λ (x : Option Op). assigned_part k.facts x (judged k.facts v) seen) none
+        ∙ assigned-is v u w (a_meaning.Value u) bs (kept a_slot.Head u opened) found refl (as-answered h))
+        (closes-assign place sign u w found none ∙ ap (λ x. value x found) (sym te))
+    has-answered {bs = bs} {e = e} (rule.update p d v sign op u w result widened is some hd target h c b te) found =
+        let place = (judged k.facts d).place in
+        let a = as-answered h in
+        let seen = with_seen (a_meaning.Value u) (kept a_slot.Head u opened) bs found in
+        at e bs found (st (kept a_slot.Last w (kept a_slot.Head u opened)) bs found) is
+        (ap (assigned_part k.facts (rule.update_operator sign) (judged k.facts v)) (target-step d u bs opened found (has-answered hd) target)
+        ∙ ap (λ (x : Option Op). assigned_part k.facts x (judged k.facts v) seen) some
+        ∙ ask-seen a_want.Operand a_slot.Last (judged k.facts v) (a_meaning.Value u) (kept a_slot.Head u opened) bs found
+        ∙ ask-is rule.an_operand a_want.Operand a_slot.Last v w bs (kept a_slot.Head u opened) found operand_ a.0 a.1)
+        (closes-update place sign op u w result widened found some c b ∙ ap (λ x. value x found) (sym te))
+
+    as-answered : {bs : List Binding} {want : rule.Want} {e : Form} {t : TypedForm} → rule.HasAs k (Calls k) bs want e t → Answered bs want e t
+    as-answered (rule.suits h s) = (has-answered h, s)
+
+    each-answered : {bs : List Binding} {want : rule.Want} {es : List Form} {ts : List TypedForm} → rule.HasEach k (Calls k) bs want es ts → AllAnswered bs want es ts
+    each-answered {bs = bs} {want = want} (rule.no_part e1 e2) = none-asked bs want e1 e2
+    each-answered {bs = bs} {want = want} (rule.part_ d ds u us e1 e2 h rest) = one-asked bs want d ds u us e1 e2 (as-answered h) (each-answered rest)
+
+    items-answered : {bs : List Binding} {is : List Item} {ts : List TypedForm} {ty : Ty} → rule.HasItems k (Calls k) bs is ts ty → ItemsLeave bs is ts
+    items-answered {bs = bs} (rule.no_item e1 e2 e3) wf found l =
+        (bs, ap (λ (x : List Item). items k.facts (map (judged_item k.facts) x) (st wf bs found)) e1 ∙ no-items (st wf bs found)
+        ∙ ap (λ (x : List TypedForm). st (record wf { first = x }) bs found) (sym (nothing_behind wf.first) ∙ ap (λ (x : List TypedForm). wf.first ++ x) (sym e2)))
+    items-answered {bs = bs} (rule.last_item i d u e1 e2 h e3 e4) wf found l =
+        let a = as-answered h in
+        (bs, ap (λ (x : List Item). items k.facts (map (judged_item k.facts) x) (st wf bs found)) e1 ∙ last-piece (judged_item k.facts i) (st wf bs found)
+        ∙ ap (λ (x : Piece). item k.facts a_want.Value x (st wf bs found)) (item-out i e2)
+        ∙ ask-is rule.a_value a_want.Value a_slot.First d u bs wf found value_ a.0 a.1
+        ∙ ap (λ (x : List TypedForm). st (record wf { first = wf.first ++ x }) bs found) (sym e3))
+    items-answered {bs = bs} (rule.expression i j more d u us e1 e2 h rest e3) wf found l =
+        let a = as-answered h in
+        let r = items-answered rest (kept a_slot.First u wf) found l in
+        (r.0, ap (λ (x : List Item). items k.facts (map (judged_item k.facts) x) (st wf bs found)) e1
+        ∙ unit_go_on (judged_item k.facts i) (judged_item k.facts j) (map (judged_item k.facts) more) (st wf bs found) (kept a_slot.First u wf) bs found
+        (ap (λ (x : Piece). item k.facts a_want.Unit x (st wf bs found)) (item-out i e2) ∙ ask-is (rule.below unit) a_want.Unit a_slot.First d u bs wf found unit_ a.0 a.1) l
+        ∙ r.1
+        ∙ ap (λ (x : List TypedForm). st (record wf { first = x }) r.0 found) (one_behind wf.first us u ∙ ap (λ (x : List TypedForm). wf.first ++ x) (sym e3)))
+    items-answered {bs = bs} (rule.declared i more p name mutable want d u us e1 e2 fresh h rest e3) wf found l =
+        let a = as-answered h in
+        let b : Binding = record { name = name; place = p; ty = want; mutable = mutable } in
+        let t = a_typed.Bind unit name mutable want u in
+        let r = items-answered rest (kept a_slot.First t wf) found l in
+        (r.0, ap (λ (x : List Item). items k.facts (map (judged_item k.facts) x) (st wf bs found)) e1
+        ∙ go_on (judged_item k.facts i) (map (judged_item k.facts) more) (st wf bs found) (kept a_slot.First t wf) (bs ++ b ∷ []) found
+        (λ (w : Want). ap (λ (x : Piece). item k.facts w x (st wf bs found)) (item-out i e2)
+        ∙ ap (bind k.facts b) (initial-is name mutable want d u bs wf found a.0 (D.below _ _ a.1))
+        ∙ bind-is b bs (kept a_slot.First t wf) found fresh) l
+        ∙ r.1
+        ∙ ap (λ (x : List TypedForm). st (record wf { first = x }) r.0 found) (one_behind wf.first us t ∙ ap (λ (x : List TypedForm). wf.first ++ x) (sym e3)))
+    items-answered {bs = bs} (rule.declared_all i more p names want d new inner u us e1 e2 parts b h rest e3) wf found l =
+        let a = as-answered h in
+        let j = judged k.facts d in
+        let t = a_typed.Binds unit (map rule.name_and_type new) u in
+        let r = items-answered rest (kept a_slot.First t wf) found l in
+        (r.0, ap (λ (x : List Item). items k.facts (map (judged_item k.facts) x) (st wf bs found)) e1
+        ∙ go_on (judged_item k.facts i) (map (judged_item k.facts) more) (st wf bs found) (kept a_slot.First t wf) inner found
+        (λ (w : Want). ap (λ (x : Piece). item k.facts w x (st wf bs found)) (item-out i e2)
+        ∙ ap (λ (x : Option (List Binding)). bind_parts k.facts x (take_initials k.facts p want x j.place (said j (st wf bs found)))) parts
+        ∙ ap (bind_all k.facts new) (initials-is p new want d u bs wf found a.0 (D.below _ _ a.1))
+        ∙ binds-is b (kept a_slot.First t wf) found l) l
+        ∙ r.1
+        ∙ ap (λ (x : List TypedForm). st (record wf { first = x }) r.0 found) (one_behind wf.first us t ∙ ap (λ (x : List TypedForm). wf.first ++ x) (sym e3)))
+
+    sources-answered : {bs inner : List Binding} {gs : List Generator} {us : List TypedForm} → rule.HasSources k (Calls k) bs gs inner us → (wf : Frame) (found : Option Fault) → wf.lost ≡ false
+        → sources k.facts (map (judged_generator k.facts) gs) (st wf bs found) ≡ st (record wf { first = wf.first ++ us }) inner found
+    sources-answered {bs = bs} {inner = inner} (rule.no_source e1 e2 e3) wf found l =
+        ap (λ (x : List Generator). sources k.facts (map (judged_generator k.facts) x) (st wf bs found)) e1 ∙ no-sources (st wf bs found)
+        ∙ ap (λ (x : List Binding). st wf x found) (sym e2)
+        ∙ ap (λ (x : List TypedForm). st (record wf { first = x }) inner found) (sym (nothing_behind wf.first) ∙ ap (λ (x : List TypedForm). wf.first ++ x) (sym e3))
+    sources-answered {bs = bs} {inner = inner} (rule.source g more u vs ty e1 e2 fresh h gv rest) wf found l =
+        ap (λ (x : List Generator). sources k.facts (map (judged_generator k.facts) x) (st wf bs found)) e1
+        ∙ source-step g more u ty bs wf found fresh (as-answered h) gv l
+        ∙ sources-answered rest (kept a_slot.First u wf) found l
+        ∙ ap (λ (x : List TypedForm). st (record wf { first = x }) inner found) (one_behind wf.first vs u ∙ ap (λ (x : List TypedForm). wf.first ++ x) (sym e2))
+
+    clauses-answered : {bs : List Binding} {s : TypedForm} {branches : List Branch} {cs : List Chosen} {tests values : List TypedForm} → rule.HasClauses k (Calls k) bs s branches cs tests values
+        → (place : Place) (wf : Frame) (found : Option Fault) → wf.side ≡ Some (record { place = place; ty = type_of s })
+        → clauses k.facts (map (judged_branch k.facts) branches) (st wf bs found) ≡ st (record wf { first = wf.first ++ tests; second = wf.second ++ values; calls = wf.calls ++ cs }) bs found
+    clauses-answered {bs = bs} {cs = cs} {tests = tests} {values = values} (rule.no_clause e1 e2 e3 e4) place wf found side =
+        ap (λ (x : List Branch). clauses k.facts (map (judged_branch k.facts) x) (st wf bs found)) e1 ∙ no-clauses (st wf bs found)
+        ∙ ap (λ (x : List TypedForm). st (record wf { first = x }) bs found) (sym (nothing_behind wf.first) ∙ ap (λ (x : List TypedForm). wf.first ++ x) (sym e3))
+        ∙ ap (λ (x : List TypedForm). st (record wf { first = wf.first ++ tests; second = x }) bs found) (sym (nothing_behind wf.second) ∙ ap (λ (x : List TypedForm). wf.second ++ x) (sym e4))
+        ∙ ap (λ (x : List Chosen). st (record wf { first = wf.first ++ tests; second = wf.second ++ values; calls = x }) bs found) (sym (nothing_behind wf.calls) ∙ ap (λ (x : List Chosen). wf.calls ++ x) (sym e2))
+    clauses-answered {bs = bs} {s = s} {cs = cs} {tests = tests} {values = values} (rule.clause b more u v result widened ds us vs e1 h c bl i rest e2 e3 e4) place wf found side =
+        let call = chosen (operator_set k.facts an_op.Eq 2) widened in
+        let w : Frame = record wf { first = wf.first ++ u ∷ []; second = wf.second ++ v ∷ []; calls = wf.calls ++ call ∷ [] } in
+        ap (λ (x : List Branch). clauses k.facts (map (judged_branch k.facts) x) (st wf bs found)) e1
+        ∙ clause-step b more s u v place result widened bs wf found side (as-answered h) c bl (as-answered i)
+        ∙ clauses-answered rest place w found side
+        ∙ ap (λ (x : List TypedForm). st (record w { first = x; second = w.second ++ vs; calls = w.calls ++ ds }) bs found) (one_behind wf.first us u ∙ ap (λ (x : List TypedForm). wf.first ++ x) (sym e3))
+        ∙ ap (λ (x : List TypedForm). st (record w { first = wf.first ++ tests; second = x; calls = w.calls ++ ds }) bs found) (one_behind wf.second vs v ∙ ap (λ (x : List TypedForm). wf.second ++ x) (sym e4))
+        ∙ ap (λ (x : List Chosen). st (record w { first = wf.first ++ tests; second = wf.second ++ values; calls = x }) bs found) (one_behind wf.calls ds call ∙ ap (λ (x : List Chosen). wf.calls ++ x) (sym e2))
+
+    cases-answered : {bs : List Binding} {name : Option (Place × NameId)} {branches : List TypeBranch} {values : List TypedForm} → rule.HasCases k (Calls k) bs name branches values → (wf : Frame) (found : Option Fault)
+        → cases k.facts name (map (judged_clause k.facts) branches) (st wf bs found) ≡ st (record wf { second = wf.second ++ values }) bs found
+    cases-answered {bs = bs} {name = name} (rule.no_case e1 e2) wf found =
+        ap (λ (x : List TypeBranch). cases k.facts name (map (judged_clause k.facts) x) (st wf bs found)) e1 ∙ no-cases name (st wf bs found)
+        ∙ ap (λ (x : List TypedForm). st (record wf { second = x }) bs found) (sym (nothing_behind wf.second) ∙ ap (λ (x : List TypedForm). wf.second ++ x) (sym e2))
+    cases-answered {bs = bs} {name = name} (rule.case_ b more v vs e1 e2 h rest) wf found =
+        ap (λ (x : List TypeBranch). cases k.facts name (map (judged_clause k.facts) x) (st wf bs found)) e1
+        ∙ case-step name b more v bs wf found (as-answered h)
+        ∙ cases-answered rest (kept a_slot.Second v wf) found
+        ∙ ap (λ (x : List TypedForm). st (record wf { second = x }) bs found) (one_behind wf.second vs v ∙ ap (λ (x : List TypedForm). wf.second ++ x) (sym e2))
+
+    else-answered : {bs : List Binding} {other : Option Form} {w : Option TypedForm} → rule.HasElse k (Calls k) bs other w → MayBeAnswered bs rule.a_value other w
+    else-answered {bs = bs} (rule.no_else e1 e2) = none-behind bs rule.a_value e1 e2
+    else-answered {bs = bs} (rule.else_ d u e1 h e2) = some-behind bs rule.a_value d u e1 e2 (as-answered h)
+
+    finally-answered : {bs : List Binding} {last : Option Form} {w : Option TypedForm} → rule.HasFinally k (Calls k) bs last w → MayBeAnswered bs (rule.below unit) last w
+    finally-answered {bs = bs} (rule.no_finally e1 e2) = none-behind bs (rule.below unit) e1 e2
+    finally-answered {bs = bs} (rule.finally_ d u e1 h e2) = some-behind bs (rule.below unit) d u e1 e2 (as-answered h)
+
+    parts-answered : {bs : List Binding} {es : List Form} {ps : List Part} → rule.HasParts k (Calls k) bs es ps → (wf : Frame) (found : Option Fault)
+        → elements (map (judged k.facts) es) (st wf bs found) ≡ st (record wf { parts = wf.parts ++ ps }) bs found
+    parts-answered {bs = bs} (rule.no_element e1 e2) wf found =
+        ap (λ (x : List Form). elements (map (judged k.facts) x) (st wf bs found)) e1 ∙ no-elements (st wf bs found)
+        ∙ ap (λ (x : List Part). st (record wf { parts = x }) bs found) (sym (nothing_behind wf.parts) ∙ ap (λ (x : List Part). wf.parts ++ x) (sym e2))
+    parts-answered {bs = bs} (rule.element_ d ds m qs e1 e2 h rest) wf found =
+        ap (λ (x : List Form). elements (map (judged k.facts) x) (st wf bs found)) e1
+        ∙ elements-step d ds bs wf found m (means-answered h)
+        ∙ parts-answered rest (record wf { parts = wf.parts ++ rule.part d m ∷ [] }) found
+        ∙ ap (λ (x : List Part). st (record wf { parts = x }) bs found) (one_behind wf.parts qs (rule.part d m) ∙ ap (λ (x : List Part). wf.parts ++ x) (sym e2))
+
+    means-answered : {bs : List Binding} {e : Form} {m : Meaning} → rule.Means k (Calls k) bs e m → Element bs e m
+    means-answered {bs = bs} {e = e} (rule.a_named name (rule.names p is s) me) found =
+        (a_meaning.Functions name, at e bs found (st opened bs found) is refl (closes-name p name bs found functions s), sym me, refl)
+    means-answered {bs = bs} {e = e} (rule.a_valued t h me) found =
+        let a = as-answered h in
+        (a_meaning.Value t, a.0 found, ap (λ c. cond c a_meaning.Unknown (a_meaning.Value t)) a.1 ∙ sym me, ap (λ c. cond c (breaks MISMATCH (judged k.facts e).place found) found) a.1)
+    means-answered {bs = bs} {e = e} (rule.an_index p i t is h me) found =
+        let a = as-answered h in
+        (a_meaning.Index t, at e bs found (st (kept a_slot.Head t opened) bs found) is (ask-is (rule.below zz32) a_want.Small a_slot.Head i t bs opened found small_ a.0 a.1) refl, sym me, refl)
+    means-answered {bs = bs} {e = e} (rule.an_exponent p d t is h me) found =
+        let a = as-answered h in
+        (a_meaning.Exponent t, at e bs found (st (kept a_slot.Head t opened) bs found) is (ask-is rule.an_operand a_want.Operand a_slot.Head d t bs opened found operand_ a.0 a.1) refl, sym me, refl)
+    means-answered {bs = bs} {e = e} (rule.a_field_of p spot name is me) found = (a_meaning.Field spot name, at e bs found (st opened bs found) is refl refl, sym me, refl)
+    means-answered {bs = bs} {e = e} (rule.a_method_of p spot name es ts is h me) found =
+        (a_meaning.Method spot name ts, at e bs found (st (record opened { first = ts }) bs found) is (firsts-is rule.an_operand a_want.Operand es ts bs found operand_ (each-answered h)) refl, sym me, refl)
+
+pub has_is_answered : HasIsAnswered
+has_is_answered k D bs e t h found = has-answered k D h found
+
+pub one_typed_form : OneTypedForm
+one_typed_form k D bs e t u h i = value-once (sym (has_is_answered k D bs e t h None) ∙ has_is_answered k D bs e u i None)

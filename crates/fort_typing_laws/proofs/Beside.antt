@@ -1,12 +1,12 @@
 -- What comes of a juxtaposition, as the judge computes it.
-use Rattle.std.proofs.Common.{◌≡◌, ℕ, Bool, true, false, cond, not, ◌||◌, List, [], ◌∷◌, slice_get, Option, Some, None, Ok, refl, ap, ◌∙◌, sym, subst}
+use Rattle.std.proofs.Common.{◌≡◌, Bool, true, false, cond, List, Option, None, Ok, refl, ap, ◌∙◌, sym}
 use Rattle.fort_base.specs.declared.refusal.Place.{Place}
 use Rattle.fort_base.specs.declared.rules.TheConstants.{MISMATCH}
 use Rattle.fort_juxt.specs.declared.elements.Grouping.{Grouping, out-Grouping, map-Grouping, fold_out-Grouping}
 use Rattle.fort_juxt.specs.declared.elements.Grouping.TheOpen.{Grouping-F}
 use Rattle.fort_typed_form.specs.declared.typed_form.TypedForm.{TypedForm}
 use Rattle.fort_known.specs.declared.fault.Fault.{Fault}
-use Rattle.fort_known.specs.Known.{Facts, Knows}
+use Rattle.fort_known.specs.Known.{Knows}
 use Rattle.fort_typing_rules.specs.declared.part.Part.{Part}
 use Rattle.fort_typing_rules.specs.declared.part.Meaning.{Meaning}
 use Rattle.fort_typing_rules.specs.declared.part.Meaning.TheVariants as a_meaning
@@ -15,7 +15,6 @@ use Rattle.fort_typing_rules.specs.Calls.{Calls}
 use Rattle.fort_typing_rules.specs.Elements as rule
 use Rattle.fort_judge.specs.declared.frame.Made.{Made}
 use Rattle.fort_judge.specs.Faults.{breaks}
-use Rattle.fort_judge.specs.Tests.{value}
 use Rattle.fort_judge.specs.Joining.{applied, joined, Grown, grown, barred_found, as_grown, Grows, grows_by, grows_two, grows_one, grows_at, grows, grown_outcome, grouped_by, beside}
 use Rattle.fort_typing_laws.specs.Deciding.{Decides}
 use Rattle.fort_typing_laws.specs.Laws.{BesideIsComputed, OneBeside}

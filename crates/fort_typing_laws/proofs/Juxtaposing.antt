@@ -1,16 +1,13 @@
 -- The next rewriting of a run and the grouping of elements, as the judge computes them.
-use Rattle.std.proofs.Common.{◌≡◌, ℕ, zero, suc, ◌+◌, ◌≤◌, Bool, true, false, cond, List, [], ◌∷◌, ◌++◌, length, drop, Option, Some, None, Result, Ok, Err, refl, arith, ap, ◌∙◌, sym, subst}
+use Rattle.std.proofs.Common.{◌≡◌, ℕ, zero, suc, ◌+◌, Bool, true, false, cond, List, [], ◌∷◌, ◌++◌, length, Some, None, Ok, Err, refl, arith, ap, ◌∙◌, sym}
 use Rattle.fort_base.specs.declared.rules.TheConstants.{FUNCTION_AS_VALUE, TIGHT_ARGUMENT}
-use Rattle.fort_base.specs.declared.refusal.CheckFault.{CheckFault}
 use Rattle.fort_base.specs.declared.refusal.CheckFault.TheVariants as a_fault
 use Rattle.fort_juxt.specs.declared.elements.Element.{Element}
-use Rattle.fort_juxt.specs.declared.elements.Grouping.{Grouping}
-use Rattle.fort_juxt.specs.declared.elements.Tight.{Tight}
 use Rattle.fort_juxt.specs.declared.elements.Tight.TheVariants as a_rewriting
 use Rattle.fort_juxt.specs.First.{IsFirst, IsNowhere}
-use Rattle.fort_juxt.specs.Tight.{takes, postfix_first, is_argument, Rewrites, applies, no_argument, applies_postfix, postfix_of_name, joins, first_is_name, second_is_name, whole}
-use Rattle.fort_juxt.specs.Loose.{Chunk, name_ends, joined, chunk_groups, Groups, name_alone, grouped}
-use Rattle.fort_juxt.specs.Walks.{chunks_of, groups_from}
+use Rattle.fort_juxt.specs.Tight.{takes, postfix_first, is_argument, applies, no_argument, applies_postfix, postfix_of_name, joins, first_is_name, second_is_name, whole}
+use Rattle.fort_juxt.specs.Loose.{Chunk, name_ends, joined, chunk_groups, name_alone, grouped}
+use Rattle.fort_juxt.specs.Walks.{chunks_of}
 use Rattle.fort_juxt.proofs.Divisions.{one_division, divided}
 use Rattle.fort_judge.specs.Juxtaposing.{first_place, element_at, joining, fixing_at, fixing, applying, next_rewriting, first_of, grouping_by, grouping_of}
 use Rattle.fort_typing_laws.specs.Laws.{RewritingIsComputed, GroupingIsComputed}

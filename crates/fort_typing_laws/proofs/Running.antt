@@ -1,21 +1,16 @@
 -- What comes of two elements and of a run, as the judge computes it.
-use Rattle.std.proofs.Common.{◌≡◌, ℕ, zero, suc, ◌+◌, ◌≤◌, Bool, true, false, cond, not, ◌||◌, List, [], ◌∷◌, ◌++◌, length, Option, Some, None, Ok, refl, arith, ap, ◌∙◌, sym, subst}
+use Rattle.std.proofs.Common.{◌≡◌, ℕ, zero, suc, ◌≤◌, Bool, true, false, cond, not, ◌||◌, List, [], ◌∷◌, ◌++◌, length, Option, Some, None, refl, arith, ap, ◌∙◌, sym, subst}
 use Rattle.fort_base.specs.declared.ids.SetId.{SetId}
 use Rattle.fort_base.specs.declared.refusal.Place.{Place}
 use Rattle.fort_base.specs.declared.refusal.Rule.{Rule}
-use Rattle.fort_base.specs.declared.rules.TheConstants.{UNKNOWN_NAME, MISMATCH}
-use Rattle.fort_base.specs.declared.ty.Ty.{Ty, out-Ty}
+use Rattle.fort_base.specs.declared.rules.TheConstants.{MISMATCH}
+use Rattle.fort_base.specs.declared.ty.Ty.{Ty}
 use Rattle.fort_base.specs.declared.ty.Ty.TheOpen.{Ty-F}
-use Rattle.fort_ops.specs.declared.op.Op.TheVariants as an_op
-use Rattle.fort_juxt.specs.declared.elements.Tight.TheVariants as a_rewriting
 use Rattle.fort_typed_form.specs.declared.typed_form.TypedForm.{TypedForm}
 use Rattle.fort_typed_form.specs.declared.typed_form.TypedForm.TheVariants as a_typed
 use Rattle.fort_known.specs.declared.fault.Fault.{Fault}
-use Rattle.fort_known.specs.Known.{Facts, Knows}
-use Rattle.fort_known.specs.Names.{field_at}
-use Rattle.fort_known.specs.Sets.{operator_set, function_set, method_set, is_method}
-use Rattle.fort_called.specs.Called.{called}
-use Rattle.fort_called.specs.declared.called.Called.{Called}
+use Rattle.fort_known.specs.Known.{Knows}
+use Rattle.fort_known.specs.Sets.{is_method}
 use Rattle.fort_typing_rules.specs.declared.part.Part.{Part}
 use Rattle.fort_typing_rules.specs.declared.part.Meaning.{Meaning}
 use Rattle.fort_typing_rules.specs.declared.part.Meaning.TheVariants as a_meaning
@@ -26,8 +21,8 @@ use Rattle.fort_judge.specs.declared.frame.Made.{Made}
 use Rattle.fort_judge.specs.declared.frame.Made.TheVariants as a_made
 use Rattle.fort_judge.specs.declared.frame.Outcome.{Outcome}
 use Rattle.fort_judge.specs.Faults.{breaks}
-use Rattle.fort_judge.specs.Tests.{value, untyped}
-use Rattle.fort_judge.specs.Joining.{call, call_by, operation, operation_by, value_applied, applied_to, applied, joined_by, joined, indexed, read, method_called, followed_by, followed, Around, around, more_before, Further, on, stop, replaced, replaced_in, rewritten_by, rewritten, further, run_at, run_within, run}
+use Rattle.fort_judge.specs.Tests.{value}
+use Rattle.fort_judge.specs.Joining.{call, call_by, operation, operation_by, value_applied, applied_to, applied, joined_by, joined, indexed, read, method_called, followed_by, followed, Around, around, more_before, on, replaced, replaced_in, rewritten_by, rewritten, further, run_at, run_within, run}
 use Rattle.fort_typing_laws.specs.Deciding.{Decides}
 use Rattle.fort_typing_laws.specs.Laws.{RunIsComputed, OneRun}
 use Rattle.fort_typing_laws.proofs.Juxtaposing.{rewriting_is_computed}

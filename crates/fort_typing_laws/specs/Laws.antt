@@ -7,6 +7,8 @@ use Rattle.fort_juxt.specs.declared.elements.Grouping.{Grouping}
 use Rattle.fort_juxt.specs.declared.elements.Tight.{Tight}
 use Rattle.fort_juxt.specs.Tight.{Rewrites}
 use Rattle.fort_juxt.specs.Loose.{Groups}
+use Rattle.fort_scope.specs.declared.binding.Binding.{Binding}
+use Rattle.fort_form.specs.declared.form.Form.{Form}
 use Rattle.fort_typed_form.specs.declared.typed_form.TypedForm.{TypedForm}
 use Rattle.fort_known.specs.declared.fault.Fault.{Fault}
 use Rattle.fort_known.specs.Known.{Knows}
@@ -14,9 +16,11 @@ use Rattle.fort_typing_rules.specs.declared.part.Part.{Part}
 use Rattle.fort_typing_rules.specs.Types.{IsWidest, HasNoWidest}
 use Rattle.fort_typing_rules.specs.Calls.{Calls}
 use Rattle.fort_typing_rules.specs.Elements.{Becomes, Stands}
+use Rattle.fort_typing_rules.specs.Typing.{Has}
 use Rattle.fort_judge.specs.Tests.{value, widest}
 use Rattle.fort_judge.specs.Joining.{run, beside}
 use Rattle.fort_judge.specs.Juxtaposing.{next_rewriting, grouping_of}
+use Rattle.fort_judge.specs.Judging.{judged}
 use Rattle.fort_typing_laws.specs.Deciding.{Decides}
 
 -- The next rewriting of a run, or its refusal, is the one that is computed.
@@ -46,3 +50,11 @@ OneBeside = (k : Knows) → Decides k → (ps : List Part) (t u : TypedForm) →
 pub record WidestIsComputed : Type 0 where
   pub one : (k : Knows) → Decides k → (types : List Ty) (t : Ty) → IsWidest k types t → widest k.facts types ≡ Some t
   pub none : (k : Knows) → Decides k → (types : List Ty) → HasNoWidest k types → widest k.facts types ≡ None
+
+-- A form that becomes a typed form by the rules is answered with it, and the first broken rule so far is left as it was.
+abbrev pub HasIsAnswered : Type 0
+HasIsAnswered = (k : Knows) → Decides k → (bs : List Binding) (e : Form) (t : TypedForm) → Has k (Calls k) bs e t → (found : Option Fault) → (judged k.facts e).answer bs found ≡ value t found
+
+-- So in the same bindings a form becomes one typed form at most.
+abbrev pub OneTypedForm : Type 0
+OneTypedForm = (k : Knows) → Decides k → (bs : List Binding) (e : Form) (t u : TypedForm) → Has k (Calls k) bs e t → Has k (Calls k) bs e u → t ≡ u

@@ -1,5 +1,5 @@
 //! Laws of typing.
-ghost use Rattle.fort_typing_laws.specs.Laws.{BesideIsComputed, GroupingIsComputed, OneBeside, OneRun, RewritingIsComputed, RunIsComputed, WidestIsComputed};
+ghost use Rattle.fort_typing_laws.specs.Laws.{BesideIsComputed, GroupingIsComputed, HasIsAnswered, OneBeside, OneRun, OneTypedForm, RewritingIsComputed, RunIsComputed, WidestIsComputed};
 
 /// A law: the next rewriting of a run, the grouping of elements, and the refusals of both are those that the judge computes.
 pub fn juxtaposition_is_computed()
@@ -23,4 +23,11 @@ pub fn beside_is_computed()
 /// A law: the widest type of several, or that there is none, is what the judge computes.
 pub fn widest_is_computed()
     ensures { WidestIsComputed }
+{}
+
+/// A law: likewise of a whole form: one that becomes a typed form by the rules is answered with it, and no broken rule is found in it; and so in the
+/// same bindings it becomes one at most.
+pub fn has_is_answered()
+    ensures answered { HasIsAnswered }
+    ensures one { OneTypedForm }
 {}
