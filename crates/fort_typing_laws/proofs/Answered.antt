@@ -902,48 +902,58 @@ module _ (k : Knows) (D : Decides k) where
     each-answered {bs = bs} {want = want} (rule.part_ d ds u us e1 e2 h rest) = one-asked bs want d ds u us e1 e2 (as-answered h) (each-answered rest)
 
     items-answered : {bs : List Binding} {is : List Item} {ts : List TypedForm} {ty : Ty} → rule.HasItems k (Calls k) bs is ts ty → ItemsLeave bs is ts
-    items-answered {bs = bs} (rule.no_item e1 e2 e3) wf found l =
-        (bs, ap (λ (x : List Item). items k.facts (map (judged_item k.facts) x) (st wf bs found)) e1 ∙ no-items (st wf bs found)
-        ∙ ap (λ (x : List TypedForm). st (record wf { first = x }) bs found) (sym (nothing_behind wf.first) ∙ ap (λ (x : List TypedForm). wf.first ++ x) (sym e2)))
+    items-answered {bs = bs} (rule.no_item e1 e2 e3) wf found l = (
+      bs,
+      ap (λ (x : List Item). items k.facts (map (judged_item k.facts) x) (st wf bs found)) e1 ∙ no-items (st wf bs found)
+          ∙ ap (λ (x : List TypedForm). st (record wf { first = x }) bs found) (sym (nothing_behind wf.first) ∙ ap (λ (x : List TypedForm). wf.first ++ x) (sym e2)),
+    )
     items-answered {bs = bs} (rule.last_item i d u e1 e2 h e3 e4) wf found l =
-        let a = as-answered h in
-        (bs, ap (λ (x : List Item). items k.facts (map (judged_item k.facts) x) (st wf bs found)) e1 ∙ last-piece (judged_item k.facts i) (st wf bs found)
-        ∙ ap (λ (x : Piece). item k.facts a_want.Value x (st wf bs found)) (item-out i e2)
-        ∙ ask-is rule.a_value a_want.Value a_slot.First d u bs wf found value_ a.0 a.1
-        ∙ ap (λ (x : List TypedForm). st (record wf { first = wf.first ++ x }) bs found) (sym e3))
+        let a = as-answered h in (
+          bs,
+          ap (λ (x : List Item). items k.facts (map (judged_item k.facts) x) (st wf bs found)) e1 ∙ last-piece (judged_item k.facts i) (st wf bs found)
+              ∙ ap (λ (x : Piece). item k.facts a_want.Value x (st wf bs found)) (item-out i e2)
+              ∙ ask-is rule.a_value a_want.Value a_slot.First d u bs wf found value_ a.0 a.1
+              ∙ ap (λ (x : List TypedForm). st (record wf { first = wf.first ++ x }) bs found) (sym e3),
+        )
     items-answered {bs = bs} (rule.expression i j more d u us e1 e2 h rest e3) wf found l =
         let a = as-answered h in
-        let r = items-answered rest (kept a_slot.First u wf) found l in
-        (r.0, ap (λ (x : List Item). items k.facts (map (judged_item k.facts) x) (st wf bs found)) e1
-        ∙ unit_go_on (judged_item k.facts i) (judged_item k.facts j) (map (judged_item k.facts) more) (st wf bs found) (kept a_slot.First u wf) bs found
-        (ap (λ (x : Piece). item k.facts a_want.Unit x (st wf bs found)) (item-out i e2) ∙ ask-is (rule.below unit) a_want.Unit a_slot.First d u bs wf found unit_ a.0 a.1) l
-        ∙ r.1
-        ∙ ap (λ (x : List TypedForm). st (record wf { first = x }) r.0 found) (one_behind wf.first us u ∙ ap (λ (x : List TypedForm). wf.first ++ x) (sym e3)))
+        let r = items-answered rest (kept a_slot.First u wf) found l in (
+          r.0,
+          ap (λ (x : List Item). items k.facts (map (judged_item k.facts) x) (st wf bs found)) e1
+              ∙ unit_go_on (judged_item k.facts i) (judged_item k.facts j) (map (judged_item k.facts) more) (st wf bs found) (kept a_slot.First u wf) bs found
+              (ap (λ (x : Piece). item k.facts a_want.Unit x (st wf bs found)) (item-out i e2) ∙ ask-is (rule.below unit) a_want.Unit a_slot.First d u bs wf found unit_ a.0 a.1) l
+              ∙ r.1
+              ∙ ap (λ (x : List TypedForm). st (record wf { first = x }) r.0 found) (one_behind wf.first us u ∙ ap (λ (x : List TypedForm). wf.first ++ x) (sym e3)),
+        )
     items-answered {bs = bs} (rule.declared i more p name mutable want d u us e1 e2 fresh h rest e3) wf found l =
         let a = as-answered h in
         let b : Binding = record { name = name; place = p; ty = want; mutable = mutable } in
         let t = a_typed.Bind unit name mutable want u in
-        let r = items-answered rest (kept a_slot.First t wf) found l in
-        (r.0, ap (λ (x : List Item). items k.facts (map (judged_item k.facts) x) (st wf bs found)) e1
-        ∙ go_on (judged_item k.facts i) (map (judged_item k.facts) more) (st wf bs found) (kept a_slot.First t wf) (bs ++ b ∷ []) found
-        (λ (w : Want). ap (λ (x : Piece). item k.facts w x (st wf bs found)) (item-out i e2)
-        ∙ ap (bind k.facts b) (initial-is name mutable want d u bs wf found a.0 (D.below _ _ a.1))
-        ∙ bind-is b bs (kept a_slot.First t wf) found fresh) l
-        ∙ r.1
-        ∙ ap (λ (x : List TypedForm). st (record wf { first = x }) r.0 found) (one_behind wf.first us t ∙ ap (λ (x : List TypedForm). wf.first ++ x) (sym e3)))
+        let r = items-answered rest (kept a_slot.First t wf) found l in (
+          r.0,
+          ap (λ (x : List Item). items k.facts (map (judged_item k.facts) x) (st wf bs found)) e1
+              ∙ go_on (judged_item k.facts i) (map (judged_item k.facts) more) (st wf bs found) (kept a_slot.First t wf) (bs ++ b ∷ []) found
+              (λ (w : Want). ap (λ (x : Piece). item k.facts w x (st wf bs found)) (item-out i e2)
+              ∙ ap (bind k.facts b) (initial-is name mutable want d u bs wf found a.0 (D.below _ _ a.1))
+              ∙ bind-is b bs (kept a_slot.First t wf) found fresh) l
+              ∙ r.1
+              ∙ ap (λ (x : List TypedForm). st (record wf { first = x }) r.0 found) (one_behind wf.first us t ∙ ap (λ (x : List TypedForm). wf.first ++ x) (sym e3)),
+        )
     items-answered {bs = bs} (rule.declared_all i more p names want d new inner u us e1 e2 parts b h rest e3) wf found l =
         let a = as-answered h in
         let j = judged k.facts d in
         let t = a_typed.Binds unit (map rule.name_and_type new) u in
-        let r = items-answered rest (kept a_slot.First t wf) found l in
-        (r.0, ap (λ (x : List Item). items k.facts (map (judged_item k.facts) x) (st wf bs found)) e1
-        ∙ go_on (judged_item k.facts i) (map (judged_item k.facts) more) (st wf bs found) (kept a_slot.First t wf) inner found
-        (λ (w : Want). ap (λ (x : Piece). item k.facts w x (st wf bs found)) (item-out i e2)
-        ∙ ap (λ (x : Option (List Binding)). bind_parts k.facts x (take_initials k.facts p want x j.place (said j (st wf bs found)))) parts
-        ∙ ap (bind_all k.facts new) (initials-is p new want d u bs wf found a.0 (D.below _ _ a.1))
-        ∙ binds-is b (kept a_slot.First t wf) found l) l
-        ∙ r.1
-        ∙ ap (λ (x : List TypedForm). st (record wf { first = x }) r.0 found) (one_behind wf.first us t ∙ ap (λ (x : List TypedForm). wf.first ++ x) (sym e3)))
+        let r = items-answered rest (kept a_slot.First t wf) found l in (
+          r.0,
+          ap (λ (x : List Item). items k.facts (map (judged_item k.facts) x) (st wf bs found)) e1
+              ∙ go_on (judged_item k.facts i) (map (judged_item k.facts) more) (st wf bs found) (kept a_slot.First t wf) inner found
+              (λ (w : Want). ap (λ (x : Piece). item k.facts w x (st wf bs found)) (item-out i e2)
+              ∙ ap (λ (x : Option (List Binding)). bind_parts k.facts x (take_initials k.facts p want x j.place (said j (st wf bs found)))) parts
+              ∙ ap (bind_all k.facts new) (initials-is p new want d u bs wf found a.0 (D.below _ _ a.1))
+              ∙ binds-is b (kept a_slot.First t wf) found l) l
+              ∙ r.1
+              ∙ ap (λ (x : List TypedForm). st (record wf { first = x }) r.0 found) (one_behind wf.first us t ∙ ap (λ (x : List TypedForm). wf.first ++ x) (sym e3)),
+        )
 
     sources-answered : {bs inner : List Binding} {gs : List Generator} {us : List TypedForm} → rule.HasSources k (Calls k) bs gs inner us → (wf : Frame) (found : Option Fault) → wf.lost ≡ false
         → sources k.facts (map (judged_generator k.facts) gs) (st wf bs found) ≡ st (record wf { first = wf.first ++ us }) inner found
