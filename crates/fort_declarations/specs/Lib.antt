@@ -1,3 +1,4 @@
 pub mod Names
 pub mod Methods
 pub mod Declarations
+pub mod Whole

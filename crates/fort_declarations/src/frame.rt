@@ -3,7 +3,9 @@
 ghost use Rattle.std.specs.Prelude.{◌≡◌, IfOk};
 ghost use Rattle.fort_reading.specs.Parser.{Reads};
 ghost use Rattle.fort_declarations.specs.Declarations as spec;
+ghost use Rattle.fort_declarations.specs.Whole.{ReadsWhole};
 
+use crate::parsed::Parsed;
 use crate::syntax::Syntax;
 use fort_base::{Bytes, List, Memory};
 use fort_reading::{Cursor, Fault};
@@ -75,8 +77,8 @@ pub fn whole(
     texts: &[Bytes],
     depth: usize,
     floor: usize,
-) -> Result<Component, Fault>
-    ensures { Reads ((spec.whole names.now depth texts.now).run tokens.old) result tokens.new }
+) -> Result<Parsed, Fault>
+    ensures { ReadsWhole ((spec.whole names.now depth texts.now).run tokens.old) result tokens.new }
 {
     let syntax = Syntax {
         alloc,
@@ -85,8 +87,9 @@ pub fn whole(
         floor,
     };
     let component = syntax.component(tokens, texts)?;
+    let parsed = Parsed { component };
     match tokens.next() {
-        None => Ok(component),
+        None => Ok(parsed),
         Some(_) => Err(Fault::Syntax),
     }
 }

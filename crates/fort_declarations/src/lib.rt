@@ -5,7 +5,9 @@ mod declarations;
 mod frame;
 mod methods;
 mod names;
+mod parsed;
 mod syntax;
 mod values;
 
 pub use frame::whole;
+pub use parsed::Parsed;

@@ -15,8 +15,8 @@ use std::alloc::Global;
 /// Asks the rules of the grammar of a file's tokens, and no others.
 ///
 /// It answers `Ok` where they are a component that passes no limit; else `Refused` with the first rule that is broken
-/// and its place: 202, 201 or 203. Its only other error is want of memory, which it also answers where the headers of
-/// `while` and `for` stand so deep in one another that the stack may not hold them. The chapter is "Grammar".
+/// and its place: 202, 201 or 203. Its only other error is want of memory, which it also answers where runs stand
+/// more than 400 deep in one another, as they can in the headers of `while` and `for`. The chapter is "Grammar".
 pub fn check_grammar(alloc: Global, tokens: &Tokens) -> Result<(), CheckFault>
     ensures { GrammarAnswers tokens.now result }
 {
@@ -32,17 +32,18 @@ pub fn check_grammar(alloc: Global, tokens: &Tokens) -> Result<(), CheckFault>
 /// it prints, in UTF-8, where it is a greeting, and with `None` where it is none. Else it answers `Refused` with
 /// the first rule that is broken and its place. The order is: 202, 201 or 203; the first of 301 to 304; the lowest of 401
 /// to 407; the lower of 451 and 452; the first pair that breaks one of 501 to 506; 507. Its only other error is want of
-/// memory, which it also answers where the headers of `while` and `for` stand so deep in one another that the stack may
-/// not hold them. The chapters are "Grammar", "Operators", "Types", "Members", "Overload rules" and "What is built".
+/// memory, which it also answers where runs stand more than 400 deep in one another, as they can in the headers of `while`
+/// and `for`. The chapters are "Grammar", "Operators", "Types", "Members", "Overload rules" and "What is built".
 pub fn check_tokens(alloc: Global, tokens: &Tokens) -> Result<Option<Bytes>, CheckFault>
     ensures { Answers tokens.now result }
 {
-    let component = component(alloc, tokens)?;
-    groups(alloc, &component)?;
-    let types = hierarchy(alloc, &component)?;
-    let members = members(alloc, &component, &types)?;
+    let parsed = component(alloc, tokens)?;
+    let component = &parsed.component;
+    groups(alloc, component)?;
+    let types = hierarchy(alloc, component)?;
+    let members = members(alloc, component, &types)?;
     overloads(alloc, &types, &members)?;
-    Ok(copy(alloc, greeting(tokens, &component))?)
+    Ok(copy(alloc, greeting(tokens, component))?)
 }
 
 /// A text of its own, where there is one.

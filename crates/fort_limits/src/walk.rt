@@ -41,12 +41,9 @@ impl Walk {
     }
 
     /// Takes a form into account that has so many parts, and may have at most so many.
-    #[tactic(auto, using(crate::proofs::EarliestLaws::earliest_none))]
     pub(crate) fn count(&mut self, most: usize, count: usize, at: Place)
         ensures { self.new.earliest ≡ earliest self.old.earliest (over most count at) }
     {
-        if count > most {
-            self.see(at);
-        }
+        self.see_late(fort_openers::over(most, count, at));
     }
 }

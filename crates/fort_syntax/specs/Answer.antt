@@ -8,6 +8,7 @@ use Rattle.fort_base.specs.declared.refusal.CheckFault.TheVariants as a_fault
 use Rattle.fort_token.specs.declared.token.Token.{Token}
 use Rattle.fort_token.specs.declared.token.Tokens.{Tokens}
 use Rattle.fort_tree.specs.declared.declarations.Component.{Component}
+use Rattle.fort_declarations.specs.declared.parsed.Parsed.{Parsed}
 use Rattle.fort_tree.specs.Component.{HasTree, NumbersAreIn}
 use Rattle.fort_tree.specs.Tokens.{Spellings}
 use Rattle.fort_tree.specs.Openers.{AllShallow, FirstDeep}
@@ -62,8 +63,8 @@ pub data Breaks (tokens : Tokens) : ℕ → Place → Type 0 where
   TooMany : {at : Place} → AllShallow tokens.list → (c : Component) → HasTree tokens c → BreaksLimit c at → Breaks tokens TOO_MANY.0 at
 
 -- What reading answers, depth and limits aside: the one tree, or 201 at a fault of tokens that have none.
-abbrev pub Reading : Tokens → Result Component CheckFault → Type 0
-Reading tokens (Ok c) = HasTree tokens c × ((other : Component) → HasTree tokens other → other ≡ c)
+abbrev pub Reading : Tokens → Result Parsed CheckFault → Type 0
+Reading tokens (Ok p) = HasTree tokens p.component × ((other : Component) → HasTree tokens other → other ≡ p.component)
 Reading tokens (Err (a_fault.Refused rule at)) = (rule.0 ≡ SYNTAX.0) × HasNone tokens × IsFault tokens at
 Reading tokens (Err a_fault.Memory) = Unit {0}
 
@@ -84,8 +85,8 @@ fault_place ts (Some t) = t.place
 fault_place ts None = place_or_first (last_token ts)
 
 -- What is answered is what the tokens have.
-abbrev pub Answers : Tokens → Result Component CheckFault → Type 0
-Answers tokens (Ok c) = IsComponent tokens c
+abbrev pub Answers : Tokens → Result Parsed CheckFault → Type 0
+Answers tokens (Ok p) = IsComponent tokens p.component
 Answers tokens (Err (a_fault.Refused rule at)) = Breaks tokens rule.0 at
 Answers tokens (Err a_fault.Memory) = Unit {0}
 

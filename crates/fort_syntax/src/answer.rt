@@ -4,12 +4,11 @@ ghost use Rattle.fort_syntax.specs.Answer.{Answers, Reading, fault_place, last_t
 
 use fort_base::rules::{SYNTAX, TOO_DEEP, TOO_MANY};
 use fort_base::{CheckFault, Place};
-use fort_declarations::whole;
+use fort_declarations::{Parsed, whole};
 use fort_limits::first_crowded;
 use fort_openers::first_deep;
 use fort_reading::{Cursor, Fault};
 use fort_token::{Token, Tokens};
-use fort_tree::Component;
 use std::alloc::Global;
 
 /// How many parts may be open in one another before the stack is held to be too small for more.
@@ -25,21 +24,21 @@ const BEGINNING: Place = Place { line: 1, column: 1 };
 /// too early, or at 1:1 where there are none; else with 203 at the earliest place of what passes a limit. Its only
 /// other error is want of memory, which it also answers where runs stand more than 400 deep in one another, as they
 /// can in the headers of `while` and `for`.
-pub fn component(alloc: Global, tokens: &Tokens) -> Result<Component, CheckFault>
+pub fn component(alloc: Global, tokens: &Tokens) -> Result<Parsed, CheckFault>
     ensures { Answers tokens.now result }
 {
     if let Some(place) = first_deep(tokens.list.as_slice()) {
         return Err(CheckFault::Refused(TOO_DEEP, place));
     }
-    let component = read(alloc, tokens)?;
-    match first_crowded(&component) {
+    let parsed = read(alloc, tokens)?;
+    match first_crowded(&parsed.component) {
         Some(place) => Err(CheckFault::Refused(TOO_MANY, place)),
-        None => Ok(component),
+        None => Ok(parsed),
     }
 }
 
 /// The component that the tokens are, limits aside.
-fn read(alloc: Global, tokens: &Tokens) -> Result<Component, CheckFault>
+fn read(alloc: Global, tokens: &Tokens) -> Result<Parsed, CheckFault>
     ensures { Reading tokens.now result }
 {
     let list = tokens.list.as_slice();
@@ -54,7 +53,7 @@ fn read(alloc: Global, tokens: &Tokens) -> Result<Component, CheckFault>
         depth,
         floor,
     ) {
-        Ok(component) => Ok(component),
+        Ok(parsed) => Ok(parsed),
         Err(Fault::Memory) => Err(CheckFault::Memory),
         Err(Fault::TooDeep) => unreachable!(),
         Err(Fault::Syntax) => Err(CheckFault::Refused(SYNTAX, place_of(list, cursor.next()))),

@@ -4,7 +4,7 @@ use Rattle.fort_syntax.proofs.answer.read.Goals as goal
 
 pub returns-in-Ok : goal.returns-in-Ok
 returns-in-Ok c =
-    read_whole c.args.tokens.now _ _ _ _ c.in-Ok.component _ c.as_slice.ensures c.as_slice-2.ensures (c.new-cursor.ensures ∙ c.as_slice-list.ensures)
+    read_whole c.args.tokens.now _ _ _ _ c.in-Ok.parsed.component _ c.as_slice.ensures c.as_slice-2.ensures (c.new-cursor.ensures ∙ c.as_slice-list.ensures)
     c.in-Ok.ensures
 
 pub returns-in-Err-Syntax : goal.returns-in-Err-Syntax
