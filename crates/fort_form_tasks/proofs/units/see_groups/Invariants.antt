@@ -1,0 +1,8 @@
+use Rattle.std.proofs.Common.{take}
+use Rattle.std.specs.Prelude.{map}
+use Rattle.fort_formed.specs.Source.{Source}
+use Rattle.fort_form_tasks.specs.Tasks.{Sees, formed_group}
+use Rattle.fort_form_tasks.proofs.units.see_groups.Given as goal
+
+abbrev pub invariant-loop-part : goal.invariant-loop-part
+invariant-loop-part l = (k : Source) → Sees k (map (formed_group k l.flat) (take l.part-index l.parts)) l.initial.tasks l.tasks
