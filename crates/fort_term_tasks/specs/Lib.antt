@@ -1,0 +1,4 @@
+pub mod States
+pub mod Builds
+pub mod Tasks
+pub mod Forms
