@@ -1,4 +1,10 @@
 pub mod Juxtaposing
+pub mod Types
+pub mod Walks
+pub mod Widened
+pub mod Deciding
+pub mod Written
+pub mod Typed
 pub mod Wide
 pub mod Running
 pub mod Beside

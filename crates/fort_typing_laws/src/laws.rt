@@ -1,4 +1,5 @@
 //! Laws of typing.
+ghost use Rattle.fort_typing_laws.specs.Deciding.{IsDecided};
 ghost use Rattle.fort_typing_laws.specs.Laws.{BesideIsComputed, GroupingIsComputed, HasIsAnswered, OneBeside, OneRun, OneTypedForm, RewritingIsComputed, RunIsComputed, WidestIsComputed};
 
 /// A law: the next rewriting of a run, the grouping of elements, and the refusals of both are those that the judge computes.
@@ -7,8 +8,12 @@ pub fn juxtaposition_is_computed()
     ensures grouping { GroupingIsComputed }
 {}
 
-/// A law, where what is computed of types and calls is what the rules say of them: a run that becomes a typed form is answered with it, and so it
-/// becomes one at most.
+/// A law: of an accepted component, what is computed of two of its types and of a call with arguments of its types is what the rules say of them.
+pub fn accepted_is_decided()
+    ensures { IsDecided }
+{}
+
+/// A law, of an accepted component: a run that becomes a typed form is answered with it, and so it becomes one at most.
 pub fn run_is_computed()
     ensures answered { RunIsComputed }
     ensures one { OneRun }
