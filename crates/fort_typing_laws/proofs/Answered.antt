@@ -117,7 +117,7 @@ module _ (k : Knows) (A : IsAccepted k) where
   unfolding suits
   large-suits = search (rules, ty_lemmas)
 
-  suits-is : (want : rule.Want) (w : Want) (t : Ty) → Same want w → rule.Suits k want t → IsType k t → suits k.facts w t ≡ true
+  pub suits-is : (want : rule.Want) (w : Want) (t : Ty) → Same want w → rule.Suits k want t → IsType k t → suits k.facts w t ≡ true
   unfolding suits
   suits-is _ _ t value_ h T = refl
   suits-is _ _ t operand_ h T = ap not h

@@ -9,3 +9,8 @@ pub mod Wide
 pub mod Running
 pub mod Beside
 pub mod Answered
+pub mod Firsts
+pub mod Asking
+pub mod Views
+pub mod Steps
+pub mod Branching

@@ -1,0 +1,94 @@
+-- The chapter "Typing", which refusal comes: what a form answers is what it is by the rules, and what it finds is the first of the rules that it breaks.
+use Rattle.std.specs.Prelude.{◌≡◌, ◌⊎◌, Bool, true, false, List, [], ◌∷◌, ◌++◌, map, Option, Some, None}
+use Rattle.std.specs.List.{AllByRecursion}
+use Rattle.fort_base.specs.declared.ids.NameId.{NameId}
+use Rattle.fort_scope.specs.declared.binding.Binding.{Binding}
+use Rattle.fort_form.specs.declared.form.Form.{Form, out-Form}
+use Rattle.fort_form.specs.declared.form.Form.TheOpen.{Form-F, Item-F}
+use Rattle.fort_form.specs.declared.form.Item.{Item, out-Item}
+use Rattle.fort_form.specs.declared.form.Branch.{Branch}
+use Rattle.fort_form.specs.declared.form.Generator.{Generator, out-Generator}
+use Rattle.fort_form.specs.declared.form.TypeBranch.{TypeBranch, out-TypeBranch}
+use Rattle.fort_typed_form.specs.declared.typed_form.TypedForm.{TypedForm}
+use Rattle.fort_known.specs.declared.fault.Fault.{Fault}
+use Rattle.fort_known.specs.Known.{Knows}
+use Rattle.fort_typing_rules.specs.declared.part.Meaning.{Meaning}
+use Rattle.fort_typing_rules.specs.declared.part.Meaning.TheVariants as a_meaning
+use Rattle.fort_typing_rules.specs.Types.{zz32}
+use Rattle.fort_typing_rules.specs.Calls.{Calls}
+use Rattle.fort_typing_rules.specs.Typing.{Has, Names, Means, below, an_operand, postfix_at, test_of, value_of}
+use Rattle.fort_typing_rules.specs.Breaking.{Breaks, BreaksAs, BreaksSome}
+use Rattle.fort_judge.specs.declared.frame.Outcome.{Outcome}
+use Rattle.fort_judge.specs.Faults.{goes_first}
+use Rattle.fort_judge.specs.Judging.{judged}
+use Rattle.fort_typing_laws.specs.Deciding.{IsAccepted}
+use Rattle.fort_typing_laws.specs.Written.{IsWritten, AreBound}
+
+-- Of what was found before and some broken rules, this is found now: one of them, which none of them goes before; or nothing where there is none.
+pub record IsFirst (found : Option Fault) (P : Fault → Type 0) (new : Option Fault) : Type 0 where
+  pub some : (f : Fault) → new ≡ Some f → (found ≡ Some f) ⊎ P f
+  pub none : new ≡ None → (found ≡ None) × ((f : Fault) → P f → ⊥)
+  pub first : (f g : Fault) → new ≡ Some f → (found ≡ Some g) ⊎ P g → goes_first g f ≡ false
+
+-- A postfix breaks a rule in its parts.
+abbrev pub PostfixBreaks : Knows → List Binding → Form-F Form Item Branch Generator TypeBranch → Fault → Type 0
+PostfixBreaks k bs (Form-F.Subscript p i) x = BreaksAs k bs (below zz32) i x
+PostfixBreaks k bs (Form-F.Power p d) x = BreaksAs k bs an_operand d x
+PostfixBreaks k bs (Form-F.Method p at name es) x = BreaksSome k bs an_operand es x
+PostfixBreaks k bs _ x = ⊥
+
+-- A form breaks a rule, as an expression or as a postfix.
+abbrev pub FormBreaks : Knows → List Binding → Form → Fault → Type 0
+FormBreaks k bs e x = Breaks k bs e x ⊎ PostfixBreaks k bs (out-Form e) x
+
+-- What a form is in these bindings: of a type, a function set's name, a postfix, or nothing since a rule is broken.
+pub data IsSeen (k : Knows) (bs : List Binding) (e : Form) (m : Meaning) : Type 0 where
+  a_type : (t : TypedForm) → m ≡ a_meaning.Value t → Has k (Calls k) bs e t → IsSeen k bs e m
+  a_name : (name : NameId) → m ≡ a_meaning.Functions name → Names k bs e name → IsSeen k bs e m
+  a_postfix : postfix_at (out-Form e) ≡ true → Means k (Calls k) bs e m → IsSeen k bs e m
+  a_fault : (x : Fault) → m ≡ a_meaning.Unknown → FormBreaks k bs e x → IsSeen k bs e m
+
+-- What a form answers is exact.
+pub record Answers (k : Knows) (bs : List Binding) (e : Form) (found : Option Fault) (o : Outcome) : Type 0 where
+  pub seen : IsSeen k bs e o.seen
+  pub first : IsFirst found (FormBreaks k bs e) o.found
+
+-- It is so in all bindings whose types are the component's, whatever was found before.
+abbrev pub IsExact : Knows → Form → Type 0
+IsExact k e = (bs : List Binding) → AreBound k bs → (found : Option Fault) → Answers k bs e found ((judged k.facts e).answer bs found)
+
+-- An expression is exact, and is no postfix.
+abbrev pub IsExactExpression : Knows → Form → Type 0
+IsExactExpression k e = (postfix_at (out-Form e) ≡ false) × IsExact k e
+
+abbrev pub AreExact : Knows → List Form → Type 0
+AreExact k es = AllByRecursion (IsExactExpression k) es
+
+abbrev pub MayBeExact : Knows → Option Form → Type 0
+MayBeExact k None = Unit {0}
+MayBeExact k (Some e) = IsExactExpression k e
+
+-- The parts of a form are exact expressions; there are as many as the form wants.
+abbrev pub PartsExact : Knows → Form-F Form Item Branch Generator TypeBranch → Type 0
+PartsExact k (Form-F.Number p n) = Unit {0}
+PartsExact k (Form-F.Text p n) = Unit {0}
+PartsExact k (Form-F.Truth p b) = Unit {0}
+PartsExact k (Form-F.Receiver p) = Unit {0}
+PartsExact k (Form-F.Name p name) = Unit {0}
+PartsExact k (Form-F.Parens p e) = IsExactExpression k e
+PartsExact k (Form-F.Tuple p es) = AreExact k es
+PartsExact k (Form-F.Operator p op es) = AreExact k es
+PartsExact k (Form-F.Subscript p e) = IsExactExpression k e
+PartsExact k (Form-F.Power p e) = IsExactExpression k e
+PartsExact k (Form-F.Field p at name) = Unit {0}
+PartsExact k (Form-F.Method p at name es) = AreExact k es
+PartsExact k (Form-F.Fill p ty n v) = IsExactExpression k n × IsExactExpression k v
+PartsExact k (Form-F.Do p []) = ⊥
+PartsExact k (Form-F.Do p (b ∷ blocks)) = AreExact k (b ∷ blocks)
+PartsExact k (Form-F.If p branches other) = AreExact k (map test_of branches) × AreExact k (map value_of branches) × MayBeExact k other
+PartsExact k (Form-F.While p c b) = IsExactExpression k c × IsExactExpression k b
+PartsExact k (Form-F.Atomic p e) = IsExactExpression k e
+PartsExact k (Form-F.Tryatomic p e) = IsExactExpression k e
+PartsExact k (Form-F.Throw p e) = IsExactExpression k e
+PartsExact k (Form-F.Fn p ps e) = IsExactExpression k e
+PartsExact k _ = ⊥
