@@ -293,11 +293,11 @@ module _ (k : Knows) (A : IsAccepted k) where
 
   -- ---- bindings
 
-  bind-is : (b : Binding) (bs : List Binding) (wf : Frame) (found : Option Fault) → is_visible k.facts bs b.name ≡ false → bind k.facts b (st wf bs found) ≡ st wf (bs ++ b ∷ []) found
+  pub bind-is : (b : Binding) (bs : List Binding) (wf : Frame) (found : Option Fault) → is_visible k.facts bs b.name ≡ false → bind k.facts b (st wf bs found) ≡ st wf (bs ++ b ∷ []) found
   unfolding bind
   bind-is b bs wf found h = ap (λ c. cond c (shadows b.place (st wf bs found)) (st wf (bs ++ b ∷ []) found)) h
 
-  binds-is : {bs new all : List Binding} → rule.Binds k bs new all → (wf : Frame) (found : Option Fault) → wf.lost ≡ false → bind_all k.facts new (st wf bs found) ≡ st wf all found
+  pub binds-is : {bs new all : List Binding} → rule.Binds k bs new all → (wf : Frame) (found : Option Fault) → wf.lost ≡ false → bind_all k.facts new (st wf bs found) ≡ st wf all found
   unfolding bind_all
   binds-is {bs = bs} (rule.none e1 e2) wf found l = ap (λ new. bind_all k.facts new (st wf bs found)) e1 ∙ ap (λ (all : List Binding). st wf all found) (sym e2)
   binds-is {bs = bs} (rule.next b more e fresh rest) wf found l =
@@ -683,11 +683,11 @@ module _ (k : Knows) (A : IsAccepted k) where
       ∙ ap (λ c. rest (cond c s (record s { frame = is_broken s.frame; found = breaks NOT_AN_EXCEPTION (out-TypeBranch b).place s.found }))) (D.below (rule.clause_type b) exception W.0.0 (built_in_type k A 1 (omega arith)) h.0)
       ∙ catches-is more s W.1 h.1
 
-  clause-types : (branches : List TypeBranch) → map close_clause_type (map (judged_clause k.facts) branches) ≡ map rule.clause_type branches
+  pub clause-types : (branches : List TypeBranch) → map close_clause_type (map (judged_clause k.facts) branches) ≡ map rule.clause_type branches
   clause-types [] = refl
   clause-types (b ∷ more) = ap (λ (c : Clause). c.ty ∷ map close_clause_type (map (judged_clause k.facts) more)) (clause-is k.facts b) ∙ ap (λ (ts : List Ty). rule.clause_type b ∷ ts) (clause-types more)
 
-  giving-names : (gs : List Generator) → map giving_name (map (judged_generator k.facts) gs) ≡ map rule.generator_name gs
+  pub giving-names : (gs : List Generator) → map giving_name (map (judged_generator k.facts) gs) ≡ map rule.generator_name gs
   giving-names [] = refl
   giving-names (g ∷ more) = ap (λ (x : Giving). giving_name x ∷ map giving_name (map (judged_generator k.facts) more)) (giving-is k.facts g)
       ∙ ap (λ (ns : List (NameId × Bool)). rule.generator_name g ∷ ns) (giving-names more)
@@ -709,7 +709,7 @@ module _ (k : Knows) (A : IsAccepted k) where
       ap (λ (o : Outcome). let v = taken k.facts a_want.Operand p o.seen o.found in st (record (kept_if a_slot.Head v.node wf) { side = side_of p v.node }) bs v.found) (h.0 found)
       ∙ ap (λ (v : Valued). st (record (kept_if a_slot.Head v.node wf) { side = side_of p v.node }) bs v.found) (taken-is rule.an_operand a_want.Operand p u found operand_ h.1 h.2)
 
-  same-reduction : (r : Reduction) → Same (rule.reduction_want r) (reduction_want r)
+  pub same-reduction : (r : Reduction) → Same (rule.reduction_want r) (reduction_want r)
   same-reduction a_reduction.Sum = number_
   same-reduction a_reduction.Product = number_
   same-reduction a_reduction.Maximum = number_
@@ -949,7 +949,7 @@ module _ (k : Knows) (A : IsAccepted k) where
     each-answered {bs = bs} {want = want} (rule.no_part e1 e2) B W V = none-asked bs want e1 e2
     each-answered {bs = bs} {want = want} (rule.part_ d ds u us e1 e2 h rest) B W V = let F = subst (AllWritten k) e1 W in one-asked bs want d ds u us e1 e2 (as-answered h B F.0 V) (each-answered rest B F.1 V)
 
-    items-answered : {bs : List Binding} {is : List Item} {ts : List TypedForm} {ty : Ty} → rule.HasItems k (Calls k) bs is ts ty → AreBound k bs → AllByRecursion (ItemWritten k) is → ItemsLeave bs is ts
+    pub items-answered : {bs : List Binding} {is : List Item} {ts : List TypedForm} {ty : Ty} → rule.HasItems k (Calls k) bs is ts ty → AreBound k bs → AllByRecursion (ItemWritten k) is → ItemsLeave bs is ts
     items-answered {bs = bs} (rule.no_item e1 e2 e3) B W wf found l = (
       bs,
       ap (λ (x : List Item). items k.facts (map (judged_item k.facts) x) (st wf bs found)) e1 ∙ no-items (st wf bs found)
@@ -1009,7 +1009,7 @@ module _ (k : Knows) (A : IsAccepted k) where
               ∙ ap (λ (x : List TypedForm). st (record wf { first = x }) r.0 found) (one_behind wf.first us t ∙ ap (λ (x : List TypedForm). wf.first ++ x) (sym e3)),
         )
 
-    sources-answered : {bs inner : List Binding} {gs : List Generator} {us : List TypedForm} → rule.HasSources k (Calls k) bs gs inner us → AreBound k bs → AllByRecursion (GeneratorWritten k) gs → (wf : Frame) (found : Option Fault) → wf.lost ≡ false
+    pub sources-answered : {bs inner : List Binding} {gs : List Generator} {us : List TypedForm} → rule.HasSources k (Calls k) bs gs inner us → AreBound k bs → AllByRecursion (GeneratorWritten k) gs → (wf : Frame) (found : Option Fault) → wf.lost ≡ false
         → sources k.facts (map (judged_generator k.facts) gs) (st wf bs found) ≡ st (record wf { first = wf.first ++ us }) inner found
     sources-answered {bs = bs} {inner = inner} (rule.no_source e1 e2 e3) B W wf found l =
         ap (λ (x : List Generator). sources k.facts (map (judged_generator k.facts) x) (st wf bs found)) e1 ∙ no-sources (st wf bs found)
@@ -1023,7 +1023,7 @@ module _ (k : Knows) (A : IsAccepted k) where
         ∙ sources-answered rest (one-bound k A bs _ B (given-typed k A (type_of u) ty a.2 gv)) F.1 (kept a_slot.First u wf) found l
         ∙ ap (λ (x : List TypedForm). st (record wf { first = x }) inner found) (one_behind wf.first vs u ∙ ap (λ (x : List TypedForm). wf.first ++ x) (sym e2))
 
-    clauses-answered : {bs : List Binding} {s : TypedForm} {branches : List Branch} {cs : List Chosen} {tests values : List TypedForm} → rule.HasClauses k (Calls k) bs s branches cs tests values
+    pub clauses-answered : {bs : List Binding} {s : TypedForm} {branches : List Branch} {cs : List Chosen} {tests values : List TypedForm} → rule.HasClauses k (Calls k) bs s branches cs tests values
         → AreBound k bs → AllByRecursion (BranchWritten k) branches → IsType k (type_of s) → (place : Place) (wf : Frame) (found : Option Fault) → wf.side ≡ Some (record { place = place; ty = type_of s })
         → clauses k.facts (map (judged_branch k.facts) branches) (st wf bs found) ≡ st (record wf { first = wf.first ++ tests; second = wf.second ++ values; calls = wf.calls ++ cs }) bs found
     clauses-answered {bs = bs} {cs = cs} {tests = tests} {values = values} (rule.no_clause e1 e2 e3 e4) B W S place wf found side =
@@ -1042,7 +1042,7 @@ module _ (k : Knows) (A : IsAccepted k) where
         ∙ ap (λ (x : List TypedForm). st (record w { first = wf.first ++ tests; second = x; calls = w.calls ++ ds }) bs found) (one_behind wf.second vs v ∙ ap (λ (x : List TypedForm). wf.second ++ x) (sym e4))
         ∙ ap (λ (x : List Chosen). st (record w { first = wf.first ++ tests; second = wf.second ++ values; calls = x }) bs found) (one_behind wf.calls ds call ∙ ap (λ (x : List Chosen). wf.calls ++ x) (sym e2))
 
-    cases-answered : {bs : List Binding} {name : Option (Place × NameId)} {branches : List TypeBranch} {values : List TypedForm} → rule.HasCases k (Calls k) bs name branches values → AreBound k bs → AllByRecursion (ClauseWritten k) branches → (wf : Frame) (found : Option Fault)
+    pub cases-answered : {bs : List Binding} {name : Option (Place × NameId)} {branches : List TypeBranch} {values : List TypedForm} → rule.HasCases k (Calls k) bs name branches values → AreBound k bs → AllByRecursion (ClauseWritten k) branches → (wf : Frame) (found : Option Fault)
         → cases k.facts name (map (judged_clause k.facts) branches) (st wf bs found) ≡ st (record wf { second = wf.second ++ values }) bs found
     cases-answered {bs = bs} {name = name} (rule.no_case e1 e2) B W wf found =
         ap (λ (x : List TypeBranch). cases k.facts name (map (judged_clause k.facts) x) (st wf bs found)) e1 ∙ no-cases name (st wf bs found)

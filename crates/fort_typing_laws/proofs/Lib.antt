@@ -14,3 +14,4 @@ pub mod Asking
 pub mod Views
 pub mod Steps
 pub mod Branching
+pub mod Scopes
