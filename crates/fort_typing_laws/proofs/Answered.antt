@@ -369,7 +369,7 @@ module _ (k : Knows) (A : IsAccepted k) where
   unfolding type_of
   binds-unit names u = search (rules, typed_lemmas)
 
-  block-type : {bs : List Binding} {is : List Item} {ts : List TypedForm} {ty : Ty} → rule.HasItems k (Calls k) bs is ts ty → last_type ts ≡ ty
+  pub block-type : {bs : List Binding} {is : List Item} {ts : List TypedForm} {ty : Ty} → rule.HasItems k (Calls k) bs is ts ty → last_type ts ≡ ty
   block-type (rule.no_item e1 e2 e3) = ap last_type e2 ∙ sym e3
   block-type (rule.last_item i d u e1 e2 h e3 e4) = ap last_type e3 ∙ sym e4
   block-type (rule.expression i j more d u us e1 e2 h rest e3) = let s = some-items rest j more refl in

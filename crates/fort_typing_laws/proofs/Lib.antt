@@ -15,3 +15,4 @@ pub mod Views
 pub mod Steps
 pub mod Branching
 pub mod Scopes
+pub mod Sequences

@@ -60,10 +60,10 @@ bindings_of s = s.bindings
 abbrev pub found_of : State → Option Fault
 found_of s = s.found
 
-not-both : {C : Type 0} {c : Bool} → c ≡ true → c ≡ false → C
+pub not-both : {C : Type 0} {c : Bool} → c ≡ true → c ≡ false → C
 not-both h i = absurd cc
 
-some-not-none : {C : Type 0} {T : Type 0} {x : T} {o : Option T} → o ≡ Some x → o ≡ None → C
+pub some-not-none : {C : Type 0} {T : Type 0} {x : T} {o : Option T} → o ≡ Some x → o ≡ None → C
 some-not-none h i = absurd cc
 
 module _ (k : Knows) (A : IsAccepted k) where
@@ -391,11 +391,11 @@ module _ (k : Knows) (A : IsAccepted k) where
   -- ---- loops and reductions
 
   module _ (bs : List Binding) (B : AreBound k bs) (e : Form) (found : Option Fault) (gs : List Generator) (d : Form) (G : AllByRecursion (GeneratorWritten k) gs) (S : AreSources gs) (W : IsWritten k d) (X : IsExactExpression k d) where
-    abbrev Inside : rule.Want → Fault → Type 0
+    abbrev pub Inside : rule.Want → Fault → Type 0
     Inside want f = (inner : List Binding) × (us : List TypedForm) × rule.HasSources k (Calls k) bs gs inner us × breaking.BreaksAs k inner want d f
 
     -- what stands behind generators
-    behind : (y : Form-F Form Item Branch Generator TypeBranch) → out-Form e ≡ y → (want : rule.Want) (w : Want) → Same want w → (made : List TypedForm → TypedForm → TypedForm)
+    pub behind : (y : Form-F Form Item Branch Generator TypeBranch) → out-Form e ≡ y → (want : rule.Want) (w : Want) → Same want w → (made : List TypedForm → TypedForm → TypedForm)
         → (inside k.facts (mapped k A y) (begin bs found) ≡ unless_lost (ask k.facts a_slot.Last w (judged k.facts d)) (sources k.facts (map (judged_generator k.facts) gs) (st opened bs found)))
         → ((us : List TypedForm) (u : TypedForm) (inner : List Binding) (new : Option Fault) → rule.HasSources k (Calls k) bs gs inner us → close_at k.facts (mapped k A y) (record opened { first = us; last = Some u }) bs new ≡ value (made us u) new)
         → ((x : Frame) (new : Option Fault) → x.broken ≡ true → close_at k.facts (mapped k A y) x bs new ≡ untyped new)
@@ -446,7 +446,7 @@ module _ (k : Knows) (A : IsAccepted k) where
         to f (inl b) = inl (breaking.in_sources p gs d is b)
         to f (inr c) = inl (breaking.in_for p gs d c.0 c.1 is c.2 c.3)
 
-  one-of : {bs inner : List Binding} {g : Generator} {us : List TypedForm} → rule.HasSources k (Calls k) bs (g ∷ []) inner us → (s : TypedForm) × (us ≡ s ∷ [])
+  pub one-of : {bs inner : List Binding} {g : Generator} {us : List TypedForm} → rule.HasSources k (Calls k) bs (g ∷ []) inner us → (s : TypedForm) × (us ≡ s ∷ [])
   one-of (rule.no_source e1 e2 e3) = absurd cc
   one-of (rule.source h more u vs ty e1 e2 fresh a gv rest) = let q : more ≡ [] = cc in (u, e2 ∙ ap (λ (xs : List TypedForm). u ∷ xs) (no-more-of rest q))
     where
