@@ -414,7 +414,7 @@ module _ (k : Knows) (A : IsAccepted k) where
   take_first [] ds = refl
   take_first (b ∷ bs) ds = ap (λ cs. b ∷ cs) (take_first bs ds)
 
-  clause_goes : (bs : List Binding) (name : Option (Place × NameId)) (ty : Ty) → take (length bs) (rule.with_clause bs name ty) ≡ bs
+  pub clause_goes : (bs : List Binding) (name : Option (Place × NameId)) (ty : Ty) → take (length bs) (rule.with_clause bs name ty) ≡ bs
   clause_goes bs None ty = take_whole bs
   clause_goes bs (Some (p, name)) ty = take_first bs _
 
@@ -759,17 +759,17 @@ module _ (k : Knows) (A : IsAccepted k) where
   at-level e {y = y} bs found s is same parts closes = ap (λ (j : Judge). j.answer bs found) (judged-out e ∙ ap (λ z. judge_form k.facts (mapped z)) is ∙ ap (judge_form k.facts) same)
       ∙ ap (λ (t : State). close_at k.facts y t.frame bs t.found) parts ∙ closes
 
-  mapped-case : (p : Place) (s : Form) (branches : List Branch) (other : Option Form)
+  pub mapped-case : (p : Place) (s : Form) (branches : List Branch) (other : Option Form)
       → mapped (Form-F.Case p s branches other) ≡ Form-F.Case p (judged k.facts s) (map (judged_branch k.facts) branches) (option_map (judged k.facts) other)
   mapped-case p s branches None = refl
   mapped-case p s branches (Some d) = refl
 
-  mapped-typecase : (p spot : Place) (name : NameId) (s : Form) (branches : List TypeBranch) (other : Option Form)
+  pub mapped-typecase : (p spot : Place) (name : NameId) (s : Form) (branches : List TypeBranch) (other : Option Form)
       → mapped (Form-F.Typecase p spot name s branches other) ≡ Form-F.Typecase p spot name (judged k.facts s) (map (judged_clause k.facts) branches) (option_map (judged k.facts) other)
   mapped-typecase p spot name s branches None = refl
   mapped-typecase p spot name s branches (Some d) = refl
 
-  mapped-try : (p : Place) (b : Form) (name : Option (Place × NameId)) (branches : List TypeBranch) (last : Option Form)
+  pub mapped-try : (p : Place) (b : Form) (name : Option (Place × NameId)) (branches : List TypeBranch) (last : Option Form)
       → mapped (Form-F.Try p b name branches last) ≡ Form-F.Try p (judged k.facts b) name (map (judged_clause k.facts) branches) (option_map (judged k.facts) last)
   mapped-try p b name branches None = refl
   mapped-try p b name branches (Some d) = refl

@@ -16,3 +16,4 @@ pub mod Steps
 pub mod Branching
 pub mod Scopes
 pub mod Sequences
+pub mod Choosing
