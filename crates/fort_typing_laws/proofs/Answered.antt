@@ -442,17 +442,17 @@ module _ (k : Knows) (A : IsAccepted k) where
   sides_of [] js s = sides k.facts None [] js s
   sides_of (op ∷ ops) js s = sides k.facts (Some op) ops js s
 
-  first-side : (ops : List Op) (d : Form) (js : List Judge) (s : State) → sides k.facts None ops (judged k.facts d ∷ js) s ≡ sides_of ops js (take_side k.facts None (judged k.facts d).place (said (judged k.facts d) s))
+  pub first-side : (ops : List Op) (d : Form) (js : List Judge) (s : State) → sides k.facts None ops (judged k.facts d ∷ js) s ≡ sides_of ops js (take_side k.facts None (judged k.facts d).place (said (judged k.facts d) s))
   unfolding sides
   first-side [] d js s = refl
   first-side (op ∷ ops) d js s = refl
 
-  next-side : (op : Op) (ops : List Op) (d : Form) (js : List Judge) (s : State) → sides k.facts (Some op) ops (judged k.facts d ∷ js) s ≡ sides_of ops js (take_side k.facts (Some op) (judged k.facts d).place (said (judged k.facts d) s))
+  pub next-side : (op : Op) (ops : List Op) (d : Form) (js : List Judge) (s : State) → sides k.facts (Some op) ops (judged k.facts d ∷ js) s ≡ sides_of ops js (take_side k.facts (Some op) (judged k.facts d).place (said (judged k.facts d) s))
   unfolding sides
   next-side op [] d js s = refl
   next-side op (next ∷ ops) d js s = refl
 
-  no-side : (s : State) → sides_of [] [] s ≡ s
+  pub no-side : (s : State) → sides_of [] [] s ≡ s
   unfolding sides
   no-side s = refl
 

@@ -83,7 +83,7 @@ same-rule _ _ truth_ = refl
 same-rule _ _ number_ = refl
 same-rule _ _ exception_ = refl
 
-no-postfix : (k : Knows) (bs : List Binding) (x : Form-F Form Item Branch Generator TypeBranch) (f : Fault) → rule.postfix_at x ≡ false → PostfixBreaks k bs x f → ⊥
+pub no-postfix : (k : Knows) (bs : List Binding) (x : Form-F Form Item Branch Generator TypeBranch) (f : Fault) → rule.postfix_at x ≡ false → PostfixBreaks k bs x f → ⊥
 no-postfix k bs (Form-F.Subscript p i) f e b = absurd cc
 no-postfix k bs (Form-F.Power p d) f e b = absurd cc
 no-postfix k bs (Form-F.Method p at name es) f e b = absurd cc
@@ -124,7 +124,7 @@ module _ (k : Knows) (A : IsAccepted k) where
     abbrev Has : TypedForm → Type 0
     Has t = rule.Has k (Calls k) bs d t
 
-    breaks-of : (f : Fault) → FormBreaks k bs d f → breaking.Breaks k bs d f
+    pub breaks-of : (f : Fault) → FormBreaks k bs d f → breaking.Breaks k bs d f
     breaks-of f (inl b) = b
     breaks-of f (inr p) = absurd (no-postfix k bs (out-Form d) f X.0 p)
 
@@ -134,10 +134,10 @@ module _ (k : Knows) (A : IsAccepted k) where
     pub never : (t : TypedForm) → Has t → (f : Fault) → breaking.Breaks k bs d f → ⊥
     never t h f b = ((X.1 bs B None).first.none (ap (λ (o : Outcome). o.found) (has_is_answered k A bs B d W t h None))).1 f (inl b)
 
-    never-named : (name : NameId) → rule.Names k bs d name → (f : Fault) → breaking.Breaks k bs d f → ⊥
+    pub never-named : (name : NameId) → rule.Names k bs d name → (f : Fault) → breaking.Breaks k bs d f → ⊥
     never-named name n f b = ((X.1 bs B None).first.none (ap (λ (o : Outcome). o.found) (names-is d name bs None n))).1 f (inl b)
 
-    apart : (t : TypedForm) (name : NameId) → Has t → rule.Names k bs d name → ⊥
+    pub apart : (t : TypedForm) (name : NameId) → Has t → rule.Names k bs d name → ⊥
     apart t name h n = let e : a_meaning.Value t ≡ a_meaning.Functions name = ap (λ (o : Outcome). o.seen) (sym (has_is_answered k A bs B d W t h None) ∙ names-is d name bs None n) in absurd cc
 
     -- what has a type as wanted breaks nothing

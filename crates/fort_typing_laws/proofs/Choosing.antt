@@ -89,7 +89,7 @@ module _ (k : Knows) (A : IsAccepted k) where
     lacking_with : (f : Fault) (new : Option Fault) → breaking.BreaksAs k (rule.with_clause bs name ty) rule.a_value d f → IsFirst found (breaking.BreaksAs k (rule.with_clause bs name ty) rule.a_value d) new
         → s ≡ st (is_broken wf) bs new → AskedWith bs name ty d slot wf found s
 
-  ask-with-exact : (bs : List Binding) (B : AreBound k bs) (name : Option (Place × NameId)) (ty : Ty) (T : IsType k ty) (d : Form) (W : IsWritten k d) (X : IsExactExpression k d) (slot : Slot) (wf : Frame) (found : Option Fault)
+  pub ask-with-exact : (bs : List Binding) (B : AreBound k bs) (name : Option (Place × NameId)) (ty : Ty) (T : IsType k ty) (d : Form) (W : IsWritten k d) (X : IsExactExpression k d) (slot : Slot) (wf : Frame) (found : Option Fault)
       → AskedWith bs name ty d slot wf found (ask_with k.facts name ty slot (judged k.facts d) (st wf bs found))
   unfolding ask_with
   ask-with-exact bs B name ty T d W X slot wf found = by (ask-exact k A (rule.with_clause bs name ty) (clause-bound k A bs name ty B T) d W X rule.a_value a_want.Value slot wf found value_)

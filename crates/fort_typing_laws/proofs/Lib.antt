@@ -17,3 +17,9 @@ pub mod Branching
 pub mod Scopes
 pub mod Sequences
 pub mod Choosing
+pub mod Trying
+pub mod Typecases
+pub mod Comparing
+pub mod Assigning
+pub mod Chaining
+pub mod Exactly

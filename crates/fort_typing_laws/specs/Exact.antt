@@ -1,5 +1,5 @@
 -- The chapter "Typing", which refusal comes: what a form answers is what it is by the rules, and what it finds is the first of the rules that it breaks.
-use Rattle.std.specs.Prelude.{◌≡◌, ◌⊎◌, Bool, true, false, List, [], ◌∷◌, ◌++◌, map, Option, Some, None}
+use Rattle.std.specs.Prelude.{◌≡◌, ◌⊎◌, Bool, true, false, List, [], ◌∷◌, length, map, Option, Some, None}
 use Rattle.std.specs.List.{AllByRecursion}
 use Rattle.fort_base.specs.declared.ids.NameId.{NameId}
 use Rattle.fort_scope.specs.declared.binding.Binding.{Binding}
@@ -68,7 +68,22 @@ abbrev pub MayBeExact : Knows → Option Form → Type 0
 MayBeExact k None = Unit {0}
 MayBeExact k (Some e) = IsExactExpression k e
 
--- The parts of a form are exact expressions; there are as many as the form wants.
+abbrev pub ItemAtExact : Knows → Item-F Form Item Branch Generator TypeBranch → Type 0
+ItemAtExact k (Item-F.Local p name mutable ty e) = IsExactExpression k e
+ItemAtExact k (Item-F.Locals p names ty e) = IsExactExpression k e
+ItemAtExact k (Item-F.Expression e) = IsExactExpression k e
+
+abbrev pub ItemExact : Knows → Item → Type 0
+ItemExact k i = ItemAtExact k (out-Item i)
+
+abbrev pub SourceExact : Knows → Generator → Type 0
+SourceExact k g = IsExactExpression k (out-Generator g).source
+
+abbrev pub ClauseExact : Knows → TypeBranch → Type 0
+ClauseExact k b = IsExactExpression k (out-TypeBranch b).value
+
+-- A form is neither a run nor a juxtaposition, its parts are exact expressions, and there are as many as the grammar gives it: a `do` has a block, and a
+-- chain has one side more than relations.
 abbrev pub PartsExact : Knows → Form-F Form Item Branch Generator TypeBranch → Type 0
 PartsExact k (Form-F.Number p n) = Unit {0}
 PartsExact k (Form-F.Text p n) = Unit {0}
@@ -78,17 +93,42 @@ PartsExact k (Form-F.Name p name) = Unit {0}
 PartsExact k (Form-F.Parens p e) = IsExactExpression k e
 PartsExact k (Form-F.Tuple p es) = AreExact k es
 PartsExact k (Form-F.Operator p op es) = AreExact k es
+PartsExact k (Form-F.Chain p ops []) = ⊥
+PartsExact k (Form-F.Chain p ops (e ∷ es)) = (length es ≡ length ops) × IsExactExpression k e × AreExact k es
+PartsExact k (Form-F.Beside p es) = ⊥
+PartsExact k (Form-F.Run p es) = ⊥
 PartsExact k (Form-F.Subscript p e) = IsExactExpression k e
 PartsExact k (Form-F.Power p e) = IsExactExpression k e
 PartsExact k (Form-F.Field p at name) = Unit {0}
 PartsExact k (Form-F.Method p at name es) = AreExact k es
 PartsExact k (Form-F.Fill p ty n v) = IsExactExpression k n × IsExactExpression k v
+PartsExact k (Form-F.Block p is) = AllByRecursion (ItemExact k) is
 PartsExact k (Form-F.Do p []) = ⊥
 PartsExact k (Form-F.Do p (b ∷ blocks)) = AreExact k (b ∷ blocks)
 PartsExact k (Form-F.If p branches other) = AreExact k (map test_of branches) × AreExact k (map value_of branches) × MayBeExact k other
 PartsExact k (Form-F.While p c b) = IsExactExpression k c × IsExactExpression k b
+PartsExact k (Form-F.For p gs b) = AllByRecursion (SourceExact k) gs × IsExactExpression k b
+PartsExact k (Form-F.Case p s branches other) = IsExactExpression k s × AreExact k (map test_of branches) × AreExact k (map value_of branches) × MayBeExact k other
+PartsExact k (Form-F.Typecase p at name s branches other) = IsExactExpression k s × AllByRecursion (ClauseExact k) branches × MayBeExact k other
+PartsExact k (Form-F.Try p b name branches last) = IsExactExpression k b × AllByRecursion (ClauseExact k) branches × MayBeExact k last
 PartsExact k (Form-F.Atomic p e) = IsExactExpression k e
 PartsExact k (Form-F.Tryatomic p e) = IsExactExpression k e
 PartsExact k (Form-F.Throw p e) = IsExactExpression k e
 PartsExact k (Form-F.Fn p ps e) = IsExactExpression k e
-PartsExact k _ = ⊥
+PartsExact k (Form-F.Reduce p r g e) = SourceExact k g × IsExactExpression k e
+PartsExact k (Form-F.Assign p t sign e) = IsExactExpression k t × IsExactExpression k e
+
+-- Of an accepted component: a form that is neither a run nor a juxtaposition answers exactly where its parts do.
+abbrev pub FormsAreExact : Type 0
+FormsAreExact = (k : Knows) → IsAccepted k → (e : Form) → IsWritten k e → PartsExact k (out-Form e) → IsExact k e
+
+-- A form has a type, is a function set's name, or breaks a rule.
+pub data IsOne (k : Knows) (bs : List Binding) (e : Form) : Type 0 where
+  has_type : (t : TypedForm) → Has k (Calls k) bs e t → IsOne k bs e
+  is_name : (name : NameId) → Names k bs e name → IsOne k bs e
+  breaks_rule : (x : Fault) → Breaks k bs e x → IsOne k bs e
+
+-- An exact expression is one of these, and what has a type breaks no rule.
+pub record ExactIsOne : Type 0 where
+  pub one : (k : Knows) → IsAccepted k → (e : Form) → IsExactExpression k e → (bs : List Binding) → AreBound k bs → IsOne k bs e
+  pub never_both : (k : Knows) → IsAccepted k → (e : Form) → IsWritten k e → IsExactExpression k e → (bs : List Binding) → AreBound k bs → (t : TypedForm) → Has k (Calls k) bs e t → (x : Fault) → Breaks k bs e x → ⊥
