@@ -1,6 +1,7 @@
 -- What has a type is answered with it.
-use Rattle.std.proofs.Common.{◌≡◌, inl, inr, Bool, true, false, not, cond, ◌&&◌, List, [], ◌∷◌, ◌++◌, length, map, take, Option, Some, None, rules, refl, ap, ◌∙◌, sym, subst}
+use Rattle.std.proofs.Common.{◌≡◌, inl, inr, Bool, true, false, not, cond, ◌&&◌, List, [], ◌∷◌, ◌++◌, length, map, take, Option, Some, None, rules, refl, arith, ap, ◌∙◌, sym, subst}
 use Rattle.std.specs.Prelude.{option_map}
+use Rattle.std.specs.List.{AllByRecursion}
 use Rattle.fort_base.specs.declared.ids.NameId.{NameId}
 use Rattle.fort_base.specs.declared.ids.SetId.{SetId}
 use Rattle.fort_base.specs.declared.refusal.Place.{Place}
@@ -52,7 +53,13 @@ use Rattle.fort_judge.proofs.Kept.{take_whole}
 use Rattle.fort_judge.specs.Closing.{close_at, last_type, unbroken, made_outcome, by_widest, name_by, name_answer, receiver, sum_by, if_answer, case_answer, typecase_answer, try_answer, assign_answer, assigned_by, reduced, giving_name, clause_type as close_clause_type}
 use Rattle.fort_judge.specs.Joining.{operation, operation_by}
 use Rattle.fort_judge.specs.Judging.{inside, reduction_want, takes_by, take_target, assigned_part, judge_form, judge_item, judge_branch, judge_generator, judge_clause, judged, judged_item, judged_branch, judged_generator, judged_clause}
-use Rattle.fort_typing_laws.specs.Deciding.{Decides}
+use Rattle.fort_typing_laws.specs.Deciding.{IsType, AreTypes, IsAccepted, Decides}
+use Rattle.fort_typing_laws.specs.Written.{IsWritten, AreBound}
+use Rattle.fort_typing_laws.specs.Typed.{IsTyped}
+use Rattle.fort_typing_laws.proofs.Types.{all_join, all_first, all_rest, named_type, built_in_type, unit_type}
+use Rattle.fort_typing_laws.proofs.Written.{AllWritten, BranchWritten, GeneratorWritten, ClauseWritten, MayBeWritten, ItemWritten, of-parts, of-item, tests-of, values-of}
+use Rattle.fort_typing_laws.proofs.Deciding.{is_decided}
+use Rattle.fort_typing_laws.proofs.Typed.{all-types, call-type, typed-of, typed-as, typed-each, typed-clauses, typed-cases, typed-else, typed-parts, sources-bound, one-bound, binds-bound, clause-bound, parameters-bound, named-bound, given-typed}
 use Rattle.fort_typing_laws.specs.Laws.{HasIsAnswered, OneTypedForm}
 use Rattle.fort_typing_laws.proofs.Wide.{widest_is_computed}
 use Rattle.fort_typing_laws.proofs.Running.{run_is_computed, value-once}
@@ -77,19 +84,27 @@ abbrev pub kepts : Slot → List TypedForm → Frame → Frame
 kepts slot [] w = w
 kepts slot (t ∷ ts) w = kepts slot ts (kept slot t w)
 
-nothing_behind : {A : Type 0} (xs : List A) → xs ++ [] ≡ xs
+pub nothing_behind : {A : Type 0} (xs : List A) → xs ++ [] ≡ xs
 nothing_behind [] = refl
 nothing_behind (x ∷ xs) = ap (λ ys. x ∷ ys) (nothing_behind xs)
 
-one_behind : {A : Type 0} (xs ys : List A) (y : A) → (xs ++ y ∷ []) ++ ys ≡ xs ++ y ∷ ys
+pub one_behind : {A : Type 0} (xs ys : List A) (y : A) → (xs ++ y ∷ []) ++ ys ≡ xs ++ y ∷ ys
 one_behind [] ys y = refl
 one_behind (x ∷ xs) ys y = ap (λ zs. x ∷ zs) (one_behind xs ys y)
 
-kepts-first : (ts : List TypedForm) (w : Frame) → kepts a_slot.First ts w ≡ record w { first = w.first ++ ts }
+pub kepts-first : (ts : List TypedForm) (w : Frame) → kepts a_slot.First ts w ≡ record w { first = w.first ++ ts }
 kepts-first [] w = ap (λ (ts : List TypedForm). record w { first = ts }) (sym (nothing_behind w.first))
 kepts-first (t ∷ ts) w = kepts-first ts (kept a_slot.First t w) ∙ ap (λ (us : List TypedForm). record w { first = us }) (one_behind w.first ts t)
 
-module _ (k : Knows) (D : Decides k) where
+module _ (k : Knows) (A : IsAccepted k) where
+  D : Decides k
+  D = is_decided k A
+
+  -- the types that are wanted are the component's
+  abbrev pub WantTyped : rule.Want → Type 0
+  WantTyped (rule.below ty) = IsType k ty
+  WantTyped _ = Unit {0}
+
   truth-suits : suits k.facts a_want.Truth boolean ≡ true
   unfolding suits
   truth-suits = search (rules, ty_lemmas)
@@ -102,28 +117,28 @@ module _ (k : Knows) (D : Decides k) where
   unfolding suits
   large-suits = search (rules, ty_lemmas)
 
-  suits-is : (want : rule.Want) (w : Want) (t : Ty) → Same want w → rule.Suits k want t → suits k.facts w t ≡ true
+  pub suits-is : (want : rule.Want) (w : Want) (t : Ty) → Same want w → rule.Suits k want t → IsType k t → suits k.facts w t ≡ true
   unfolding suits
-  suits-is _ _ t value_ h = refl
-  suits-is _ _ t operand_ h = ap not h
-  suits-is _ _ t unit_ h = D.below t unit h
-  suits-is _ _ t small_ h = D.below t zz32 h
-  suits-is _ _ t truth_ h = ap (suits k.facts a_want.Truth) h ∙ truth-suits
-  suits-is _ _ t number_ (inl h) = ap (suits k.facts a_want.Number) h ∙ small-suits
-  suits-is _ _ t number_ (inr h) = ap (suits k.facts a_want.Number) h ∙ large-suits
-  suits-is _ _ t exception_ h = D.below t exception h
+  suits-is _ _ t value_ h T = refl
+  suits-is _ _ t operand_ h T = ap not h
+  suits-is _ _ t unit_ h T = D.below t unit T (unit_type k A) h
+  suits-is _ _ t small_ h T = D.below t zz32 T (built_in_type k A 2 (omega arith)) h
+  suits-is _ _ t truth_ h T = ap (suits k.facts a_want.Truth) h ∙ truth-suits
+  suits-is _ _ t number_ (inl h) T = ap (suits k.facts a_want.Number) h ∙ small-suits
+  suits-is _ _ t number_ (inr h) T = ap (suits k.facts a_want.Number) h ∙ large-suits
+  suits-is _ _ t exception_ h T = D.below t exception T (built_in_type k A 1 (omega arith)) h
 
-  taken-is : (want : rule.Want) (w : Want) (place : Place) (t : TypedForm) (found : Option Fault) → Same want w → rule.Suits k want (type_of t)
+  taken-is : (want : rule.Want) (w : Want) (place : Place) (t : TypedForm) (found : Option Fault) → Same want w → rule.Suits k want (type_of t) → IsType k (type_of t)
       → taken k.facts w place (a_meaning.Value t) found ≡ record { node = Some t; found = found }
   unfolding taken valued
-  taken-is want w place t found m h = ap (λ c. cond c (record { node = Some t; found = found }) (no_node (breaks (rule_of w) place found))) (suits-is want w (type_of t) m h)
+  taken-is want w place t found m h T = ap (λ c. cond c (record { node = Some t; found = found }) (no_node (breaks (rule_of w) place found))) (suits-is want w (type_of t) m h T)
 
   -- ---- one level
 
   abbrev pub mapped : Form-F Form Item Branch Generator TypeBranch → Form-F Judge Piece Arm Giving Clause
   mapped x = map-Form Form Item Branch Generator TypeBranch Judge Piece Arm Giving Clause (judged k.facts) (judged_item k.facts) (judged_branch k.facts) (judged_generator k.facts) (judged_clause k.facts) x
 
-  judged-out : (e : Form) → judged k.facts e ≡ judge_form k.facts (mapped (out-Form e))
+  pub judged-out : (e : Form) → judged k.facts e ≡ judge_form k.facts (mapped (out-Form e))
   unfolding judged judged_item judged_branch judged_generator judged_clause
   judged-out e = fold_out-Form Judge Piece Arm Giving Clause (judge_form k.facts) judge_item judge_branch judge_generator judge_clause e
 
@@ -136,12 +151,15 @@ module _ (k : Knows) (D : Decides k) where
   abbrev pub Answers : List Binding → Form → TypedForm → Type 0
   Answers bs e t = (found : Option Fault) → (judged k.facts e).answer bs found ≡ value t found
 
-  pub ask-is : (want : rule.Want) (w : Want) (slot : Slot) (d : Form) (t : TypedForm) (bs : List Binding) (wf : Frame) (found : Option Fault) → Same want w → Answers bs d t → rule.Suits k want (type_of t)
+  abbrev pub Answered : List Binding → rule.Want → Form → TypedForm → Type 0
+  Answered bs want d t = Answers bs d t × rule.Suits k want (type_of t) × IsType k (type_of t) × WantTyped want
+
+  pub ask-is : (want : rule.Want) (w : Want) (slot : Slot) (d : Form) (t : TypedForm) (bs : List Binding) (wf : Frame) (found : Option Fault) → Same want w → Answered bs want d t
       → ask k.facts slot w (judged k.facts d) (st wf bs found) ≡ st (kept slot t wf) bs found
   unfolding ask take_part said
-  ask-is want w slot d t bs wf found m a h =
-      ap (λ (o : Outcome). st (kept_if slot (taken k.facts w (judged k.facts d).place o.seen o.found).node wf) bs (taken k.facts w (judged k.facts d).place o.seen o.found).found) (a found)
-      ∙ ap (λ (v : Valued). st (kept_if slot v.node wf) bs v.found) (taken-is want w (judged k.facts d).place t found m h)
+  ask-is want w slot d t bs wf found m a =
+      ap (λ (o : Outcome). st (kept_if slot (taken k.facts w (judged k.facts d).place o.seen o.found).node wf) bs (taken k.facts w (judged k.facts d).place o.seen o.found).found) (a.0 found)
+      ∙ ap (λ (v : Valued). st (kept_if slot v.node wf) bs v.found) (taken-is want w (judged k.facts d).place t found m a.1 a.2)
 
   pub ask-below-is : (ty : Ty) (d : Form) (t : TypedForm) (bs : List Binding) (wf : Frame) (found : Option Fault) → Answers bs d t → is_below k.facts (type_of t) ty ≡ true
       → ask_below k.facts ty (judged k.facts d) (st wf bs found) ≡ st (kept a_slot.Last t wf) bs found
@@ -154,7 +172,7 @@ module _ (k : Knows) (D : Decides k) where
 
   -- ---- what a form is to the form around it
 
-  flags : (x : Form-F Form Item Branch Generator TypeBranch) → (place_at (mapped x) ≡ place_at x) × (rule.parens_at (mapped x) ≡ rule.parens_at x) × (rule.listed_at (mapped x) ≡ rule.listed_at x)
+  pub flags : (x : Form-F Form Item Branch Generator TypeBranch) → (place_at (mapped x) ≡ place_at x) × (rule.parens_at (mapped x) ≡ rule.parens_at x) × (rule.listed_at (mapped x) ≡ rule.listed_at x)
       × (rule.postfix_at (mapped x) ≡ rule.postfix_at x) × (rule.target_at (mapped x) ≡ rule.target_at x)
   flags (Form-F.Number v0 v1) = (refl, refl, refl, refl, refl)
   flags (Form-F.Text v0 v1) = (refl, refl, refl, refl, refl)
@@ -190,7 +208,7 @@ module _ (k : Knows) (D : Decides k) where
   abbrev pub element_of : Judge → Meaning → Part
   element_of j m = record { place = j.place; parens = j.parens; listed = j.listed; postfix = j.postfix; meaning = m }
 
-  part-is : (d : Form) (m : Meaning) → element_of (judged k.facts d) m ≡ rule.part d m
+  pub part-is : (d : Form) (m : Meaning) → element_of (judged k.facts d) m ≡ rule.part d m
   unfolding place_of
   part-is d m = let x = out-Form d in let f = flags x in
       ap (λ (j : Judge). element_of j m) (judged-out d)
@@ -199,13 +217,10 @@ module _ (k : Knows) (D : Decides k) where
       ∙ ap (λ c. record { place = place_at x; parens = rule.parens_at x; listed = c; postfix = rule.postfix_at (mapped x); meaning = m }) f.2
       ∙ ap (λ c. record { place = place_at x; parens = rule.parens_at x; listed = rule.listed_at x; postfix = c; meaning = m }) f.3
 
-  target-is : (d : Form) → (judged k.facts d).target ≡ rule.target_at (out-Form d)
+  pub target-is : (d : Form) → (judged k.facts d).target ≡ rule.target_at (out-Form d)
   target-is d = ap (λ (j : Judge). j.target) (judged-out d) ∙ (flags (out-Form d)).4
 
   -- ---- answered parts
-
-  abbrev pub Answered : List Binding → rule.Want → Form → TypedForm → Type 0
-  Answered bs want d t = Answers bs d t × rule.Suits k want (type_of t)
 
   abbrev pub AllAnswered : List Binding → rule.Want → List Form → List TypedForm → Type 0
   AllAnswered bs want [] [] = Unit {0}
@@ -213,14 +228,14 @@ module _ (k : Knows) (D : Decides k) where
   AllAnswered bs want (d ∷ ds) [] = ⊥
   AllAnswered bs want (d ∷ ds) (t ∷ ts) = Answered bs want d t × AllAnswered bs want ds ts
 
-  asks-is : (want : rule.Want) (w : Want) (slot : Slot) (ds : List Form) (ts : List TypedForm) (bs : List Binding) (wf : Frame) (found : Option Fault) → Same want w → AllAnswered bs want ds ts
+  pub asks-is : (want : rule.Want) (w : Want) (slot : Slot) (ds : List Form) (ts : List TypedForm) (bs : List Binding) (wf : Frame) (found : Option Fault) → Same want w → AllAnswered bs want ds ts
       → asks k.facts slot w (map (judged k.facts) ds) (st wf bs found) ≡ st (kepts slot ts wf) bs found
   unfolding asks
   asks-is want w slot [] [] bs wf found m h = refl
   asks-is want w slot [] (t ∷ ts) bs wf found m h = absurd h
   asks-is want w slot (d ∷ ds) [] bs wf found m h = absurd h
   asks-is want w slot (d ∷ ds) (t ∷ ts) bs wf found m h =
-      ap (asks k.facts slot w (map (judged k.facts) ds)) (ask-is want w slot d t bs wf found m h.0.0 h.0.1) ∙ asks-is want w slot ds ts bs (kept slot t wf) found m h.1
+      ap (asks k.facts slot w (map (judged k.facts) ds)) (ask-is want w slot d t bs wf found m h.0) ∙ asks-is want w slot ds ts bs (kept slot t wf) found m h.1
 
   -- ---- elements
 
@@ -245,20 +260,15 @@ module _ (k : Knows) (D : Decides k) where
   unfolding elements
   elements-step d ds bs wf found m h = let e = h found in ap (elements (map (judged k.facts) ds)) (element-step d bs wf found e.0 m e.1 e.2 e.3)
 
-  -- ---- calls
-
-  calls-is : (set : SetId) (types : List Ty) (result : Ty) (widened : List Bool) → Calls k set types result widened → called k.facts set types ≡ a_call.Result result widened
-  calls-is set types result widened c = D.calls set types result widened c
-
   -- ---- comparisons
 
-  compared-is : (op : Op) (place : Place) (a u : TypedForm) (result : Ty) (widened : List Bool) (bs : List Binding) (wf : Frame) (found : Option Fault)
+  compared-is : (op : Op) (place : Place) (a u : TypedForm) (result : Ty) (widened : List Bool) (bs : List Binding) (wf : Frame) (found : Option Fault) → IsType k (type_of a) → IsType k (type_of u)
       → Calls k (operator_set k.facts op 2) (type_of a ∷ type_of u ∷ []) result widened → IsBelow k result boolean
       → compared k.facts op place (Some (type_of a)) (Some u) (st wf bs found) ≡ st (record wf { calls = wf.calls ++ chosen (operator_set k.facts op 2) widened ∷ [] }) bs found
-  compared-is op place a u result widened bs wf found c b =
-      ap (λ (n : Called). compared_by k.facts op place n (st wf bs found)) (D.calls _ _ result widened c)
+  compared-is op place a u result widened bs wf found T U c b =
+      ap (λ (n : Called). compared_by k.facts op place n (st wf bs found)) (D.calls _ _ result widened (T, (U, tt)) c)
       ∙ ap (λ c. cond c (st (record wf { calls = wf.calls ++ chosen (operator_set k.facts op 2) widened ∷ [] }) bs found)
-      (st (record wf { broken = true }) bs (breaks MISMATCH place found))) (D.below result boolean b)
+      (st (record wf { broken = true }) bs (breaks MISMATCH place found))) (D.below result boolean (call-type k A _ _ result widened c) (built_in_type k A 5 (omega arith)) b)
 
   -- ---- clauses of an `if`
 
@@ -275,19 +285,19 @@ module _ (k : Knows) (D : Decides k) where
   arms-is w want (b ∷ branches) (t ∷ ts) (v ∷ vs) bs wf found m h i =
       ap (λ (a : Arm). arms k.facts w (map (judged_branch k.facts) branches) (ask k.facts a_slot.Second w a.value (ask k.facts a_slot.First a_want.Truth a.test (st wf bs found)))) (arm-is k.facts b)
       ∙ ap (λ (s : State). arms k.facts w (map (judged_branch k.facts) branches) (ask k.facts a_slot.Second w (judged k.facts (rule.value_of b)) s))
-      (ask-is rule.a_truth a_want.Truth a_slot.First (rule.test_of b) t bs wf found truth_ h.0.0 h.0.1)
-      ∙ ap (arms k.facts w (map (judged_branch k.facts) branches)) (ask-is want w a_slot.Second (rule.value_of b) v bs (kept a_slot.First t wf) found m i.0.0 i.0.1)
+      (ask-is rule.a_truth a_want.Truth a_slot.First (rule.test_of b) t bs wf found truth_ h.0)
+      ∙ ap (arms k.facts w (map (judged_branch k.facts) branches)) (ask-is want w a_slot.Second (rule.value_of b) v bs (kept a_slot.First t wf) found m i.0)
       ∙ arms-is w want branches ts vs bs (record wf { first = wf.first ++ t ∷ []; second = wf.second ++ v ∷ [] }) found m h.1 i.1
       ∙ ap (λ (us : List TypedForm). st (record wf { first = us; second = (wf.second ++ v ∷ []) ++ vs }) bs found) (one_behind wf.first ts t)
       ∙ ap (λ (us : List TypedForm). st (record wf { first = wf.first ++ t ∷ ts; second = us }) bs found) (one_behind wf.second vs v)
 
   -- ---- bindings
 
-  bind-is : (b : Binding) (bs : List Binding) (wf : Frame) (found : Option Fault) → is_visible k.facts bs b.name ≡ false → bind k.facts b (st wf bs found) ≡ st wf (bs ++ b ∷ []) found
+  pub bind-is : (b : Binding) (bs : List Binding) (wf : Frame) (found : Option Fault) → is_visible k.facts bs b.name ≡ false → bind k.facts b (st wf bs found) ≡ st wf (bs ++ b ∷ []) found
   unfolding bind
   bind-is b bs wf found h = ap (λ c. cond c (shadows b.place (st wf bs found)) (st wf (bs ++ b ∷ []) found)) h
 
-  binds-is : {bs new all : List Binding} → rule.Binds k bs new all → (wf : Frame) (found : Option Fault) → wf.lost ≡ false → bind_all k.facts new (st wf bs found) ≡ st wf all found
+  pub binds-is : {bs new all : List Binding} → rule.Binds k bs new all → (wf : Frame) (found : Option Fault) → wf.lost ≡ false → bind_all k.facts new (st wf bs found) ≡ st wf all found
   unfolding bind_all
   binds-is {bs = bs} (rule.none e1 e2) wf found l = ap (λ new. bind_all k.facts new (st wf bs found)) e1 ∙ ap (λ (all : List Binding). st wf all found) (sym e2)
   binds-is {bs = bs} (rule.next b more e fresh rest) wf found l =
@@ -317,7 +327,7 @@ module _ (k : Knows) (D : Decides k) where
       ap (λ (o : Outcome). let v = below_by k.facts ty p (valued p o.seen o.found).node (valued p o.seen o.found).found in st (declares_all (map rule.name_and_type new) v.node wf) bs v.found) (a found)
       ∙ ap (λ (v : Valued). st (declares_all (map rule.name_and_type new) v.node wf) bs v.found) (below-is ty p t found h)
 
-  item-out : (i : Item) {x : Item-F Form Item Branch Generator TypeBranch} → out-Item i ≡ x
+  pub item-out : (i : Item) {x : Item-F Form Item Branch Generator TypeBranch} → out-Item i ≡ x
       → judged_item k.facts i ≡ judge_item (map-Item Form Item Branch Generator TypeBranch Judge Piece Arm Giving Clause (judged k.facts) (judged_item k.facts) (judged_branch k.facts) (judged_generator k.facts) (judged_clause k.facts) x)
   unfolding judged judged_item judged_branch judged_generator judged_clause
   item-out i is = fold_out-Item Judge Piece Arm Giving Clause (judge_form k.facts) judge_item judge_branch judge_generator judge_clause i
@@ -359,7 +369,7 @@ module _ (k : Knows) (D : Decides k) where
   unfolding type_of
   binds-unit names u = search (rules, typed_lemmas)
 
-  block-type : {bs : List Binding} {is : List Item} {ts : List TypedForm} {ty : Ty} → rule.HasItems k (Calls k) bs is ts ty → last_type ts ≡ ty
+  pub block-type : {bs : List Binding} {is : List Item} {ts : List TypedForm} {ty : Ty} → rule.HasItems k (Calls k) bs is ts ty → last_type ts ≡ ty
   block-type (rule.no_item e1 e2 e3) = ap last_type e2 ∙ sym e3
   block-type (rule.last_item i d u e1 e2 h e3 e4) = ap last_type e3 ∙ sym e4
   block-type (rule.expression i j more d u us e1 e2 h rest e3) = let s = some-items rest j more refl in
@@ -380,23 +390,23 @@ module _ (k : Knows) (D : Decides k) where
       let j = judged k.facts (out-Generator g).source in
       ap (λ c. take_source k.facts at name j.place (said j (cond c (shadows at (st wf bs found)) (st wf bs found)))) fresh
       ∙ ap (λ (o : Outcome). let v = taken k.facts a_want.Operand j.place o.seen o.found in gives k.facts at name j.place v.node (given_by v.node) (st wf bs v.found)) (h.0 found)
-      ∙ ap (λ (v : Valued). gives k.facts at name j.place v.node (given_by v.node) (st wf bs v.found)) (taken-is rule.an_operand a_want.Operand j.place u found operand_ h.1)
+      ∙ ap (λ (v : Valued). gives k.facts at name j.place v.node (given_by v.node) (st wf bs v.found)) (taken-is rule.an_operand a_want.Operand j.place u found operand_ h.1 h.2)
       ∙ ap (λ (o : Option Ty). gives k.facts at name j.place (Some u) o (st wf bs found)) gv
       ∙ ap (λ c. cond c (st (kept a_slot.First u wf) bs found) (st (kept a_slot.First u wf) (bs ++ rule.binding at name ty ∷ []) found)) l
 
   -- ---- clauses of a `case`
 
-  test-is : (d : Form) (s u : TypedForm) (place : Place) (result : Ty) (widened : List Bool) (bs : List Binding) (wf : Frame) (found : Option Fault) → wf.side ≡ Some (record { place = place; ty = type_of s })
+  test-is : (d : Form) (s u : TypedForm) (place : Place) (result : Ty) (widened : List Bool) (bs : List Binding) (wf : Frame) (found : Option Fault) → wf.side ≡ Some (record { place = place; ty = type_of s }) → IsType k (type_of s)
       → Answered bs rule.an_operand d u → Calls k (operator_set k.facts an_op.Eq 2) (type_of s ∷ type_of u ∷ []) result widened → IsBelow k result boolean
       → take_test k.facts (judged k.facts d).place (said (judged k.facts d) (st wf bs found))
       ≡ st (record wf { first = wf.first ++ u ∷ []; calls = wf.calls ++ chosen (operator_set k.facts an_op.Eq 2) widened ∷ [] }) bs found
   unfolding take_test said
-  test-is d s u place result widened bs wf found side h c b =
+  test-is d s u place result widened bs wf found side S h c b =
       let p = (judged k.facts d).place in
       ap (λ (o : Outcome). let v = taken k.facts a_want.Operand p o.seen o.found in compared k.facts an_op.Eq p (side_type wf.side) v.node (st (kept_if a_slot.First v.node wf) bs v.found)) (h.0 found)
-      ∙ ap (λ (v : Valued). compared k.facts an_op.Eq p (side_type wf.side) v.node (st (kept_if a_slot.First v.node wf) bs v.found)) (taken-is rule.an_operand a_want.Operand p u found operand_ h.1)
+      ∙ ap (λ (v : Valued). compared k.facts an_op.Eq p (side_type wf.side) v.node (st (kept_if a_slot.First v.node wf) bs v.found)) (taken-is rule.an_operand a_want.Operand p u found operand_ h.1 h.2)
       ∙ ap (λ (o : Option Side). compared k.facts an_op.Eq p (side_type o) (Some u) (st (kept a_slot.First u wf) bs found)) side
-      ∙ compared-is an_op.Eq p s u result widened bs (kept a_slot.First u wf) found c b
+      ∙ compared-is an_op.Eq p s u result widened bs (kept a_slot.First u wf) found S h.2 c b
 
   -- ---- clauses by types
 
@@ -404,7 +414,7 @@ module _ (k : Knows) (D : Decides k) where
   take_first [] ds = refl
   take_first (b ∷ bs) ds = ap (λ cs. b ∷ cs) (take_first bs ds)
 
-  clause_goes : (bs : List Binding) (name : Option (Place × NameId)) (ty : Ty) → take (length bs) (rule.with_clause bs name ty) ≡ bs
+  pub clause_goes : (bs : List Binding) (name : Option (Place × NameId)) (ty : Ty) → take (length bs) (rule.with_clause bs name ty) ≡ bs
   clause_goes bs None ty = take_whole bs
   clause_goes bs (Some (p, name)) ty = take_first bs _
 
@@ -412,7 +422,7 @@ module _ (k : Knows) (D : Decides k) where
       → ask_with k.facts name ty slot (judged k.facts d) (st wf bs found) ≡ st (kept slot v wf) bs found
   unfolding ask_with
   ask-with-is name ty slot d v bs wf found h =
-      ap (back_to bs) (ask-is rule.a_value a_want.Value slot d v (rule.with_clause bs name ty) wf found value_ h.0 h.1)
+      ap (back_to bs) (ask-is rule.a_value a_want.Value slot d v (rule.with_clause bs name ty) wf found value_ h)
       ∙ ap (λ (cs : List Binding). st (kept slot v wf) cs found) (clause_goes bs name ty)
 
   -- ---- sides of a chain
@@ -425,24 +435,24 @@ module _ (k : Knows) (D : Decides k) where
       let p = (judged k.facts d).place in
       let fin : State → Option TypedForm → State = λ t n. record t { frame = record t.frame { side = side_of p n } } in
       ap (λ (o : Outcome). let v = taken k.facts a_want.Operand p o.seen o.found in fin (after_side k.facts op p v.node (st (kept_if a_slot.First v.node wf) bs v.found)) v.node) (h.0 found)
-      ∙ ap (λ (v : Valued). fin (after_side k.facts op p v.node (st (kept_if a_slot.First v.node wf) bs v.found)) v.node) (taken-is rule.an_operand a_want.Operand p u found operand_ h.1)
+      ∙ ap (λ (v : Valued). fin (after_side k.facts op p v.node (st (kept_if a_slot.First v.node wf) bs v.found)) v.node) (taken-is rule.an_operand a_want.Operand p u found operand_ h.1 h.2)
       ∙ ap (λ (t : State). fin t (Some u)) e
 
   abbrev pub sides_of : List Op → List Judge → State → State
   sides_of [] js s = sides k.facts None [] js s
   sides_of (op ∷ ops) js s = sides k.facts (Some op) ops js s
 
-  first-side : (ops : List Op) (d : Form) (js : List Judge) (s : State) → sides k.facts None ops (judged k.facts d ∷ js) s ≡ sides_of ops js (take_side k.facts None (judged k.facts d).place (said (judged k.facts d) s))
+  pub first-side : (ops : List Op) (d : Form) (js : List Judge) (s : State) → sides k.facts None ops (judged k.facts d ∷ js) s ≡ sides_of ops js (take_side k.facts None (judged k.facts d).place (said (judged k.facts d) s))
   unfolding sides
   first-side [] d js s = refl
   first-side (op ∷ ops) d js s = refl
 
-  next-side : (op : Op) (ops : List Op) (d : Form) (js : List Judge) (s : State) → sides k.facts (Some op) ops (judged k.facts d ∷ js) s ≡ sides_of ops js (take_side k.facts (Some op) (judged k.facts d).place (said (judged k.facts d) s))
+  pub next-side : (op : Op) (ops : List Op) (d : Form) (js : List Judge) (s : State) → sides k.facts (Some op) ops (judged k.facts d ∷ js) s ≡ sides_of ops js (take_side k.facts (Some op) (judged k.facts d).place (said (judged k.facts d) s))
   unfolding sides
   next-side op [] d js s = refl
   next-side op (next ∷ ops) d js s = refl
 
-  no-side : (s : State) → sides_of [] [] s ≡ s
+  pub no-side : (s : State) → sides_of [] [] s ≡ s
   unfolding sides
   no-side s = refl
 
@@ -455,21 +465,21 @@ module _ (k : Knows) (D : Decides k) where
     pub whole : frame.broken ≡ wf.broken
 
   sides-is : {ops : List Op} {all : List TypedForm} {cs : List Chosen} → rule.Compares k (Calls k) ops all cs → (ds : List Form) (a : TypedForm) (us : List TypedForm) (place : Place) (bs : List Binding) (wf : Frame) (found : Option Fault)
-      → all ≡ a ∷ us → wf.side ≡ Some (record { place = place; ty = type_of a }) → AllAnswered bs rule.an_operand ds us → Left (sides_of ops (map (judged k.facts) ds) (st wf bs found)) wf bs found us cs
-  sides-is {ops = ops} {cs = cs} (rule.no_more b e1 e2 e3) [] a [] place bs wf found is side h = record {
+      → all ≡ a ∷ us → wf.side ≡ Some (record { place = place; ty = type_of a }) → IsType k (type_of a) → AllAnswered bs rule.an_operand ds us → Left (sides_of ops (map (judged k.facts) ds) (st wf bs found)) wf bs found us cs
+  sides-is {ops = ops} {cs = cs} (rule.no_more b e1 e2 e3) [] a [] place bs wf found is side T h = record {
     frame = wf;
     is = ap (λ (os : List Op). sides_of os [] (st wf bs found)) e1 ∙ no-side (st wf bs found);
     firsts = sym (nothing_behind wf.first);
     calls = sym (nothing_behind wf.calls) ∙ ap (λ (c : List Chosen). wf.calls ++ c) (sym e3);
     whole = refl;
   }
-  sides-is (rule.no_more b e1 e2 e3) [] a (u ∷ us) place bs wf found is side h = absurd h
-  sides-is (rule.no_more b e1 e2 e3) (d ∷ ds) a [] place bs wf found is side h = absurd h
-  sides-is (rule.no_more b e1 e2 e3) (d ∷ ds) a (u ∷ us) place bs wf found is side h = absurd cc
-  sides-is (rule.more op others b c vs result widened rest e1 e2 call_ below_ next e3) [] a [] place bs wf found is side h = absurd cc
-  sides-is (rule.more op others b c vs result widened rest e1 e2 call_ below_ next e3) [] a (u ∷ us) place bs wf found is side h = absurd h
-  sides-is (rule.more op others b c vs result widened rest e1 e2 call_ below_ next e3) (d ∷ ds) a [] place bs wf found is side h = absurd h
-  sides-is {ops = ops} {cs = cs} (rule.more op others b c vs result widened rest e1 e2 call_ below_ next e3) (d ∷ ds) a (u ∷ us) place bs wf found is side h =
+  sides-is (rule.no_more b e1 e2 e3) [] a (u ∷ us) place bs wf found is side T h = absurd h
+  sides-is (rule.no_more b e1 e2 e3) (d ∷ ds) a [] place bs wf found is side T h = absurd h
+  sides-is (rule.no_more b e1 e2 e3) (d ∷ ds) a (u ∷ us) place bs wf found is side T h = absurd cc
+  sides-is (rule.more op others b c vs result widened rest e1 e2 call_ below_ next e3) [] a [] place bs wf found is side T h = absurd cc
+  sides-is (rule.more op others b c vs result widened rest e1 e2 call_ below_ next e3) [] a (u ∷ us) place bs wf found is side T h = absurd h
+  sides-is (rule.more op others b c vs result widened rest e1 e2 call_ below_ next e3) (d ∷ ds) a [] place bs wf found is side T h = absurd h
+  sides-is {ops = ops} {cs = cs} (rule.more op others b c vs result widened rest e1 e2 call_ below_ next e3) (d ∷ ds) a (u ∷ us) place bs wf found is side T h =
       let same_a : a ≡ b = cc in
       let same_u : u ≡ c = cc in
       let same_us : us ≡ vs = cc in
@@ -480,8 +490,8 @@ module _ (k : Knows) (D : Decides k) where
       let w' : Frame = record w { side = Some (record { place = p; ty = type_of u }) } in
       let after : after_side k.facts (Some op) p (Some u) (st (kept a_slot.First u wf) bs found) ≡ st w bs found =
       ap (λ (o : Option Side). compared k.facts op (side_place p o) (side_type o) (Some u) (st (kept a_slot.First u wf) bs found)) side
-      ∙ compared-is op place a u result widened bs (kept a_slot.First u wf) found call below_ in
-      let left = sides-is next ds u us p bs w' found (ap (λ (x : TypedForm). x ∷ vs) (sym same_u) ∙ ap (λ (xs : List TypedForm). u ∷ xs) (sym same_us)) refl h.1 in
+      ∙ compared-is op place a u result widened bs (kept a_slot.First u wf) found T h.0.2 call below_ in
+      let left = sides-is next ds u us p bs w' found (ap (λ (x : TypedForm). x ∷ vs) (sym same_u) ∙ ap (λ (xs : List TypedForm). u ∷ xs) (sym same_us)) refl h.0.2 h.1 in
       record {
         frame = left.frame;
         is = ap (λ (os : List Op). sides_of os (judged k.facts d ∷ map (judged k.facts) ds) (st wf bs found)) e1
@@ -495,7 +505,7 @@ module _ (k : Knows) (D : Decides k) where
 
   -- ---- several parts at once
 
-  firsts-is : (want : rule.Want) (w : Want) (ds : List Form) (ts : List TypedForm) (bs : List Binding) (found : Option Fault) → Same want w → AllAnswered bs want ds ts
+  pub firsts-is : (want : rule.Want) (w : Want) (ds : List Form) (ts : List TypedForm) (bs : List Binding) (found : Option Fault) → Same want w → AllAnswered bs want ds ts
       → asks k.facts a_slot.First w (map (judged k.facts) ds) (st opened bs found) ≡ st (record opened { first = ts }) bs found
   firsts-is want w ds ts bs found m h = asks-is want w a_slot.First ds ts bs opened found m h ∙ ap (λ (x : Frame). st x bs found) (kepts-first ts opened)
 
@@ -523,7 +533,7 @@ module _ (k : Knows) (D : Decides k) where
   ask-if-is want w None None bs wf found m l h = ap (λ (x : Option TypedForm). st (record wf { last = x }) bs found) l
   ask-if-is want w None (Some t) bs wf found m l h = absurd h
   ask-if-is want w (Some d) None bs wf found m l h = absurd h
-  ask-if-is want w (Some d) (Some t) bs wf found m l h = ask-is want w a_slot.Last d t bs wf found m h.0 h.1
+  ask-if-is want w (Some d) (Some t) bs wf found m l h = ask-is want w a_slot.Last d t bs wf found m h
 
   else-with-is : (name : Option (Place × NameId)) (s : TypedForm) (other : Option Form) (t : Option TypedForm) (bs : List Binding) (wf : Frame) (found : Option Fault) → wf.head ≡ Some s → wf.last ≡ None
       → MayBeAnswered (rule.with_clause bs name (type_of s)) rule.a_value other t
@@ -536,53 +546,53 @@ module _ (k : Knows) (D : Decides k) where
 
   -- ---- how forms are closed
 
-  closes-name : (p : Place) (name : NameId) (bs : List Binding) (found : Option Fault) (s : Standing) → standing k.facts bs name ≡ s → name_answer k.facts p name bs found ≡ name_by p name s found
+  pub closes-name : (p : Place) (name : NameId) (bs : List Binding) (found : Option Fault) (s : Standing) → standing k.facts bs name ≡ s → name_answer k.facts p name bs found ≡ name_by p name s found
   unfolding name_answer
   closes-name p name bs found s h = ap (λ (x : Standing). name_by p name x found) h
 
-  closes-operator : (set : SetId) (ts : List TypedForm) (p : Place) (result : Ty) (widened : List Bool) (found : Option Fault) → Calls k set (types_of ts) result widened
+  closes-operator : (set : SetId) (ts : List TypedForm) (p : Place) (result : Ty) (widened : List Bool) (found : Option Fault) → AreTypes k (types_of ts) → Calls k set (types_of ts) result widened
       → made_outcome (operation k.facts set ts p) found ≡ value (a_typed.Operation result (chosen set widened) ts) found
   unfolding operation
-  closes-operator set ts p result widened found c = ap (λ (x : Called). made_outcome (operation_by set ts p x) found) (D.calls set (types_of ts) result widened c)
+  closes-operator set ts p result widened found T c = ap (λ (x : Called). made_outcome (operation_by set ts p x) found) (D.calls set (types_of ts) result widened T c)
 
   closes-if-alone : (p : Place) (tests values : List TypedForm) (found : Option Fault)
       → if_answer k.facts p None (record opened { first = tests; second = values }) found ≡ value (a_typed.If unit tests values None) found
   unfolding if_answer
   closes-if-alone p tests values found = refl
 
-  closes-if-else : (p : Place) (j : Judge) (tests values : List TypedForm) (u : TypedForm) (ty : Ty) (found : Option Fault) → IsWidest k (types_of values ++ type_of u ∷ []) ty
+  closes-if-else : (p : Place) (j : Judge) (tests values : List TypedForm) (u : TypedForm) (ty : Ty) (found : Option Fault) → AreTypes k (types_of values ++ type_of u ∷ []) → IsWidest k (types_of values ++ type_of u ∷ []) ty
       → if_answer k.facts p (Some j) (record opened { first = tests; second = values; last = Some u }) found ≡ value (a_typed.If ty tests values (Some u)) found
   unfolding if_answer
-  closes-if-else p j tests values u ty found h = ap (λ (x : Option Ty). by_widest p x found (λ y. a_typed.If y tests values (Some u))) (widest_is_computed.one k D _ ty h)
+  closes-if-else p j tests values u ty found T h = ap (λ (x : Option Ty). by_widest p x found (λ y. a_typed.If y tests values (Some u))) (widest_is_computed.one k A _ T ty h)
 
-  closes-case : (p : Place) (u : TypedForm) (side : Option Side) (cs : List Chosen) (tests values : List TypedForm) (w : Option TypedForm) (ty : Ty) (found : Option Fault) → IsWidest k (types_of values ++ rule.else_types w) ty
+  closes-case : (p : Place) (u : TypedForm) (side : Option Side) (cs : List Chosen) (tests values : List TypedForm) (w : Option TypedForm) (ty : Ty) (found : Option Fault) → AreTypes k (types_of values ++ rule.else_types w) → IsWidest k (types_of values ++ rule.else_types w) ty
       → case_answer k.facts p (record opened { head = Some u; first = tests; second = values; last = w; calls = cs; side = side }) found ≡ value (a_typed.Case ty u cs tests values w) found
   unfolding case_answer
-  closes-case p u side cs tests values w ty found h = ap (λ (x : Option Ty). by_widest p x found (λ y. a_typed.Case y u cs tests values w)) (widest_is_computed.one k D _ ty h)
+  closes-case p u side cs tests values w ty found T h = ap (λ (x : Option Ty). by_widest p x found (λ y. a_typed.Case y u cs tests values w)) (widest_is_computed.one k A _ T ty h)
 
-  closes-typecase : (p : Place) (name : NameId) (types : List Ty) (u : TypedForm) (values : List TypedForm) (w : Option TypedForm) (ty : Ty) (found : Option Fault) → IsWidest k (types_of values ++ rule.else_types w) ty
+  closes-typecase : (p : Place) (name : NameId) (types : List Ty) (u : TypedForm) (values : List TypedForm) (w : Option TypedForm) (ty : Ty) (found : Option Fault) → AreTypes k (types_of values ++ rule.else_types w) → IsWidest k (types_of values ++ rule.else_types w) ty
       → typecase_answer k.facts p name types (record opened { head = Some u; second = values; last = w }) found ≡ value (a_typed.Typecase ty name u types values w) found
   unfolding typecase_answer
-  closes-typecase p name types u values w ty found h = ap (λ (x : Option Ty). by_widest p x found (λ y. a_typed.Typecase y name u types values w)) (widest_is_computed.one k D _ ty h)
+  closes-typecase p name types u values w ty found T h = ap (λ (x : Option Ty). by_widest p x found (λ y. a_typed.Typecase y name u types values w)) (widest_is_computed.one k A _ T ty h)
 
-  closes-try : (p : Place) (name : Option (Place × NameId)) (types : List Ty) (u : TypedForm) (values : List TypedForm) (w : Option TypedForm) (ty : Ty) (found : Option Fault) → IsWidest k (type_of u ∷ types_of values) ty
+  closes-try : (p : Place) (name : Option (Place × NameId)) (types : List Ty) (u : TypedForm) (values : List TypedForm) (w : Option TypedForm) (ty : Ty) (found : Option Fault) → AreTypes k (type_of u ∷ types_of values) → IsWidest k (type_of u ∷ types_of values) ty
       → try_answer k.facts p name types (record opened { head = Some u; second = values; last = w }) found ≡ value (a_typed.Try ty u (rule.bound_name name) types values w) found
   unfolding try_answer
-  closes-try p name types u values w ty found h = ap (λ (x : Option Ty). by_widest p x found (λ y. a_typed.Try y u (rule.bound_name name) types values w)) (widest_is_computed.one k D _ ty h)
+  closes-try p name types u values w ty found T h = ap (λ (x : Option Ty). by_widest p x found (λ y. a_typed.Try y u (rule.bound_name name) types values w)) (widest_is_computed.one k A _ T ty h)
 
   closes-assign : (p : Place) (sign : Update) (u w : TypedForm) (found : Option Fault) → rule.update_operator sign ≡ None
       → assign_answer k.facts p sign (record opened { head = Some u; last = Some w }) found ≡ value (a_typed.Assign unit u w) found
   unfolding assign_answer
   closes-assign p sign u w found h = ap (λ (x : Option Op). assigned_by k.facts p x u w found) h
 
-  closes-update : (p : Place) (sign : Update) (op : Op) (u w : TypedForm) (result : Ty) (widened : List Bool) (found : Option Fault) → rule.update_operator sign ≡ Some op
+  closes-update : (p : Place) (sign : Update) (op : Op) (u w : TypedForm) (result : Ty) (widened : List Bool) (found : Option Fault) → rule.update_operator sign ≡ Some op → IsType k (type_of u) → IsType k (type_of w)
       → Calls k (operator_set k.facts op 2) (type_of u ∷ type_of w ∷ []) result widened → IsBelow k result (type_of u)
       → assign_answer k.facts p sign (record opened { head = Some u; last = Some w }) found ≡ value (a_typed.Update unit u (chosen (operator_set k.facts op 2) widened) w) found
   unfolding assign_answer
-  closes-update p sign op u w result widened found h c b =
+  closes-update p sign op u w result widened found h T U c b =
       ap (λ (x : Option Op). assigned_by k.facts p x u w found) h
-      ∙ ap (λ (x : Called). sum_by k.facts op p u w x found) (D.calls _ _ result widened c)
-      ∙ ap (λ c. cond c (value (a_typed.Update unit u (chosen (operator_set k.facts op 2) widened) w) found) (refused MISMATCH p found)) (D.below result (type_of u) b)
+      ∙ ap (λ (x : Called). sum_by k.facts op p u w x found) (D.calls _ _ result widened (T, (U, tt)) c)
+      ∙ ap (λ c. cond c (value (a_typed.Update unit u (chosen (operator_set k.facts op 2) widened) w) found) (refused MISMATCH p found)) (D.below result (type_of u) (call-type k A _ _ result widened c) T b)
 
   -- ---- a chain
 
@@ -596,7 +606,7 @@ module _ (k : Knows) (D : Decides k) where
       let p = (judged k.facts d).place in
       let w : Frame = kept a_slot.First a opened in
       let w' : Frame = record w { side = Some (record { place = p; ty = type_of a }) } in
-      let left = sides-is c ds a us p bs w' found refl refl h.1 in
+      let left = sides-is c ds a us p bs w' found refl refl h.0.2 h.1 in
       (left.frame, first-side ops d (map (judged k.facts) ds) (st opened bs found) ∙ ap (sides_of ops (map (judged k.facts) ds)) (side-step None d a bs opened found w h.0 refl) ∙ left.is, left.firsts, left.calls, left.whole)
 
   closes-chain : (w : Frame) (ts : List TypedForm) (cs : List Chosen) (found : Option Fault) → w.first ≡ ts → w.calls ≡ cs → w.broken ≡ false
@@ -644,16 +654,16 @@ module _ (k : Knows) (D : Decides k) where
       ∙ ap (λ c. cond c after (rest after)) l
 
   clause-step : (b : Branch) (more : List Branch) (s u v : TypedForm) (place : Place) (result : Ty) (widened : List Bool) (bs : List Binding) (wf : Frame) (found : Option Fault)
-      → wf.side ≡ Some (record { place = place; ty = type_of s }) → Answered bs rule.an_operand (rule.test_of b) u
+      → wf.side ≡ Some (record { place = place; ty = type_of s }) → IsType k (type_of s) → Answered bs rule.an_operand (rule.test_of b) u
       → Calls k (operator_set k.facts an_op.Eq 2) (type_of s ∷ type_of u ∷ []) result widened → IsBelow k result boolean → Answered bs rule.a_value (rule.value_of b) v
       → clauses k.facts (map (judged_branch k.facts) (b ∷ more)) (st wf bs found)
       ≡ clauses k.facts (map (judged_branch k.facts) more) (st (record wf { first = wf.first ++ u ∷ []; second = wf.second ++ v ∷ []; calls = wf.calls ++ chosen (operator_set k.facts an_op.Eq 2) widened ∷ [] }) bs found)
   unfolding clauses
-  clause-step b more s u v place result widened bs wf found side h c bl i =
+  clause-step b more s u v place result widened bs wf found side S h c bl i =
       let rest = clauses k.facts (map (judged_branch k.facts) more) in
       ap (λ (a : Arm). rest (ask k.facts a_slot.Second a_want.Value a.value (take_test k.facts a.test.place (said a.test (st wf bs found))))) (arm-is k.facts b)
-      ∙ ap (λ (x : State). rest (ask k.facts a_slot.Second a_want.Value (judged k.facts (rule.value_of b)) x)) (test-is (rule.test_of b) s u place result widened bs wf found side h c bl)
-      ∙ ap rest (ask-is rule.a_value a_want.Value a_slot.Second (rule.value_of b) v bs (record wf { first = wf.first ++ u ∷ []; calls = wf.calls ++ chosen (operator_set k.facts an_op.Eq 2) widened ∷ [] }) found value_ i.0 i.1)
+      ∙ ap (λ (x : State). rest (ask k.facts a_slot.Second a_want.Value (judged k.facts (rule.value_of b)) x)) (test-is (rule.test_of b) s u place result widened bs wf found side S h c bl)
+      ∙ ap rest (ask-is rule.a_value a_want.Value a_slot.Second (rule.value_of b) v bs (record wf { first = wf.first ++ u ∷ []; calls = wf.calls ++ chosen (operator_set k.facts an_op.Eq 2) widened ∷ [] }) found value_ i)
 
   case-step : (name : Option (Place × NameId)) (b : TypeBranch) (more : List TypeBranch) (v : TypedForm) (bs : List Binding) (wf : Frame) (found : Option Fault)
       → Answered (rule.with_clause bs name (rule.clause_type b)) rule.a_value (out-TypeBranch b).value v
@@ -664,20 +674,20 @@ module _ (k : Knows) (D : Decides k) where
       ap (λ (c : Clause). rest (ask_with k.facts name c.ty a_slot.Second c.value (st wf bs found))) (clause-is k.facts b)
       ∙ ap rest (ask-with-is name (rule.clause_type b) a_slot.Second (out-TypeBranch b).value v bs wf found h)
 
-  catches-is : (branches : List TypeBranch) (s : State) → rule.AreExceptions k branches → catches k.facts (map (judged_clause k.facts) branches) s ≡ s
+  catches-is : (branches : List TypeBranch) (s : State) → AllByRecursion (ClauseWritten k) branches → rule.AreExceptions k branches → catches k.facts (map (judged_clause k.facts) branches) s ≡ s
   unfolding catches
-  catches-is [] s h = refl
-  catches-is (b ∷ more) s h =
+  catches-is [] s W h = refl
+  catches-is (b ∷ more) s W h =
       let rest = catches k.facts (map (judged_clause k.facts) more) in
       ap (λ (c : Clause). rest (cond (is_below k.facts c.ty exception) s (record s { frame = is_broken s.frame; found = breaks NOT_AN_EXCEPTION c.place s.found }))) (clause-is k.facts b)
-      ∙ ap (λ c. rest (cond c s (record s { frame = is_broken s.frame; found = breaks NOT_AN_EXCEPTION (out-TypeBranch b).place s.found }))) (D.below (rule.clause_type b) exception h.0)
-      ∙ catches-is more s h.1
+      ∙ ap (λ c. rest (cond c s (record s { frame = is_broken s.frame; found = breaks NOT_AN_EXCEPTION (out-TypeBranch b).place s.found }))) (D.below (rule.clause_type b) exception W.0.0 (built_in_type k A 1 (omega arith)) h.0)
+      ∙ catches-is more s W.1 h.1
 
-  clause-types : (branches : List TypeBranch) → map close_clause_type (map (judged_clause k.facts) branches) ≡ map rule.clause_type branches
+  pub clause-types : (branches : List TypeBranch) → map close_clause_type (map (judged_clause k.facts) branches) ≡ map rule.clause_type branches
   clause-types [] = refl
   clause-types (b ∷ more) = ap (λ (c : Clause). c.ty ∷ map close_clause_type (map (judged_clause k.facts) more)) (clause-is k.facts b) ∙ ap (λ (ts : List Ty). rule.clause_type b ∷ ts) (clause-types more)
 
-  giving-names : (gs : List Generator) → map giving_name (map (judged_generator k.facts) gs) ≡ map rule.generator_name gs
+  pub giving-names : (gs : List Generator) → map giving_name (map (judged_generator k.facts) gs) ≡ map rule.generator_name gs
   giving-names [] = refl
   giving-names (g ∷ more) = ap (λ (x : Giving). giving_name x ∷ map giving_name (map (judged_generator k.facts) more)) (giving-is k.facts g)
       ∙ ap (λ (ns : List (NameId × Bool)). rule.generator_name g ∷ ns) (giving-names more)
@@ -697,15 +707,23 @@ module _ (k : Knows) (D : Decides k) where
   subject-is d u bs wf found h =
       let p = (judged k.facts d).place in
       ap (λ (o : Outcome). let v = taken k.facts a_want.Operand p o.seen o.found in st (record (kept_if a_slot.Head v.node wf) { side = side_of p v.node }) bs v.found) (h.0 found)
-      ∙ ap (λ (v : Valued). st (record (kept_if a_slot.Head v.node wf) { side = side_of p v.node }) bs v.found) (taken-is rule.an_operand a_want.Operand p u found operand_ h.1)
+      ∙ ap (λ (v : Valued). st (record (kept_if a_slot.Head v.node wf) { side = side_of p v.node }) bs v.found) (taken-is rule.an_operand a_want.Operand p u found operand_ h.1 h.2)
 
-  same-reduction : (r : Reduction) → Same (rule.reduction_want r) (reduction_want r)
+  pub same-reduction : (r : Reduction) → Same (rule.reduction_want r) (reduction_want r)
   same-reduction a_reduction.Sum = number_
   same-reduction a_reduction.Product = number_
   same-reduction a_reduction.Maximum = number_
   same-reduction a_reduction.Minimum = number_
   same-reduction a_reduction.Conjunction = truth_
   same-reduction a_reduction.Disjunction = truth_
+
+  want-reduction : (r : Reduction) → WantTyped (rule.reduction_want r)
+  want-reduction a_reduction.Sum = tt
+  want-reduction a_reduction.Product = tt
+  want-reduction a_reduction.Maximum = tt
+  want-reduction a_reduction.Minimum = tt
+  want-reduction a_reduction.Conjunction = tt
+  want-reduction a_reduction.Disjunction = tt
 
   -- ---- assignments
 
@@ -728,7 +746,7 @@ module _ (k : Knows) (D : Decides k) where
       let fin : Valued → State = λ v. st (kept_if a_slot.Last v.node wf) bs v.found in
       ap (λ (o : Outcome). fin (assigned_valued k.facts p wf.head (with_seen o.seen wf bs o.found))) (h.0 found)
       ∙ ap (λ (x : Option TypedForm). fin (assigned_valued k.facts p x (with_seen (a_meaning.Value w) wf bs found))) e
-      ∙ ap fin (below-is (type_of u) p w found (D.below _ _ h.1))
+      ∙ ap fin (below-is (type_of u) p w found (D.below _ _ h.2 h.3 h.1))
 
   ask-seen : (w : Want) (slot : Slot) (j : Judge) (m : Meaning) (wf : Frame) (bs : List Binding) (found : Option Fault) → ask k.facts slot w j (with_seen m wf bs found) ≡ ask k.facts slot w j (st wf bs found)
   unfolding ask said
@@ -741,17 +759,17 @@ module _ (k : Knows) (D : Decides k) where
   at-level e {y = y} bs found s is same parts closes = ap (λ (j : Judge). j.answer bs found) (judged-out e ∙ ap (λ z. judge_form k.facts (mapped z)) is ∙ ap (judge_form k.facts) same)
       ∙ ap (λ (t : State). close_at k.facts y t.frame bs t.found) parts ∙ closes
 
-  mapped-case : (p : Place) (s : Form) (branches : List Branch) (other : Option Form)
+  pub mapped-case : (p : Place) (s : Form) (branches : List Branch) (other : Option Form)
       → mapped (Form-F.Case p s branches other) ≡ Form-F.Case p (judged k.facts s) (map (judged_branch k.facts) branches) (option_map (judged k.facts) other)
   mapped-case p s branches None = refl
   mapped-case p s branches (Some d) = refl
 
-  mapped-typecase : (p spot : Place) (name : NameId) (s : Form) (branches : List TypeBranch) (other : Option Form)
+  pub mapped-typecase : (p spot : Place) (name : NameId) (s : Form) (branches : List TypeBranch) (other : Option Form)
       → mapped (Form-F.Typecase p spot name s branches other) ≡ Form-F.Typecase p spot name (judged k.facts s) (map (judged_clause k.facts) branches) (option_map (judged k.facts) other)
   mapped-typecase p spot name s branches None = refl
   mapped-typecase p spot name s branches (Some d) = refl
 
-  mapped-try : (p : Place) (b : Form) (name : Option (Place × NameId)) (branches : List TypeBranch) (last : Option Form)
+  pub mapped-try : (p : Place) (b : Form) (name : Option (Place × NameId)) (branches : List TypeBranch) (last : Option Form)
       → mapped (Form-F.Try p b name branches last) ≡ Form-F.Try p (judged k.facts b) name (map (judged_clause k.facts) branches) (option_map (judged k.facts) last)
   mapped-try p b name branches None = refl
   mapped-try p b name branches (Some d) = refl
@@ -762,277 +780,318 @@ module _ (k : Knows) (D : Decides k) where
   ItemsLeave bs is ts = (wf : Frame) (found : Option Fault) → wf.lost ≡ false → Reaches (items k.facts (map (judged_item k.facts) is) (st wf bs found)) (record wf { first = wf.first ++ ts }) found
 
   mutual
-    pub has-answered : {bs : List Binding} {e : Form} {t : TypedForm} → rule.Has k (Calls k) bs e t → (found : Option Fault) → (judged k.facts e).answer bs found ≡ value t found
-    has-answered {bs = bs} {e = e} (rule.number p n is te) found = at e bs found (st opened bs found) is refl (ap (λ u. value u found) (sym te))
-    has-answered {bs = bs} {e = e} (rule.words p n is te) found = at e bs found (st opened bs found) is refl (ap (λ u. value u found) (sym te))
-    has-answered {bs = bs} {e = e} (rule.truth p b is te) found = at e bs found (st opened bs found) is refl (ap (λ u. value u found) (sym te))
-    has-answered {bs = bs} {e = e} (rule.receiver p o is own te) found = at e bs found (st opened bs found) is refl (ap (λ x. receiver p x found) own ∙ ap (λ u. value u found) (sym te))
-    has-answered {bs = bs} {e = e} (rule.local p name b is s te) found = at e bs found (st opened bs found) is refl (closes-name p name bs found (a_binding b) s ∙ ap (λ u. value u found) (sym te))
-    has-answered {bs = bs} {e = e} (rule.own p name o f is s te) found = at e bs found (st opened bs found) is refl (closes-name p name bs found (a_field o f) s ∙ ap (λ u. value u found) (sym te))
-    has-answered {bs = bs} {e = e} (rule.top p name n v is s te) found = at e bs found (st opened bs found) is refl (closes-name p name bs found (a_variable n v) s ∙ ap (λ u. value u found) (sym te))
-    has-answered {bs = bs} {e = e} (rule.single p name o is s te) found = at e bs found (st opened bs found) is refl (closes-name p name bs found (a_single o) s ∙ ap (λ u. value u found) (sym te))
-    has-answered {bs = bs} {e = e} {t = t} (rule.parens p d is h) found =
-        let a = as-answered h in
-        at e bs found (st (kept a_slot.Head t opened) bs found) is (ask-is rule.a_value a_want.Value a_slot.Head d t bs opened found value_ a.0 a.1) refl
-    has-answered {bs = bs} {e = e} (rule.tuple p es ts is h te) found =
-        at e bs found (st (record opened { first = ts }) bs found) is (firsts-is rule.an_operand a_want.Operand es ts bs found operand_ (each-answered h)) (ap (λ u. value u found) (sym te))
-    has-answered {bs = bs} {e = e} (rule.operator p op es ts result widened is h c te) found =
-        at e bs found (st (record opened { first = ts }) bs found) is (firsts-is rule.an_operand a_want.Operand es ts bs found operand_ (each-answered h))
-        (closes-operator (operator_set k.facts op (length ts)) ts p result widened found c ∙ ap (λ u. value u found) (sym te))
-    has-answered {bs = bs} {e = e} (rule.chain p ops es ts cs is h c te) found =
-        let left = chain-is ops es ts cs bs found c (each-answered h) in
+    pub has-answered : {bs : List Binding} {e : Form} {t : TypedForm} → rule.Has k (Calls k) bs e t → AreBound k bs → IsWritten k e → (found : Option Fault) → (judged k.facts e).answer bs found ≡ value t found
+    has-answered {bs = bs} {e = e} (rule.number p n is te) B W found = at e bs found (st opened bs found) is refl (ap (λ u. value u found) (sym te))
+    has-answered {bs = bs} {e = e} (rule.words p n is te) B W found = at e bs found (st opened bs found) is refl (ap (λ u. value u found) (sym te))
+    has-answered {bs = bs} {e = e} (rule.truth p b is te) B W found = at e bs found (st opened bs found) is refl (ap (λ u. value u found) (sym te))
+    has-answered {bs = bs} {e = e} (rule.receiver p o is own te) B W found = at e bs found (st opened bs found) is refl (ap (λ x. receiver p x found) own ∙ ap (λ u. value u found) (sym te))
+    has-answered {bs = bs} {e = e} (rule.local p name b is s te) B W found = at e bs found (st opened bs found) is refl (closes-name p name bs found (a_binding b) s ∙ ap (λ u. value u found) (sym te))
+    has-answered {bs = bs} {e = e} (rule.own p name o f is s te) B W found = at e bs found (st opened bs found) is refl (closes-name p name bs found (a_field o f) s ∙ ap (λ u. value u found) (sym te))
+    has-answered {bs = bs} {e = e} (rule.top p name n v is s te) B W found = at e bs found (st opened bs found) is refl (closes-name p name bs found (a_variable n v) s ∙ ap (λ u. value u found) (sym te))
+    has-answered {bs = bs} {e = e} (rule.single p name o is s te) B W found = at e bs found (st opened bs found) is refl (closes-name p name bs found (a_single o) s ∙ ap (λ u. value u found) (sym te))
+    has-answered {bs = bs} {e = e} {t = t} (rule.parens p d is h) B W found =
+        let F = of-parts k e is W in
+        let a = as-answered h B F tt in
+        at e bs found (st (kept a_slot.Head t opened) bs found) is (ask-is rule.a_value a_want.Value a_slot.Head d t bs opened found value_ a) refl
+    has-answered {bs = bs} {e = e} (rule.tuple p es ts is h te) B W found =
+        let F = of-parts k e is W in
+        at e bs found (st (record opened { first = ts }) bs found) is (firsts-is rule.an_operand a_want.Operand es ts bs found operand_ (each-answered h B F tt)) (ap (λ u. value u found) (sym te))
+    has-answered {bs = bs} {e = e} (rule.operator p op es ts result widened is h c te) B W found =
+        let F = of-parts k e is W in
+        at e bs found (st (record opened { first = ts }) bs found) is (firsts-is rule.an_operand a_want.Operand es ts bs found operand_ (each-answered h B F tt))
+        (closes-operator (operator_set k.facts op (length ts)) ts p result widened found (all-types k A ts (typed-each k A h B F)) c ∙ ap (λ u. value u found) (sym te))
+    has-answered {bs = bs} {e = e} (rule.chain p ops es ts cs is h c te) B W found =
+        let F = of-parts k e is W in
+        let left = chain-is ops es ts cs bs found c (each-answered h B F tt) in
         at e bs found (st left.0 bs found) is left.1 (closes-chain left.0 ts cs found left.2 left.3 left.4 ∙ ap (λ u. value u found) (sym te))
-    has-answered {bs = bs} {e = e} {t = t} (rule.beside p es ps is h s) found =
-        at e bs found (st (record opened { parts = ps }) bs found) is (parts-answered h opened found) (beside_is_computed k D ps t s found)
-    has-answered {bs = bs} {e = e} {t = t} (rule.run p es ps is h b) found =
-        at e bs found (st (record opened { parts = ps }) bs found) is (parts-answered h opened found) (run_is_computed k D ps t b found)
-    has-answered {bs = bs} {e = e} (rule.fill p ty n v u w is hu hw te) found =
-        let a = as-answered hu in let b = as-answered hw in
+    has-answered {bs = bs} {e = e} {t = t} (rule.beside p es ps is h s) B W found =
+        let F = of-parts k e is W in
+        at e bs found (st (record opened { parts = ps }) bs found) is (parts-answered h B F opened found) (beside_is_computed k A ps (typed-parts k A h B F) t s found)
+    has-answered {bs = bs} {e = e} {t = t} (rule.run p es ps is h b) B W found =
+        let F = of-parts k e is W in
+        at e bs found (st (record opened { parts = ps }) bs found) is (parts-answered h B F opened found) (run_is_computed k A ps (typed-parts k A h B F) t b found)
+    has-answered {bs = bs} {e = e} (rule.fill p ty n v u w is hu hw te) B W found =
+        let F = of-parts k e is W in
+        let a = as-answered hu B F.1 (built_in_type k A 2 (omega arith)) in let b = as-answered hw B F.2 F.0 in
         at e bs found (st (kept a_slot.Last w (kept a_slot.Head u opened)) bs found) is
-        (ap (ask_below k.facts ty (judged k.facts v)) (ask-is (rule.below zz32) a_want.Small a_slot.Head n u bs opened found small_ a.0 a.1)
-        ∙ ask-below-is ty v w bs (kept a_slot.Head u opened) found b.0 (D.below _ _ b.1))
+        (ap (ask_below k.facts ty (judged k.facts v)) (ask-is (rule.below zz32) a_want.Small a_slot.Head n u bs opened found small_ a)
+        ∙ ask-below-is ty v w bs (kept a_slot.Head u opened) found b.0 (D.below _ _ b.2 b.3 b.1))
         (ap (λ x. value x found) (sym te))
-    has-answered {bs = bs} {e = e} (rule.block p is ts ty eq h te) found =
-        let r = items-answered h opened found refl in
+    has-answered {bs = bs} {e = e} (rule.block p is ts ty eq h te) B W found =
+        let F = of-parts k e eq W in
+        let r = items-answered h B F opened found refl in
         at e bs found (st (record opened { first = ts }) r.0 found) eq r.1 (ap (λ (x : Ty). value (a_typed.Block x ts) found) (block-type h) ∙ ap (λ u. value u found) (sym te))
-    has-answered {bs = bs} {e = e} {t = t} (rule.do_one p b is h) found =
-        let a = as-answered h in
-        at e bs found (st (kept a_slot.Head t opened) bs found) is (ask-is rule.a_value a_want.Value a_slot.Head b t bs opened found value_ a.0 a.1) refl
-    has-answered {bs = bs} {e = e} (rule.do_also p a b others ts is h te) found =
-        at e bs found (st (record opened { first = ts }) bs found) is (firsts-is (rule.below unit) a_want.Unit (a ∷ b ∷ others) ts bs found unit_ (each-answered h)) (ap (λ u. value u found) (sym te))
-    has-answered {bs = bs} {e = e} (rule.if_alone p branches tests values is h i te) found =
+    has-answered {bs = bs} {e = e} {t = t} (rule.do_one p b is h) B W found =
+        let F = of-parts k e is W in
+        let a = as-answered h B F.0 tt in
+        at e bs found (st (kept a_slot.Head t opened) bs found) is (ask-is rule.a_value a_want.Value a_slot.Head b t bs opened found value_ a) refl
+    has-answered {bs = bs} {e = e} (rule.do_also p a b others ts is h te) B W found =
+        let F = of-parts k e is W in
+        at e bs found (st (record opened { first = ts }) bs found) is (firsts-is (rule.below unit) a_want.Unit (a ∷ b ∷ others) ts bs found unit_ (each-answered h B F (unit_type k A))) (ap (λ u. value u found) (sym te))
+    has-answered {bs = bs} {e = e} (rule.if_alone p branches tests values is h i te) B W found =
+        let F = of-parts k e is W in
         at e bs found (st (record opened { first = tests; second = values }) bs found) is
-        (arms-is a_want.Unit (rule.below unit) branches tests values bs opened found unit_ (each-answered h) (each-answered i))
+        (arms-is a_want.Unit (rule.below unit) branches tests values bs opened found unit_ (each-answered h B (tests-of k branches F.0) tt) (each-answered i B (values-of k branches F.0) (unit_type k A)))
         (closes-if-alone p tests values found ∙ ap (λ u. value u found) (sym te))
-    has-answered {bs = bs} {e = e} (rule.if_else p branches d tests values u ty is h i hd wide te) found =
-        let a = as-answered hd in
+    has-answered {bs = bs} {e = e} (rule.if_else p branches d tests values u ty is h i hd wide te) B W found =
+        let F = of-parts k e is W in
+        let a = as-answered hd B F.1 tt in
+        let T = all_join (IsType k) (types_of values) (type_of u ∷ []) (all-types k A values (typed-each k A i B (values-of k branches F.0))) (a.2, tt) in
         at e bs found (st (record opened { first = tests; second = values; last = Some u }) bs found) is
-        (ap (ask k.facts a_slot.Last a_want.Value (judged k.facts d)) (arms-is a_want.Value rule.a_value branches tests values bs opened found value_ (each-answered h) (each-answered i))
-        ∙ ask-is rule.a_value a_want.Value a_slot.Last d u bs (record opened { first = tests; second = values }) found value_ a.0 a.1)
-        (closes-if-else p (judged k.facts d) tests values u ty found wide ∙ ap (λ u. value u found) (sym te))
-    has-answered {bs = bs} {e = e} (rule.while_do p c b u v is hc hb te) found =
-        let x = as-answered hc in let y = as-answered hb in
+        (ap (ask k.facts a_slot.Last a_want.Value (judged k.facts d)) (arms-is a_want.Value rule.a_value branches tests values bs opened found value_ (each-answered h B (tests-of k branches F.0) tt) (each-answered i B (values-of k branches F.0) tt))
+        ∙ ask-is rule.a_value a_want.Value a_slot.Last d u bs (record opened { first = tests; second = values }) found value_ a)
+        (closes-if-else p (judged k.facts d) tests values u ty found T wide ∙ ap (λ u. value u found) (sym te))
+    has-answered {bs = bs} {e = e} (rule.while_do p c b u v is hc hb te) B W found =
+        let F = of-parts k e is W in
+        let x = as-answered hc B F.0 tt in let y = as-answered hb B F.1 (unit_type k A) in
         at e bs found (st (kept a_slot.Last v (kept a_slot.Head u opened)) bs found) is
-        (ap (ask k.facts a_slot.Last a_want.Unit (judged k.facts b)) (ask-is rule.a_truth a_want.Truth a_slot.Head c u bs opened found truth_ x.0 x.1)
-        ∙ ask-is (rule.below unit) a_want.Unit a_slot.Last b v bs (kept a_slot.Head u opened) found unit_ y.0 y.1)
+        (ap (ask k.facts a_slot.Last a_want.Unit (judged k.facts b)) (ask-is rule.a_truth a_want.Truth a_slot.Head c u bs opened found truth_ x)
+        ∙ ask-is (rule.below unit) a_want.Unit a_slot.Last b v bs (kept a_slot.Head u opened) found unit_ y)
         (ap (λ x. value x found) (sym te))
-    has-answered {bs = bs} {e = e} (rule.for_do p gs b inner us v is hs hb te) found =
-        let a = as-answered hb in
+    has-answered {bs = bs} {e = e} (rule.for_do p gs b inner us v is hs hb te) B W found =
+        let F = of-parts k e is W in
+        let a = as-answered hb (sources-bound k A hs B F.0) F.1 (unit_type k A) in
         at e bs found (st (record opened { first = us; last = Some v }) inner found) is
-        (ap (unless_lost (ask k.facts a_slot.Last a_want.Unit (judged k.facts b))) (sources-answered hs opened found refl)
-        ∙ ask-is (rule.below unit) a_want.Unit a_slot.Last b v inner (record opened { first = us }) found unit_ a.0 a.1)
+        (ap (unless_lost (ask k.facts a_slot.Last a_want.Unit (judged k.facts b))) (sources-answered hs B F.0 opened found refl)
+        ∙ ask-is (rule.below unit) a_want.Unit a_slot.Last b v inner (record opened { first = us }) found unit_ a)
         (ap (λ (ns : List (NameId × Bool)). value (a_typed.For unit ns us v) found) (giving-names gs) ∙ ap (λ u. value u found) (sym te))
-    has-answered {bs = bs} {e = e} (rule.case p s branches other u cs tests values w ty is hs hc ho wide te) found =
+    has-answered {bs = bs} {e = e} (rule.case p s branches other u cs tests values w ty is hs hc ho wide te) B W found =
+        let F = of-parts k e is W in
+        let a = as-answered hs B F.0 tt in
+        let T = all_join (IsType k) (types_of values) (rule.else_types w) (all-types k A values (typed-clauses k A hc B F.1)) (typed-else k A ho B F.2) in
         let place = (judged k.facts s).place in
         let side : Option Side = Some (record { place = place; ty = type_of u }) in
         at-level e bs found (st (record opened { head = Some u; first = tests; second = values; last = w; calls = cs; side = side }) bs found) is (mapped-case p s branches other)
-        (ap (λ (x : State). ask_if k.facts a_slot.Last a_want.Value (option_map (judged k.facts) other) (clauses k.facts (map (judged_branch k.facts) branches) x)) (subject-is s u bs opened found (as-answered hs))
-        ∙ ap (ask_if k.facts a_slot.Last a_want.Value (option_map (judged k.facts) other)) (clauses-answered hc place (record opened { head = Some u; side = side }) found refl)
-        ∙ ask-if-is rule.a_value a_want.Value other w bs (record opened { head = Some u; first = tests; second = values; calls = cs; side = side }) found value_ refl (else-answered ho))
-        (closes-case p u side cs tests values w ty found wide ∙ ap (λ u. value u found) (sym te))
-    has-answered {bs = bs} {e = e} (rule.typecase p spot name s branches other u values w ty is free hs hc ho wide te) found =
-        let a = as-answered hs in
+        (ap (λ (x : State). ask_if k.facts a_slot.Last a_want.Value (option_map (judged k.facts) other) (clauses k.facts (map (judged_branch k.facts) branches) x)) (subject-is s u bs opened found a)
+        ∙ ap (ask_if k.facts a_slot.Last a_want.Value (option_map (judged k.facts) other)) (clauses-answered hc B F.1 a.2 place (record opened { head = Some u; side = side }) found refl)
+        ∙ ask-if-is rule.a_value a_want.Value other w bs (record opened { head = Some u; first = tests; second = values; calls = cs; side = side }) found value_ refl (else-answered ho B F.2))
+        (closes-case p u side cs tests values w ty found T wide ∙ ap (λ u. value u found) (sym te))
+    has-answered {bs = bs} {e = e} (rule.typecase p spot name s branches other u values w ty is free hs hc ho wide te) B W found =
+        let F = of-parts k e is W in
+        let a = as-answered hs B F.0 tt in
+        let C = clause-bound k A bs (Some (spot, name)) (type_of u) B a.2 in
+        let T = all_join (IsType k) (types_of values) (rule.else_types w) (all-types k A values (typed-cases k A hc B F.1)) (typed-else k A ho C F.2) in
         let bound : Option (Place × NameId) = Some (spot, name) in
         let rest : State → State = λ x. else_with k.facts bound (option_map (judged k.facts) other) (cases k.facts bound (map (judged_clause k.facts) branches) x) in
         at-level e bs found (st (record opened { head = Some u; second = values; last = w }) bs found) is (mapped-typecase p spot name s branches other)
         (ap (λ (x : State). unless_lost rest (lost_if_broken (ask k.facts a_slot.Head a_want.Value (judged k.facts s) x))) (watch-is bound bs opened found (ap (λ c. cond c false true) free))
-        ∙ ap (λ (x : State). unless_lost rest (lost_if_broken x)) (ask-is rule.a_value a_want.Value a_slot.Head s u bs opened found value_ a.0 a.1)
-        ∙ ap (else_with k.facts bound (option_map (judged k.facts) other)) (cases-answered hc (record opened { head = Some u }) found)
-        ∙ else-with-is bound u other w bs (record opened { head = Some u; second = values }) found refl refl (else-answered ho))
+        ∙ ap (λ (x : State). unless_lost rest (lost_if_broken x)) (ask-is rule.a_value a_want.Value a_slot.Head s u bs opened found value_ a)
+        ∙ ap (else_with k.facts bound (option_map (judged k.facts) other)) (cases-answered hc B F.1 (record opened { head = Some u }) found)
+        ∙ else-with-is bound u other w bs (record opened { head = Some u; second = values }) found refl refl (else-answered ho C F.2))
         (ap (λ (types : List Ty). typecase_answer k.facts p name types (record opened { head = Some u; second = values; last = w }) found) (clause-types branches)
-        ∙ closes-typecase p name (map rule.clause_type branches) u values w ty found wide ∙ ap (λ u. value u found) (sym te))
-    has-answered {bs = bs} {e = e} (rule.try_catch p b name branches last u values w ty is hb fresh exceptions hc hl wide te) found =
-        let a = as-answered hb in
+        ∙ closes-typecase p name (map rule.clause_type branches) u values w ty found T wide ∙ ap (λ u. value u found) (sym te))
+    has-answered {bs = bs} {e = e} (rule.try_catch p b name branches last u values w ty is hb fresh exceptions hc hl wide te) B W found =
+        let F = of-parts k e is W in
+        let a = as-answered hb B F.0 tt in
+        let T : AreTypes k (type_of u ∷ types_of values) = (a.2, all-types k A values (typed-cases k A hc B F.1)) in
         let js = map (judged_clause k.facts) branches in
         let final : State → State = ask_if k.facts a_slot.Last a_want.Unit (option_map (judged k.facts) last) in
         let w1 : Frame = record opened { head = Some u } in
         at-level e bs found (st (record opened { head = Some u; second = values; last = w }) bs found) is (mapped-try p b name branches last)
-        (ap (λ (x : State). final (unless_lost (cases k.facts name js) (catches k.facts js (watch k.facts name x)))) (ask-is rule.a_value a_want.Value a_slot.Head b u bs opened found value_ a.0 a.1)
+        (ap (λ (x : State). final (unless_lost (cases k.facts name js) (catches k.facts js (watch k.facts name x)))) (ask-is rule.a_value a_want.Value a_slot.Head b u bs opened found value_ a)
         ∙ ap (λ (x : State). final (unless_lost (cases k.facts name js) (catches k.facts js x))) (watch-is name bs w1 found fresh)
-        ∙ ap (λ (x : State). final (unless_lost (cases k.facts name js) x)) (catches-is branches (st w1 bs found) exceptions)
-        ∙ ap final (cases-answered hc w1 found)
-        ∙ ask-if-is (rule.below unit) a_want.Unit last w bs (record opened { head = Some u; second = values }) found unit_ refl (finally-answered hl))
+        ∙ ap (λ (x : State). final (unless_lost (cases k.facts name js) x)) (catches-is branches (st w1 bs found) F.1 exceptions)
+        ∙ ap final (cases-answered hc B F.1 w1 found)
+        ∙ ask-if-is (rule.below unit) a_want.Unit last w bs (record opened { head = Some u; second = values }) found unit_ refl (finally-answered hl B F.2))
         (ap (λ (types : List Ty). try_answer k.facts p name types (record opened { head = Some u; second = values; last = w }) found) (clause-types branches)
-        ∙ closes-try p name (map rule.clause_type branches) u values w ty found wide ∙ ap (λ u. value u found) (sym te))
-    has-answered {bs = bs} {e = e} (rule.atomic p d u is h te) found =
-        let a = as-answered h in
-        at e bs found (st (kept a_slot.Head u opened) bs found) is (ask-is rule.a_value a_want.Value a_slot.Head d u bs opened found value_ a.0 a.1) (ap (λ x. value x found) (sym te))
-    has-answered {bs = bs} {e = e} (rule.tryatomic p d u is h te) found =
-        let a = as-answered h in
-        at e bs found (st (kept a_slot.Head u opened) bs found) is (ask-is rule.a_value a_want.Value a_slot.Head d u bs opened found value_ a.0 a.1) (ap (λ x. value x found) (sym te))
-    has-answered {bs = bs} {e = e} (rule.throw p d u is h te) found =
-        let a = as-answered h in
-        at e bs found (st (kept a_slot.Head u opened) bs found) is (ask-is rule.an_exception a_want.Exception a_slot.Head d u bs opened found exception_ a.0 a.1) (ap (λ x. value x found) (sym te))
-    has-answered {bs = bs} {e = e} (rule.function p ps d inner u is b h te) found =
-        let a = as-answered h in
+        ∙ closes-try p name (map rule.clause_type branches) u values w ty found T wide ∙ ap (λ u. value u found) (sym te))
+    has-answered {bs = bs} {e = e} (rule.atomic p d u is h te) B W found =
+        let F = of-parts k e is W in
+        let a = as-answered h B F tt in
+        at e bs found (st (kept a_slot.Head u opened) bs found) is (ask-is rule.a_value a_want.Value a_slot.Head d u bs opened found value_ a) (ap (λ x. value x found) (sym te))
+    has-answered {bs = bs} {e = e} (rule.tryatomic p d u is h te) B W found =
+        let F = of-parts k e is W in
+        let a = as-answered h B F tt in
+        at e bs found (st (kept a_slot.Head u opened) bs found) is (ask-is rule.a_value a_want.Value a_slot.Head d u bs opened found value_ a) (ap (λ x. value x found) (sym te))
+    has-answered {bs = bs} {e = e} (rule.throw p d u is h te) B W found =
+        let F = of-parts k e is W in
+        let a = as-answered h B F tt in
+        at e bs found (st (kept a_slot.Head u opened) bs found) is (ask-is rule.an_exception a_want.Exception a_slot.Head d u bs opened found exception_ a) (ap (λ x. value x found) (sym te))
+    has-answered {bs = bs} {e = e} (rule.function p ps d inner u is b h te) B W found =
+        let F = of-parts k e is W in
+        let a = as-answered h (binds-bound k A b B (parameters-bound k A ps F.0)) F.1 tt in
         at e bs found (st (kept a_slot.Head u opened) inner found) is
         (ap (unless_lost (ask k.facts a_slot.Head a_want.Value (judged k.facts d))) (binds-is b opened found refl)
-        ∙ ask-is rule.a_value a_want.Value a_slot.Head d u inner opened found value_ a.0 a.1)
+        ∙ ask-is rule.a_value a_want.Value a_slot.Head d u inner opened found value_ a)
         (ap (λ x. value x found) (sym te))
-    has-answered {bs = bs} {e = e} (rule.reduce p r g d inner s u is hs h te) found =
-        let a = as-answered h in
+    has-answered {bs = bs} {e = e} (rule.reduce p r g d inner s u is hs h te) B W found =
+        let F = of-parts k e is W in
+        let a = as-answered h (sources-bound k A hs B (F.0, tt)) F.1 (want-reduction r) in
         at e bs found (st (record opened { first = s ∷ []; last = Some u }) inner found) is
-        (ap (unless_lost (ask k.facts a_slot.Last (reduction_want r) (judged k.facts d))) (sources-answered hs opened found refl)
-        ∙ ask-is (rule.reduction_want r) (reduction_want r) a_slot.Last d u inner (record opened { first = s ∷ [] }) found (same-reduction r) a.0 a.1)
+        (ap (unless_lost (ask k.facts a_slot.Last (reduction_want r) (judged k.facts d))) (sources-answered hs B (F.0, tt) opened found refl)
+        ∙ ask-is (rule.reduction_want r) (reduction_want r) a_slot.Last d u inner (record opened { first = s ∷ [] }) found (same-reduction r) a)
         (ap (λ (x : Giving). reduced k.facts r x (s ∷ []) u found) (giving-is k.facts g) ∙ ap (λ x. value x found) (sym te))
-    has-answered {bs = bs} {e = e} (rule.assign p d v sign u w is none hd target h te) found =
+    has-answered {bs = bs} {e = e} (rule.assign p d v sign u w is none hd target h te) B W found =
+        let F = of-parts k e is W in
         let place = (judged k.facts d).place in
         let seen = with_seen (a_meaning.Value u) (kept a_slot.Head u opened) bs found in
         at e bs found (st (kept a_slot.Last w (kept a_slot.Head u opened)) bs found) is
-        (ap (assigned_part k.facts (rule.update_operator sign) (judged k.facts v)) (target-step d u bs opened found (has-answered hd) target)
+        (ap (assigned_part k.facts (rule.update_operator sign) (judged k.facts v)) (target-step d u bs opened found (has-answered hd B F.0) target)
         ∙ ap (λ (x : Option Op). assigned_part k.facts x (judged k.facts v) seen) none
-        ∙ assigned-is v u w (a_meaning.Value u) bs (kept a_slot.Head u opened) found refl (as-answered h))
+        ∙ assigned-is v u w (a_meaning.Value u) bs (kept a_slot.Head u opened) found refl (as-answered h B F.1 (typed-of k A hd B F.0).0))
         (closes-assign place sign u w found none ∙ ap (λ x. value x found) (sym te))
-    has-answered {bs = bs} {e = e} (rule.update p d v sign op u w result widened is some hd target h c b te) found =
+    has-answered {bs = bs} {e = e} (rule.update p d v sign op u w result widened is some hd target h c b te) B W found =
+        let F = of-parts k e is W in
         let place = (judged k.facts d).place in
-        let a = as-answered h in
+        let a = as-answered h B F.1 tt in
         let seen = with_seen (a_meaning.Value u) (kept a_slot.Head u opened) bs found in
         at e bs found (st (kept a_slot.Last w (kept a_slot.Head u opened)) bs found) is
-        (ap (assigned_part k.facts (rule.update_operator sign) (judged k.facts v)) (target-step d u bs opened found (has-answered hd) target)
+        (ap (assigned_part k.facts (rule.update_operator sign) (judged k.facts v)) (target-step d u bs opened found (has-answered hd B F.0) target)
         ∙ ap (λ (x : Option Op). assigned_part k.facts x (judged k.facts v) seen) some
         ∙ ask-seen a_want.Operand a_slot.Last (judged k.facts v) (a_meaning.Value u) (kept a_slot.Head u opened) bs found
-        ∙ ask-is rule.an_operand a_want.Operand a_slot.Last v w bs (kept a_slot.Head u opened) found operand_ a.0 a.1)
-        (closes-update place sign op u w result widened found some c b ∙ ap (λ x. value x found) (sym te))
+        ∙ ask-is rule.an_operand a_want.Operand a_slot.Last v w bs (kept a_slot.Head u opened) found operand_ a)
+        (closes-update place sign op u w result widened found some (typed-of k A hd B F.0).0 a.2 c b ∙ ap (λ x. value x found) (sym te))
 
-    as-answered : {bs : List Binding} {want : rule.Want} {e : Form} {t : TypedForm} → rule.HasAs k (Calls k) bs want e t → Answered bs want e t
-    as-answered (rule.suits h s) = (has-answered h, s)
+    as-answered : {bs : List Binding} {want : rule.Want} {e : Form} {t : TypedForm} → rule.HasAs k (Calls k) bs want e t → AreBound k bs → IsWritten k e → WantTyped want → Answered bs want e t
+    as-answered (rule.suits h s) B W V = (has-answered h B W, s, (typed-of k A h B W).0, V)
 
-    each-answered : {bs : List Binding} {want : rule.Want} {es : List Form} {ts : List TypedForm} → rule.HasEach k (Calls k) bs want es ts → AllAnswered bs want es ts
-    each-answered {bs = bs} {want = want} (rule.no_part e1 e2) = none-asked bs want e1 e2
-    each-answered {bs = bs} {want = want} (rule.part_ d ds u us e1 e2 h rest) = one-asked bs want d ds u us e1 e2 (as-answered h) (each-answered rest)
+    each-answered : {bs : List Binding} {want : rule.Want} {es : List Form} {ts : List TypedForm} → rule.HasEach k (Calls k) bs want es ts → AreBound k bs → AllWritten k es → WantTyped want → AllAnswered bs want es ts
+    each-answered {bs = bs} {want = want} (rule.no_part e1 e2) B W V = none-asked bs want e1 e2
+    each-answered {bs = bs} {want = want} (rule.part_ d ds u us e1 e2 h rest) B W V = let F = subst (AllWritten k) e1 W in one-asked bs want d ds u us e1 e2 (as-answered h B F.0 V) (each-answered rest B F.1 V)
 
-    items-answered : {bs : List Binding} {is : List Item} {ts : List TypedForm} {ty : Ty} → rule.HasItems k (Calls k) bs is ts ty → ItemsLeave bs is ts
-    items-answered {bs = bs} (rule.no_item e1 e2 e3) wf found l = (
+    pub items-answered : {bs : List Binding} {is : List Item} {ts : List TypedForm} {ty : Ty} → rule.HasItems k (Calls k) bs is ts ty → AreBound k bs → AllByRecursion (ItemWritten k) is → ItemsLeave bs is ts
+    items-answered {bs = bs} (rule.no_item e1 e2 e3) B W wf found l = (
       bs,
       ap (λ (x : List Item). items k.facts (map (judged_item k.facts) x) (st wf bs found)) e1 ∙ no-items (st wf bs found)
           ∙ ap (λ (x : List TypedForm). st (record wf { first = x }) bs found) (sym (nothing_behind wf.first) ∙ ap (λ (x : List TypedForm). wf.first ++ x) (sym e2)),
     )
-    items-answered {bs = bs} (rule.last_item i d u e1 e2 h e3 e4) wf found l =
-        let a = as-answered h in (
+    items-answered {bs = bs} (rule.last_item i d u e1 e2 h e3 e4) B W wf found l =
+        let F = subst (AllByRecursion (ItemWritten k)) e1 W in
+        let a = as-answered h B (of-item k i e2 (all_first (ItemWritten k) i [] F)) tt in (
           bs,
           ap (λ (x : List Item). items k.facts (map (judged_item k.facts) x) (st wf bs found)) e1 ∙ last-piece (judged_item k.facts i) (st wf bs found)
               ∙ ap (λ (x : Piece). item k.facts a_want.Value x (st wf bs found)) (item-out i e2)
-              ∙ ask-is rule.a_value a_want.Value a_slot.First d u bs wf found value_ a.0 a.1
+              ∙ ask-is rule.a_value a_want.Value a_slot.First d u bs wf found value_ a
               ∙ ap (λ (x : List TypedForm). st (record wf { first = wf.first ++ x }) bs found) (sym e3),
         )
-    items-answered {bs = bs} (rule.expression i j more d u us e1 e2 h rest e3) wf found l =
-        let a = as-answered h in
-        let r = items-answered rest (kept a_slot.First u wf) found l in (
+    items-answered {bs = bs} (rule.expression i j more d u us e1 e2 h rest e3) B W wf found l =
+        let F = subst (AllByRecursion (ItemWritten k)) e1 W in
+        let a = as-answered h B (of-item k i e2 (all_first (ItemWritten k) i (j ∷ more) F)) (unit_type k A) in
+        let r = items-answered rest B (all_rest (ItemWritten k) i (j ∷ more) F) (kept a_slot.First u wf) found l in (
           r.0,
           ap (λ (x : List Item). items k.facts (map (judged_item k.facts) x) (st wf bs found)) e1
               ∙ unit_go_on (judged_item k.facts i) (judged_item k.facts j) (map (judged_item k.facts) more) (st wf bs found) (kept a_slot.First u wf) bs found
-              (ap (λ (x : Piece). item k.facts a_want.Unit x (st wf bs found)) (item-out i e2) ∙ ask-is (rule.below unit) a_want.Unit a_slot.First d u bs wf found unit_ a.0 a.1) l
+              (ap (λ (x : Piece). item k.facts a_want.Unit x (st wf bs found)) (item-out i e2) ∙ ask-is (rule.below unit) a_want.Unit a_slot.First d u bs wf found unit_ a) l
               ∙ r.1
               ∙ ap (λ (x : List TypedForm). st (record wf { first = x }) r.0 found) (one_behind wf.first us u ∙ ap (λ (x : List TypedForm). wf.first ++ x) (sym e3)),
         )
-    items-answered {bs = bs} (rule.declared i more p name mutable want d u us e1 e2 fresh h rest e3) wf found l =
-        let a = as-answered h in
+    items-answered {bs = bs} (rule.declared i more p name mutable want d u us e1 e2 fresh h rest e3) B W wf found l =
+        let F = subst (AllByRecursion (ItemWritten k)) e1 W in
+        let G = of-item k i e2 (all_first (ItemWritten k) i more F) in
+        let a = as-answered h B G.1 G.0 in
         let b : Binding = record { name = name; place = p; ty = want; mutable = mutable } in
         let t = a_typed.Bind unit name mutable want u in
-        let r = items-answered rest (kept a_slot.First t wf) found l in (
+        let r = items-answered rest (one-bound k A bs b B G.0) (all_rest (ItemWritten k) i more F) (kept a_slot.First t wf) found l in (
           r.0,
           ap (λ (x : List Item). items k.facts (map (judged_item k.facts) x) (st wf bs found)) e1
               ∙ go_on (judged_item k.facts i) (map (judged_item k.facts) more) (st wf bs found) (kept a_slot.First t wf) (bs ++ b ∷ []) found
               (λ (w : Want). ap (λ (x : Piece). item k.facts w x (st wf bs found)) (item-out i e2)
-              ∙ ap (bind k.facts b) (initial-is name mutable want d u bs wf found a.0 (D.below _ _ a.1))
+              ∙ ap (bind k.facts b) (initial-is name mutable want d u bs wf found a.0 (D.below _ _ a.2 a.3 a.1))
               ∙ bind-is b bs (kept a_slot.First t wf) found fresh) l
               ∙ r.1
               ∙ ap (λ (x : List TypedForm). st (record wf { first = x }) r.0 found) (one_behind wf.first us t ∙ ap (λ (x : List TypedForm). wf.first ++ x) (sym e3)),
         )
-    items-answered {bs = bs} (rule.declared_all i more p names want d new inner u us e1 e2 parts b h rest e3) wf found l =
-        let a = as-answered h in
+    items-answered {bs = bs} (rule.declared_all i more p names want d new inner u us e1 e2 parts b h rest e3) B W wf found l =
+        let F = subst (AllByRecursion (ItemWritten k)) e1 W in
+        let G = of-item k i e2 (all_first (ItemWritten k) i more F) in
+        let a = as-answered h B G.1 G.0 in
         let j = judged k.facts d in
         let t = a_typed.Binds unit (map rule.name_and_type new) u in
-        let r = items-answered rest (kept a_slot.First t wf) found l in (
+        let r = items-answered rest (binds-bound k A b B (named-bound k A names want new G.0 parts)) (all_rest (ItemWritten k) i more F) (kept a_slot.First t wf) found l in (
           r.0,
           ap (λ (x : List Item). items k.facts (map (judged_item k.facts) x) (st wf bs found)) e1
               ∙ go_on (judged_item k.facts i) (map (judged_item k.facts) more) (st wf bs found) (kept a_slot.First t wf) inner found
               (λ (w : Want). ap (λ (x : Piece). item k.facts w x (st wf bs found)) (item-out i e2)
               ∙ ap (λ (x : Option (List Binding)). bind_parts k.facts x (take_initials k.facts p want x j.place (said j (st wf bs found)))) parts
-              ∙ ap (bind_all k.facts new) (initials-is p new want d u bs wf found a.0 (D.below _ _ a.1))
+              ∙ ap (bind_all k.facts new) (initials-is p new want d u bs wf found a.0 (D.below _ _ a.2 a.3 a.1))
               ∙ binds-is b (kept a_slot.First t wf) found l) l
               ∙ r.1
               ∙ ap (λ (x : List TypedForm). st (record wf { first = x }) r.0 found) (one_behind wf.first us t ∙ ap (λ (x : List TypedForm). wf.first ++ x) (sym e3)),
         )
 
-    sources-answered : {bs inner : List Binding} {gs : List Generator} {us : List TypedForm} → rule.HasSources k (Calls k) bs gs inner us → (wf : Frame) (found : Option Fault) → wf.lost ≡ false
+    pub sources-answered : {bs inner : List Binding} {gs : List Generator} {us : List TypedForm} → rule.HasSources k (Calls k) bs gs inner us → AreBound k bs → AllByRecursion (GeneratorWritten k) gs → (wf : Frame) (found : Option Fault) → wf.lost ≡ false
         → sources k.facts (map (judged_generator k.facts) gs) (st wf bs found) ≡ st (record wf { first = wf.first ++ us }) inner found
-    sources-answered {bs = bs} {inner = inner} (rule.no_source e1 e2 e3) wf found l =
+    sources-answered {bs = bs} {inner = inner} (rule.no_source e1 e2 e3) B W wf found l =
         ap (λ (x : List Generator). sources k.facts (map (judged_generator k.facts) x) (st wf bs found)) e1 ∙ no-sources (st wf bs found)
         ∙ ap (λ (x : List Binding). st wf x found) (sym e2)
         ∙ ap (λ (x : List TypedForm). st (record wf { first = x }) inner found) (sym (nothing_behind wf.first) ∙ ap (λ (x : List TypedForm). wf.first ++ x) (sym e3))
-    sources-answered {bs = bs} {inner = inner} (rule.source g more u vs ty e1 e2 fresh h gv rest) wf found l =
+    sources-answered {bs = bs} {inner = inner} (rule.source g more u vs ty e1 e2 fresh h gv rest) B W wf found l =
+        let F = subst (AllByRecursion (GeneratorWritten k)) e1 W in
+        let a = as-answered h B F.0 tt in
         ap (λ (x : List Generator). sources k.facts (map (judged_generator k.facts) x) (st wf bs found)) e1
-        ∙ source-step g more u ty bs wf found fresh (as-answered h) gv l
-        ∙ sources-answered rest (kept a_slot.First u wf) found l
+        ∙ source-step g more u ty bs wf found fresh a gv l
+        ∙ sources-answered rest (one-bound k A bs _ B (given-typed k A (type_of u) ty a.2 gv)) F.1 (kept a_slot.First u wf) found l
         ∙ ap (λ (x : List TypedForm). st (record wf { first = x }) inner found) (one_behind wf.first vs u ∙ ap (λ (x : List TypedForm). wf.first ++ x) (sym e2))
 
-    clauses-answered : {bs : List Binding} {s : TypedForm} {branches : List Branch} {cs : List Chosen} {tests values : List TypedForm} → rule.HasClauses k (Calls k) bs s branches cs tests values
-        → (place : Place) (wf : Frame) (found : Option Fault) → wf.side ≡ Some (record { place = place; ty = type_of s })
+    pub clauses-answered : {bs : List Binding} {s : TypedForm} {branches : List Branch} {cs : List Chosen} {tests values : List TypedForm} → rule.HasClauses k (Calls k) bs s branches cs tests values
+        → AreBound k bs → AllByRecursion (BranchWritten k) branches → IsType k (type_of s) → (place : Place) (wf : Frame) (found : Option Fault) → wf.side ≡ Some (record { place = place; ty = type_of s })
         → clauses k.facts (map (judged_branch k.facts) branches) (st wf bs found) ≡ st (record wf { first = wf.first ++ tests; second = wf.second ++ values; calls = wf.calls ++ cs }) bs found
-    clauses-answered {bs = bs} {cs = cs} {tests = tests} {values = values} (rule.no_clause e1 e2 e3 e4) place wf found side =
+    clauses-answered {bs = bs} {cs = cs} {tests = tests} {values = values} (rule.no_clause e1 e2 e3 e4) B W S place wf found side =
         ap (λ (x : List Branch). clauses k.facts (map (judged_branch k.facts) x) (st wf bs found)) e1 ∙ no-clauses (st wf bs found)
         ∙ ap (λ (x : List TypedForm). st (record wf { first = x }) bs found) (sym (nothing_behind wf.first) ∙ ap (λ (x : List TypedForm). wf.first ++ x) (sym e3))
         ∙ ap (λ (x : List TypedForm). st (record wf { first = wf.first ++ tests; second = x }) bs found) (sym (nothing_behind wf.second) ∙ ap (λ (x : List TypedForm). wf.second ++ x) (sym e4))
         ∙ ap (λ (x : List Chosen). st (record wf { first = wf.first ++ tests; second = wf.second ++ values; calls = x }) bs found) (sym (nothing_behind wf.calls) ∙ ap (λ (x : List Chosen). wf.calls ++ x) (sym e2))
-    clauses-answered {bs = bs} {s = s} {cs = cs} {tests = tests} {values = values} (rule.clause b more u v result widened ds us vs e1 h c bl i rest e2 e3 e4) place wf found side =
+    clauses-answered {bs = bs} {s = s} {cs = cs} {tests = tests} {values = values} (rule.clause b more u v result widened ds us vs e1 h c bl i rest e2 e3 e4) B W S place wf found side =
+        let F = subst (AllByRecursion (BranchWritten k)) e1 W in
         let call = chosen (operator_set k.facts an_op.Eq 2) widened in
         let w : Frame = record wf { first = wf.first ++ u ∷ []; second = wf.second ++ v ∷ []; calls = wf.calls ++ call ∷ [] } in
         ap (λ (x : List Branch). clauses k.facts (map (judged_branch k.facts) x) (st wf bs found)) e1
-        ∙ clause-step b more s u v place result widened bs wf found side (as-answered h) c bl (as-answered i)
-        ∙ clauses-answered rest place w found side
+        ∙ clause-step b more s u v place result widened bs wf found side S (as-answered h B F.0.0 tt) c bl (as-answered i B F.0.1 tt)
+        ∙ clauses-answered rest B F.1 S place w found side
         ∙ ap (λ (x : List TypedForm). st (record w { first = x; second = w.second ++ vs; calls = w.calls ++ ds }) bs found) (one_behind wf.first us u ∙ ap (λ (x : List TypedForm). wf.first ++ x) (sym e3))
         ∙ ap (λ (x : List TypedForm). st (record w { first = wf.first ++ tests; second = x; calls = w.calls ++ ds }) bs found) (one_behind wf.second vs v ∙ ap (λ (x : List TypedForm). wf.second ++ x) (sym e4))
         ∙ ap (λ (x : List Chosen). st (record w { first = wf.first ++ tests; second = wf.second ++ values; calls = x }) bs found) (one_behind wf.calls ds call ∙ ap (λ (x : List Chosen). wf.calls ++ x) (sym e2))
 
-    cases-answered : {bs : List Binding} {name : Option (Place × NameId)} {branches : List TypeBranch} {values : List TypedForm} → rule.HasCases k (Calls k) bs name branches values → (wf : Frame) (found : Option Fault)
+    pub cases-answered : {bs : List Binding} {name : Option (Place × NameId)} {branches : List TypeBranch} {values : List TypedForm} → rule.HasCases k (Calls k) bs name branches values → AreBound k bs → AllByRecursion (ClauseWritten k) branches → (wf : Frame) (found : Option Fault)
         → cases k.facts name (map (judged_clause k.facts) branches) (st wf bs found) ≡ st (record wf { second = wf.second ++ values }) bs found
-    cases-answered {bs = bs} {name = name} (rule.no_case e1 e2) wf found =
+    cases-answered {bs = bs} {name = name} (rule.no_case e1 e2) B W wf found =
         ap (λ (x : List TypeBranch). cases k.facts name (map (judged_clause k.facts) x) (st wf bs found)) e1 ∙ no-cases name (st wf bs found)
         ∙ ap (λ (x : List TypedForm). st (record wf { second = x }) bs found) (sym (nothing_behind wf.second) ∙ ap (λ (x : List TypedForm). wf.second ++ x) (sym e2))
-    cases-answered {bs = bs} {name = name} (rule.case_ b more v vs e1 e2 h rest) wf found =
+    cases-answered {bs = bs} {name = name} (rule.case_ b more v vs e1 e2 h rest) B W wf found =
+        let F = subst (AllByRecursion (ClauseWritten k)) e1 W in
         ap (λ (x : List TypeBranch). cases k.facts name (map (judged_clause k.facts) x) (st wf bs found)) e1
-        ∙ case-step name b more v bs wf found (as-answered h)
-        ∙ cases-answered rest (kept a_slot.Second v wf) found
+        ∙ case-step name b more v bs wf found (as-answered h (clause-bound k A bs name (rule.clause_type b) B F.0.0) F.0.1 tt)
+        ∙ cases-answered rest B F.1 (kept a_slot.Second v wf) found
         ∙ ap (λ (x : List TypedForm). st (record wf { second = x }) bs found) (one_behind wf.second vs v ∙ ap (λ (x : List TypedForm). wf.second ++ x) (sym e2))
 
-    else-answered : {bs : List Binding} {other : Option Form} {w : Option TypedForm} → rule.HasElse k (Calls k) bs other w → MayBeAnswered bs rule.a_value other w
-    else-answered {bs = bs} (rule.no_else e1 e2) = none-behind bs rule.a_value e1 e2
-    else-answered {bs = bs} (rule.else_ d u e1 h e2) = some-behind bs rule.a_value d u e1 e2 (as-answered h)
+    else-answered : {bs : List Binding} {other : Option Form} {w : Option TypedForm} → rule.HasElse k (Calls k) bs other w → AreBound k bs → MayBeWritten k other → MayBeAnswered bs rule.a_value other w
+    else-answered {bs = bs} (rule.no_else e1 e2) B W = none-behind bs rule.a_value e1 e2
+    else-answered {bs = bs} (rule.else_ d u e1 h e2) B W = some-behind bs rule.a_value d u e1 e2 (as-answered h B (subst (MayBeWritten k) e1 W) tt)
 
-    finally-answered : {bs : List Binding} {last : Option Form} {w : Option TypedForm} → rule.HasFinally k (Calls k) bs last w → MayBeAnswered bs (rule.below unit) last w
-    finally-answered {bs = bs} (rule.no_finally e1 e2) = none-behind bs (rule.below unit) e1 e2
-    finally-answered {bs = bs} (rule.finally_ d u e1 h e2) = some-behind bs (rule.below unit) d u e1 e2 (as-answered h)
+    finally-answered : {bs : List Binding} {last : Option Form} {w : Option TypedForm} → rule.HasFinally k (Calls k) bs last w → AreBound k bs → MayBeWritten k last → MayBeAnswered bs (rule.below unit) last w
+    finally-answered {bs = bs} (rule.no_finally e1 e2) B W = none-behind bs (rule.below unit) e1 e2
+    finally-answered {bs = bs} (rule.finally_ d u e1 h e2) B W = some-behind bs (rule.below unit) d u e1 e2 (as-answered h B (subst (MayBeWritten k) e1 W) (unit_type k A))
 
-    parts-answered : {bs : List Binding} {es : List Form} {ps : List Part} → rule.HasParts k (Calls k) bs es ps → (wf : Frame) (found : Option Fault)
+    parts-answered : {bs : List Binding} {es : List Form} {ps : List Part} → rule.HasParts k (Calls k) bs es ps → AreBound k bs → AllWritten k es → (wf : Frame) (found : Option Fault)
         → elements (map (judged k.facts) es) (st wf bs found) ≡ st (record wf { parts = wf.parts ++ ps }) bs found
-    parts-answered {bs = bs} (rule.no_element e1 e2) wf found =
+    parts-answered {bs = bs} (rule.no_element e1 e2) B W wf found =
         ap (λ (x : List Form). elements (map (judged k.facts) x) (st wf bs found)) e1 ∙ no-elements (st wf bs found)
         ∙ ap (λ (x : List Part). st (record wf { parts = x }) bs found) (sym (nothing_behind wf.parts) ∙ ap (λ (x : List Part). wf.parts ++ x) (sym e2))
-    parts-answered {bs = bs} (rule.element_ d ds m qs e1 e2 h rest) wf found =
+    parts-answered {bs = bs} (rule.element_ d ds m qs e1 e2 h rest) B W wf found =
+        let F = subst (AllWritten k) e1 W in
         ap (λ (x : List Form). elements (map (judged k.facts) x) (st wf bs found)) e1
-        ∙ elements-step d ds bs wf found m (means-answered h)
-        ∙ parts-answered rest (record wf { parts = wf.parts ++ rule.part d m ∷ [] }) found
+        ∙ elements-step d ds bs wf found m (means-answered h B F.0)
+        ∙ parts-answered rest B F.1 (record wf { parts = wf.parts ++ rule.part d m ∷ [] }) found
         ∙ ap (λ (x : List Part). st (record wf { parts = x }) bs found) (one_behind wf.parts qs (rule.part d m) ∙ ap (λ (x : List Part). wf.parts ++ x) (sym e2))
 
-    means-answered : {bs : List Binding} {e : Form} {m : Meaning} → rule.Means k (Calls k) bs e m → Element bs e m
-    means-answered {bs = bs} {e = e} (rule.a_named name (rule.names p is s) me) found =
+    means-answered : {bs : List Binding} {e : Form} {m : Meaning} → rule.Means k (Calls k) bs e m → AreBound k bs → IsWritten k e → Element bs e m
+    means-answered {bs = bs} {e = e} (rule.a_named name (rule.names p is s) me) B W found =
         (a_meaning.Functions name, at e bs found (st opened bs found) is refl (closes-name p name bs found functions s), sym me, refl)
-    means-answered {bs = bs} {e = e} (rule.a_valued t h me) found =
-        let a = as-answered h in
+    means-answered {bs = bs} {e = e} (rule.a_valued t h me) B W found =
+        let a = as-answered h B W tt in
         (a_meaning.Value t, a.0 found, ap (λ c. cond c a_meaning.Unknown (a_meaning.Value t)) a.1 ∙ sym me, ap (λ c. cond c (breaks MISMATCH (judged k.facts e).place found) found) a.1)
-    means-answered {bs = bs} {e = e} (rule.an_index p i t is h me) found =
-        let a = as-answered h in
-        (a_meaning.Index t, at e bs found (st (kept a_slot.Head t opened) bs found) is (ask-is (rule.below zz32) a_want.Small a_slot.Head i t bs opened found small_ a.0 a.1) refl, sym me, refl)
-    means-answered {bs = bs} {e = e} (rule.an_exponent p d t is h me) found =
-        let a = as-answered h in
-        (a_meaning.Exponent t, at e bs found (st (kept a_slot.Head t opened) bs found) is (ask-is rule.an_operand a_want.Operand a_slot.Head d t bs opened found operand_ a.0 a.1) refl, sym me, refl)
-    means-answered {bs = bs} {e = e} (rule.a_field_of p spot name is me) found = (a_meaning.Field spot name, at e bs found (st opened bs found) is refl refl, sym me, refl)
-    means-answered {bs = bs} {e = e} (rule.a_method_of p spot name es ts is h me) found =
-        (a_meaning.Method spot name ts, at e bs found (st (record opened { first = ts }) bs found) is (firsts-is rule.an_operand a_want.Operand es ts bs found operand_ (each-answered h)) refl, sym me, refl)
+    means-answered {bs = bs} {e = e} (rule.an_index p i t is h me) B W found =
+        let a = as-answered h B (of-parts k e is W) (built_in_type k A 2 (omega arith)) in
+        (a_meaning.Index t, at e bs found (st (kept a_slot.Head t opened) bs found) is (ask-is (rule.below zz32) a_want.Small a_slot.Head i t bs opened found small_ a) refl, sym me, refl)
+    means-answered {bs = bs} {e = e} (rule.an_exponent p d t is h me) B W found =
+        let a = as-answered h B (of-parts k e is W) tt in
+        (a_meaning.Exponent t, at e bs found (st (kept a_slot.Head t opened) bs found) is (ask-is rule.an_operand a_want.Operand a_slot.Head d t bs opened found operand_ a) refl, sym me, refl)
+    means-answered {bs = bs} {e = e} (rule.a_field_of p spot name is me) B W found = (a_meaning.Field spot name, at e bs found (st opened bs found) is refl refl, sym me, refl)
+    means-answered {bs = bs} {e = e} (rule.a_method_of p spot name es ts is h me) B W found =
+        (a_meaning.Method spot name ts, at e bs found (st (record opened { first = ts }) bs found) is (firsts-is rule.an_operand a_want.Operand es ts bs found operand_ (each-answered h B (of-parts k e is W) tt)) refl, sym me, refl)
 
 pub has_is_answered : HasIsAnswered
-has_is_answered k D bs e t h found = has-answered k D h found
+has_is_answered k A bs B e W t h found = has-answered k A h B W found
 
 pub one_typed_form : OneTypedForm
-one_typed_form k D bs e t u h i = value-once (sym (has_is_answered k D bs e t h None) ∙ has_is_answered k D bs e u i None)
+one_typed_form k A bs B e W t u h i = value-once (sym (has_is_answered k A bs B e W t h None) ∙ has_is_answered k A bs B e W u i None)

@@ -16,7 +16,9 @@ use Rattle.fort_typing_rules.specs.Elements as rule
 use Rattle.fort_judge.specs.declared.frame.Made.{Made}
 use Rattle.fort_judge.specs.Faults.{breaks}
 use Rattle.fort_judge.specs.Joining.{applied, joined, Grown, grown, barred_found, as_grown, Grows, grows_by, grows_two, grows_one, grows_at, grows, grown_outcome, grouped_by, beside}
-use Rattle.fort_typing_laws.specs.Deciding.{Decides}
+use Rattle.fort_typing_laws.specs.Deciding.{IsAccepted}
+use Rattle.fort_typing_laws.specs.Typed.{AreTyped}
+use Rattle.fort_typing_laws.proofs.Typed.{part-typed, grouped-typed}
 use Rattle.fort_typing_laws.specs.Laws.{BesideIsComputed, OneBeside}
 use Rattle.fort_typing_laws.proofs.Juxtaposing.{grouping_is_computed}
 use Rattle.fort_typing_laws.proofs.Running.{to, applies-is, joins-is, value-once}
@@ -48,7 +50,7 @@ known_first (a_meaning.Exponent t) h = refl
 known_first (a_meaning.Field at name) h = refl
 known_first (a_meaning.Method at name ts) h = refl
 
-module _ (k : Knows) (D : Decides k) where
+module _ (k : Knows) (A : IsAccepted k) where
   applied_known : (f a : Part) (m : rule.Made) → rule.Applies k (Calls k) f a m → (rule.is_unknown f ≡ false) × (rule.is_unknown a ≡ false)
   applied_known f a m (rule.call name u result widened fm am c me) = (ap rule.is_unknown_by fm, ap rule.is_unknown_by am)
   applied_known f a m (rule.no_call name u r fm am c me) = (ap rule.is_unknown_by fm, ap rule.is_unknown_by am)
@@ -59,7 +61,7 @@ module _ (k : Knows) (D : Decides k) where
   joined_known a b m (rule.joining u v result widened am bm c me) = (ap rule.is_unknown_by am, ap rule.is_unknown_by bm)
   joined_known a b m (rule.no_joining u v r am bm c me) = (ap rule.is_unknown_by am, ap rule.is_unknown_by bm)
 
-  module _ (ps : List Part) where
+  module _ (ps : List Part) (P : AreTyped k ps) where
     grows-out : (g : Grouping) → grows k.facts ps g ≡ grows_at k.facts ps (map-Grouping Grouping Grows (grows k.facts ps) (out-Grouping g))
     unfolding grows
     grows-out g = fold_out-Grouping Grows (grows_at k.facts ps) g
@@ -89,20 +91,20 @@ module _ (k : Knows) (D : Decides k) where
     grows-is {g = g} {q = q} (rule.of_applied a b p r m is ga gb h qe) found known =
         let w = applied_known (rule.as_part p) (rule.as_part r) m h in
         from g found is ∙ two_parts (applied k.facts) (grows k.facts ps a) (grows k.facts ps b) p r q m found w.0 w.1
-        (grows-is ga found (known_first p.meaning w.0)) (grows-is gb found (known_first r.meaning w.1)) (applies-is k D (rule.as_part p) (rule.as_part r) m h) qe known
+        (grows-is ga found (known_first p.meaning w.0)) (grows-is gb found (known_first r.meaning w.1)) (applies-is k A (rule.as_part p) (rule.as_part r) m (part-typed k A p (grouped-typed k A ps ga P)) (part-typed k A r (grouped-typed k A ps gb P)) h) qe known
     grows-is {g = g} {q = q} (rule.of_joined a b p r m is ga gb h qe) found known =
         let w = joined_known (rule.as_part p) (rule.as_part r) m h in
         from g found is ∙ two_parts (joined k.facts) (grows k.facts ps a) (grows k.facts ps b) p r q m found w.0 w.1
-        (grows-is ga found (known_first p.meaning w.0)) (grows-is gb found (known_first r.meaning w.1)) (joins-is k D (rule.as_part p) (rule.as_part r) m h) qe known
+        (grows-is ga found (known_first p.meaning w.0)) (grows-is gb found (known_first r.meaning w.1)) (joins-is k A (rule.as_part p) (rule.as_part r) m (part-typed k A p (grouped-typed k A ps ga P)) (part-typed k A r (grouped-typed k A ps gb P)) h) qe known
     grows-is (rule.of_unapplied a b p r is ga gb u qe) found known = absurd (not_both (ap rule.is_unknown qe) known)
     grows-is (rule.of_unjoined a b p r is ga gb u qe) found known = absurd (not_both (ap rule.is_unknown qe) known)
 
 pub beside_is_computed : BesideIsComputed
 unfolding beside
-beside_is_computed k D ps t (rule.grouped g q gr h m) found =
+beside_is_computed k A ps P t (rule.grouped g q gr h m) found =
     ap (λ r. grouped_by k.facts ps r found) (grouping_is_computed (rule.elements ps) (Ok g) gr)
-    ∙ ap grown_outcome (grows-is k D ps h found (ap rule.is_unknown_by m))
+    ∙ ap grown_outcome (grows-is k A ps P h found (ap rule.is_unknown_by m))
     ∙ ap (λ (w : Meaning). record { seen = w; found = found }) m
 
 pub one_beside : OneBeside
-one_beside k D ps t u h i = value-once (sym (beside_is_computed k D ps t h None) ∙ beside_is_computed k D ps u i None)
+one_beside k A ps P t u h i = value-once (sym (beside_is_computed k A ps P t h None) ∙ beside_is_computed k A ps P u i None)

@@ -21,7 +21,9 @@ use Rattle.fort_judge.specs.Tests.{value, widest}
 use Rattle.fort_judge.specs.Joining.{run, beside}
 use Rattle.fort_judge.specs.Juxtaposing.{next_rewriting, grouping_of}
 use Rattle.fort_judge.specs.Judging.{judged}
-use Rattle.fort_typing_laws.specs.Deciding.{Decides}
+use Rattle.fort_typing_laws.specs.Deciding.{AreTypes, IsAccepted}
+use Rattle.fort_typing_laws.specs.Written.{IsWritten, AreBound}
+use Rattle.fort_typing_laws.specs.Typed.{AreTyped}
 
 -- The next rewriting of a run, or its refusal, is the one that is computed.
 abbrev pub RewritingIsComputed : Type 0
@@ -31,30 +33,32 @@ RewritingIsComputed = (es : List Element) (r : Result Tight CheckFault) → Rewr
 abbrev pub GroupingIsComputed : Type 0
 GroupingIsComputed = (es : List Element) (r : Result Grouping CheckFault) → Groups es r → grouping_of es ≡ r
 
--- Where what is computed of types and calls is what the rules say of them: a run that becomes a typed form is answered with it.
+-- Of an accepted component, and elements whose types are the component's: a run that becomes a typed form is answered with it.
 abbrev pub RunIsComputed : Type 0
-RunIsComputed = (k : Knows) → Decides k → (ps : List Part) (t : TypedForm) → Becomes k (Calls k) ps t → (found : Option Fault) → run k.facts ps found ≡ value t found
+RunIsComputed = (k : Knows) → IsAccepted k → (ps : List Part) → AreTyped k ps → (t : TypedForm) → Becomes k (Calls k) ps t → (found : Option Fault) → run k.facts ps found ≡ value t found
 
 -- So a run becomes one typed form at most.
 abbrev pub OneRun : Type 0
-OneRun = (k : Knows) → Decides k → (ps : List Part) (t u : TypedForm) → Becomes k (Calls k) ps t → Becomes k (Calls k) ps u → t ≡ u
+OneRun = (k : Knows) → IsAccepted k → (ps : List Part) → AreTyped k ps → (t u : TypedForm) → Becomes k (Calls k) ps t → Becomes k (Calls k) ps u → t ≡ u
 
 -- Likewise a juxtaposition.
 abbrev pub BesideIsComputed : Type 0
-BesideIsComputed = (k : Knows) → Decides k → (ps : List Part) (t : TypedForm) → Stands k (Calls k) ps t → (found : Option Fault) → beside k.facts ps found ≡ value t found
+BesideIsComputed = (k : Knows) → IsAccepted k → (ps : List Part) → AreTyped k ps → (t : TypedForm) → Stands k (Calls k) ps t → (found : Option Fault) → beside k.facts ps found ≡ value t found
 
 abbrev pub OneBeside : Type 0
-OneBeside = (k : Knows) → Decides k → (ps : List Part) (t u : TypedForm) → Stands k (Calls k) ps t → Stands k (Calls k) ps u → t ≡ u
+OneBeside = (k : Knows) → IsAccepted k → (ps : List Part) → AreTyped k ps → (t u : TypedForm) → Stands k (Calls k) ps t → Stands k (Calls k) ps u → t ≡ u
 
--- The widest type of several, or that there is none, is what is computed.
+-- The widest type of several of the component's, or that there is none, is what is computed.
 pub record WidestIsComputed : Type 0 where
-  pub one : (k : Knows) → Decides k → (types : List Ty) (t : Ty) → IsWidest k types t → widest k.facts types ≡ Some t
-  pub none : (k : Knows) → Decides k → (types : List Ty) → HasNoWidest k types → widest k.facts types ≡ None
+  pub one : (k : Knows) → IsAccepted k → (types : List Ty) → AreTypes k types → (t : Ty) → IsWidest k types t → widest k.facts types ≡ Some t
+  pub none : (k : Knows) → IsAccepted k → (types : List Ty) → AreTypes k types → HasNoWidest k types → widest k.facts types ≡ None
 
--- A form that becomes a typed form by the rules is answered with it, and the first broken rule so far is left as it was.
+-- Where the types that are written in a form, and those of the bindings, are the component's: a form that becomes a typed form by the rules is answered
+-- with it, and the first broken rule so far is left as it was.
 abbrev pub HasIsAnswered : Type 0
-HasIsAnswered = (k : Knows) → Decides k → (bs : List Binding) (e : Form) (t : TypedForm) → Has k (Calls k) bs e t → (found : Option Fault) → (judged k.facts e).answer bs found ≡ value t found
+HasIsAnswered = (k : Knows) → IsAccepted k → (bs : List Binding) → AreBound k bs → (e : Form) → IsWritten k e → (t : TypedForm) → Has k (Calls k) bs e t
+    → (found : Option Fault) → (judged k.facts e).answer bs found ≡ value t found
 
 -- So in the same bindings a form becomes one typed form at most.
 abbrev pub OneTypedForm : Type 0
-OneTypedForm = (k : Knows) → Decides k → (bs : List Binding) (e : Form) (t u : TypedForm) → Has k (Calls k) bs e t → Has k (Calls k) bs e u → t ≡ u
+OneTypedForm = (k : Knows) → IsAccepted k → (bs : List Binding) → AreBound k bs → (e : Form) → IsWritten k e → (t u : TypedForm) → Has k (Calls k) bs e t → Has k (Calls k) bs e u → t ≡ u

@@ -1,4 +1,6 @@
 //! Laws of typing.
+ghost use Rattle.fort_typing_laws.specs.Deciding.{IsDecided};
+ghost use Rattle.fort_typing_laws.specs.Exact.{ExactIsOne, FormsAreExact};
 ghost use Rattle.fort_typing_laws.specs.Laws.{BesideIsComputed, GroupingIsComputed, HasIsAnswered, OneBeside, OneRun, OneTypedForm, RewritingIsComputed, RunIsComputed, WidestIsComputed};
 
 /// A law: the next rewriting of a run, the grouping of elements, and the refusals of both are those that the judge computes.
@@ -7,8 +9,12 @@ pub fn juxtaposition_is_computed()
     ensures grouping { GroupingIsComputed }
 {}
 
-/// A law, where what is computed of types and calls is what the rules say of them: a run that becomes a typed form is answered with it, and so it
-/// becomes one at most.
+/// A law: of an accepted component, what is computed of two of its types and of a call with arguments of its types is what the rules say of them.
+pub fn accepted_is_decided()
+    ensures { IsDecided }
+{}
+
+/// A law, of an accepted component: a run that becomes a typed form is answered with it, and so it becomes one at most.
 pub fn run_is_computed()
     ensures answered { RunIsComputed }
     ensures one { OneRun }
@@ -30,4 +36,12 @@ pub fn widest_is_computed()
 pub fn has_is_answered()
     ensures answered { HasIsAnswered }
     ensures one { OneTypedForm }
+{}
+
+/// A law, of an accepted component: a form that is neither a run nor a juxtaposition answers exactly where its parts do: with a type that it has, as
+/// the function set's name that it is, or with none where it breaks a rule; and what is found is the first of the rules that it breaks. An exact
+/// expression has a type, is such a name, or breaks a rule; and what has a type breaks none.
+pub fn forms_are_exact()
+    ensures steps { FormsAreExact }
+    ensures one { ExactIsOne }
 {}

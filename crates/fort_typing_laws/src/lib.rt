@@ -4,6 +4,6 @@
 mod laws;
 
 pub use laws::{
-    beside_is_computed, has_is_answered, juxtaposition_is_computed, run_is_computed,
-    widest_is_computed,
+    accepted_is_decided, beside_is_computed, forms_are_exact, has_is_answered,
+    juxtaposition_is_computed, run_is_computed, widest_is_computed,
 };
