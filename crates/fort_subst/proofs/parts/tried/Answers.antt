@@ -1,4 +1,3 @@
-use Rattle.std.proofs.Common.{◌≡◌}
 use Rattle.fort_subst.proofs.Equations.{place-Try}
 use Rattle.fort_subst.proofs.parts.tried.Goals as goal
 
