@@ -16,8 +16,7 @@ use fort_base::Memory;
 use fort_core::{Primitive, Program, Value};
 use std::alloc::Global;
 
-/// What a built-in declaration answers to values of its types. `abort()` answers with the throw of `AbortOutside`, which is
-/// its step outside of any attempt. The chapter "Built-in declarations".
+/// What a built-in declaration answers to values of its types. The chapter "Built-in declarations".
 ///
 /// Its time is constant but for powers and common divisors, at most about a hundred rounds, and for texts and `≡`, which is
 /// that of the values.
@@ -32,12 +31,30 @@ pub fn apply(
     arguments: &[Value],
 ) -> Result<Answer, Memory>
     requires { answer_of program.now primitive arguments.now ≢ nothing }
-    ensures { IfOk result (λ answer. Replies program.now answer (answer_of program.now primitive arguments.now)) }
+    ensures { IfOk result (λ answer. Replies answer (answer_of program.now primitive arguments.now)) }
 {
     match done(alloc, program, operation(primitive), arguments)? {
         Some(answer) => Ok(answer),
         None => unreachable!(),
     }
+}
+
+/// What a built-in declaration answers to any values, or `None` where they aren't as many as it takes, or of other kinds than
+/// it computes with. The chapter "Built-in declarations". Its time is that of `apply`.
+///
+/// # Errors
+///
+/// `Memory` where memory is wanting.
+pub fn answered(
+    alloc: Global,
+    program: &Program,
+    primitive: Primitive,
+    arguments: &[Value],
+) -> Result<Option<Answer>, Memory>
+    ensures { IfOk result (λ answer. answer ≡ reply (answer_of program.now primitive arguments.now)) }
+{
+    let answer = done(alloc, program, operation(primitive), arguments)?;
+    Ok(answer)
 }
 
 // What an operation answers; none where the arguments aren't of its types.
@@ -47,7 +64,7 @@ fn done(
     operation: Operation,
     arguments: &[Value],
 ) -> Result<Option<Answer>, Memory>
-    ensures { IfOk result (λ answer. answer ≡ reply program.now (answer_by program.now operation arguments.now)) }
+    ensures { IfOk result (λ answer. answer ≡ reply (answer_by program.now operation arguments.now)) }
 {
     match operation {
         Operation::Small(operator) => Ok(small(program, operator, arguments)),
@@ -67,7 +84,7 @@ fn done(
         Operation::Join => joined(alloc, program, arguments),
         Operation::Println => line(alloc, program, arguments),
         Operation::Print => shown(alloc, program, arguments),
-        Operation::Abort => Ok(aborted(program, arguments)),
+        Operation::Abort => Ok(aborted(arguments)),
         Operation::Widen => Ok(widen(arguments)),
         Operation::Narrow => Ok(narrow(program, arguments)),
         Operation::Length => Ok(length(program, arguments)),

@@ -21,7 +21,7 @@ pub fn count_to(a: i32, b: i32) -> u64
 /// `a # n`: the range of n numbers from a on, none where n is below 1; where the last one isn't a ZZ32 the throw of
 /// `IntegerOverflow`. The chapter "Built-in declarations".
 pub fn counted(program: &Program, a: i32, n: i32) -> Answer
-    ensures { Replies program.now result (counted_of program.now a n) }
+    ensures { Replies result (counted_of program.now a n) }
 {
     if n < 1 {
         return Answer::Value(Value::Range(a, 0));

@@ -21,4 +21,4 @@ mod tests;
 mod words;
 
 pub use answer::Answer;
-pub use applied::apply;
+pub use applied::{answered, apply};

@@ -20,7 +20,7 @@ use fort_core::{Program, Value};
 
 /// An operator on two ZZ32.
 pub(crate) fn small(program: &Program, operator: Operator, arguments: &[Value]) -> Option<Answer>
-    ensures { result ≡ reply program.now (small_by program.now (figure_of operator) (map out-Value arguments.now)) }
+    ensures { result ≡ reply (small_by program.now (figure_of operator) (map out-Value arguments.now)) }
 {
     match two_small_numbers(arguments) {
         None => None,
@@ -33,7 +33,7 @@ pub(crate) fn small(program: &Program, operator: Operator, arguments: &[Value]) 
 
 /// An operator on two ZZ64.
 pub(crate) fn large(program: &Program, operator: Operator, arguments: &[Value]) -> Option<Answer>
-    ensures { result ≡ reply program.now (large_by program.now (figure_of operator) (map out-Value arguments.now)) }
+    ensures { result ≡ reply (large_by program.now (figure_of operator) (map out-Value arguments.now)) }
 {
     match two_large_numbers(arguments) {
         None => None,
@@ -50,7 +50,7 @@ pub(crate) fn on_small_bits(
     operator: BitOperator,
     arguments: &[Value],
 ) -> Option<Answer>
-    ensures { result ≡ reply program.now (small_by program.now (bits_of_type w32 operator) (map out-Value arguments.now)) }
+    ensures { result ≡ reply (small_by program.now (bits_of_type w32 operator) (map out-Value arguments.now)) }
 {
     match two_small_numbers(arguments) {
         None => None,
@@ -67,7 +67,7 @@ pub(crate) fn on_large_bits(
     operator: BitOperator,
     arguments: &[Value],
 ) -> Option<Answer>
-    ensures { result ≡ reply program.now (large_by program.now (bits_of_type w64 operator) (map out-Value arguments.now)) }
+    ensures { result ≡ reply (large_by program.now (bits_of_type w64 operator) (map out-Value arguments.now)) }
 {
     match two_large_numbers(arguments) {
         None => None,
@@ -80,7 +80,7 @@ pub(crate) fn on_large_bits(
 
 /// A comparison of two ZZ32.
 pub(crate) fn small_test(test: Test, arguments: &[Value]) -> Option<Answer>
-    ensures { (p : Program) → result ≡ reply p (small_test_by (holds test) (map out-Value arguments.now)) }
+    ensures { (p : Program) → result ≡ reply (small_test_by (holds test) (map out-Value arguments.now)) }
 {
     match two_small_numbers(arguments) {
         None => None,
@@ -93,7 +93,7 @@ pub(crate) fn small_test(test: Test, arguments: &[Value]) -> Option<Answer>
 
 /// A comparison of two ZZ64.
 pub(crate) fn large_test(test: Test, arguments: &[Value]) -> Option<Answer>
-    ensures { (p : Program) → result ≡ reply p (large_test_by (holds test) (map out-Value arguments.now)) }
+    ensures { (p : Program) → result ≡ reply (large_test_by (holds test) (map out-Value arguments.now)) }
 {
     match two_large_numbers(arguments) {
         None => None,
@@ -106,7 +106,7 @@ pub(crate) fn large_test(test: Test, arguments: &[Value]) -> Option<Answer>
 
 /// `-a` on ZZ32.
 pub(crate) fn negate_small(program: &Program, arguments: &[Value]) -> Option<Answer>
-    ensures { result ≡ reply program.now (answer_of program.now primitive_.NegateSmall arguments.now) }
+    ensures { result ≡ reply (answer_of program.now primitive_.NegateSmall arguments.now) }
 {
     match small_number(arguments) {
         None => None,
@@ -119,7 +119,7 @@ pub(crate) fn negate_small(program: &Program, arguments: &[Value]) -> Option<Ans
 
 /// `-a` on ZZ64.
 pub(crate) fn negate_large(program: &Program, arguments: &[Value]) -> Option<Answer>
-    ensures { result ≡ reply program.now (answer_of program.now primitive_.NegateLarge arguments.now) }
+    ensures { result ≡ reply (answer_of program.now primitive_.NegateLarge arguments.now) }
 {
     match large_number(arguments) {
         None => None,
@@ -132,7 +132,7 @@ pub(crate) fn negate_large(program: &Program, arguments: &[Value]) -> Option<Ans
 
 /// `widen(a)`: the same number on ZZ64.
 pub(crate) fn widen(arguments: &[Value]) -> Option<Answer>
-    ensures { (p : Program) → result ≡ reply p (answer_of p primitive_.Widen arguments.now) }
+    ensures { (p : Program) → result ≡ reply (answer_of p primitive_.Widen arguments.now) }
 {
     match small_number(arguments) {
         None => None,
@@ -142,7 +142,7 @@ pub(crate) fn widen(arguments: &[Value]) -> Option<Answer>
 
 /// `narrow(a)`: the same number on ZZ32, where it is one.
 pub(crate) fn narrow(program: &Program, arguments: &[Value]) -> Option<Answer>
-    ensures { result ≡ reply program.now (answer_of program.now primitive_.Narrow arguments.now) }
+    ensures { result ≡ reply (answer_of program.now primitive_.Narrow arguments.now) }
 {
     match large_number(arguments) {
         None => None,
@@ -152,7 +152,7 @@ pub(crate) fn narrow(program: &Program, arguments: &[Value]) -> Option<Answer>
 
 /// `a : b`: the numbers from a to b.
 pub(crate) fn range_to(arguments: &[Value]) -> Option<Answer>
-    ensures { (p : Program) → result ≡ reply p (answer_of p primitive_.RangeTo arguments.now) }
+    ensures { (p : Program) → result ≡ reply (answer_of p primitive_.RangeTo arguments.now) }
 {
     match two_small_numbers(arguments) {
         None => None,
@@ -162,7 +162,7 @@ pub(crate) fn range_to(arguments: &[Value]) -> Option<Answer>
 
 /// `a # n`: n numbers from a on.
 pub(crate) fn range_count(program: &Program, arguments: &[Value]) -> Option<Answer>
-    ensures { result ≡ reply program.now (answer_of program.now primitive_.RangeCount arguments.now) }
+    ensures { result ≡ reply (answer_of program.now primitive_.RangeCount arguments.now) }
 {
     match two_small_numbers(arguments) {
         None => None,

@@ -13,7 +13,7 @@ use fort_core::{Program, Value};
 
 /// The answer of an operator on ZZ64, by what it gives.
 pub(crate) fn large_answer(program: &Program, outcome: Outcome) -> Answer
-    ensures { Replies program.now result (as_value program.now (λ n. Value.Large n) (figure outcome)) }
+    ensures { Replies result (as_value program.now (λ n. Value.Large n) (figure outcome)) }
 {
     match outcome {
         Outcome::Number(number) => Answer::Value(Value::Large(number)),
@@ -25,7 +25,7 @@ pub(crate) fn large_answer(program: &Program, outcome: Outcome) -> Answer
 
 /// The answer of an operator on ZZ32, by what it gives before it is asked whether that is in range.
 pub(crate) fn small_answer(program: &Program, outcome: Outcome) -> Answer
-    ensures { Replies program.now result (as_value program.now (λ n. Value.Small n) (within w32 (figure outcome))) }
+    ensures { Replies result (as_value program.now (λ n. Value.Small n) (within w32 (figure outcome))) }
 {
     match outcome {
         Outcome::Number(number) => small_number(program, number),
@@ -34,7 +34,7 @@ pub(crate) fn small_answer(program: &Program, outcome: Outcome) -> Answer
 }
 
 fn small_number(program: &Program, number: i64) -> Answer
-    ensures { Replies program.now result (as_value program.now (λ n. Value.Small n) (within w32 (numbers_.number number))) }
+    ensures { Replies result (as_value program.now (λ n. Value.Small n) (within w32 (numbers_.number number))) }
 {
     match i32::try_from(number) {
         Ok(number) => Answer::Value(Value::Small(number)),

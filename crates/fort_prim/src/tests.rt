@@ -1,4 +1,4 @@
-use crate::{Answer, apply};
+use crate::{Answer, answered, apply};
 use fort_base::{List, Memory, Shared, TypeId, TypeTable};
 use fort_core::{BuiltIn, Primitive, Program, Term, Value};
 use std::alloc::Global;
@@ -45,7 +45,9 @@ fn calls_are_answered(rt: HostRuntime) -> Result<(), Memory> {
     let numbers = [Value::Small(2), Value::Small(3)];
     let sum = apply(alloc, &program, Primitive::AddSmall, &numbers)?;
     assert!(rt; matches!(&sum, Answer::Value(Value::Small(5))));
-    let line = apply(alloc, &program, Primitive::Println, &[Value::Large(-7)])?;
-    assert!(rt; matches!(&line, Answer::Prints(text) if text.as_slice() == b"-7\n".as_slice()));
+    let line = answered(alloc, &program, Primitive::Println, &[Value::Large(-7)])?;
+    assert!(rt;
+        matches!(&line, Some(Answer::Prints(text)) if text.as_slice() == b"-7\n".as_slice())
+    );
     Ok(())
 }

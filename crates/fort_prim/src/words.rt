@@ -14,14 +14,14 @@ use crate::counts::length_of;
 use crate::operation::Connective;
 use crate::outcome::natural;
 use crate::results::small_answer;
-use fort_base::{Memory, Shared};
+use fort_base::Memory;
 use fort_core::{Program, Value};
 use fort_value::{same, text};
 use std::alloc::Global;
 
 /// Whether it is as `wanted` that two texts are equal.
 pub(crate) fn texts_equal(wanted: bool, arguments: &[Value]) -> Option<Answer>
-    ensures { (p : Program) → result ≡ reply p (answer_by p (operation_.TextsEqual wanted) arguments.now) }
+    ensures { (p : Program) → result ≡ reply (answer_by p (operation_.TextsEqual wanted) arguments.now) }
 {
     match both_texts(arguments) {
         None => None,
@@ -34,7 +34,7 @@ pub(crate) fn texts_equal(wanted: bool, arguments: &[Value]) -> Option<Answer>
 
 /// An operator on two truths.
 pub(crate) fn truths(connective: Connective, arguments: &[Value]) -> Option<Answer>
-    ensures { (p : Program) → result ≡ reply p (answer_by p (operation_.Truths connective) arguments.now) }
+    ensures { (p : Program) → result ≡ reply (answer_by p (operation_.Truths connective) arguments.now) }
 {
     match both_truths(arguments) {
         None => None,
@@ -44,7 +44,7 @@ pub(crate) fn truths(connective: Connective, arguments: &[Value]) -> Option<Answ
 
 /// `NOT a`
 pub(crate) fn negation(arguments: &[Value]) -> Option<Answer>
-    ensures { (p : Program) → result ≡ reply p (answer_of p primitive_.Not arguments.now) }
+    ensures { (p : Program) → result ≡ reply (answer_of p primitive_.Not arguments.now) }
 {
     match truth(arguments) {
         None => None,
@@ -54,7 +54,7 @@ pub(crate) fn negation(arguments: &[Value]) -> Option<Answer>
 
 /// `a ≡ b` on Any.
 pub(crate) fn are_same(arguments: &[Value]) -> Option<Answer>
-    ensures { (p : Program) → result ≡ reply p (answer_of p primitive_.Same arguments.now) }
+    ensures { (p : Program) → result ≡ reply (answer_of p primitive_.Same arguments.now) }
 {
     match both_values(arguments) {
         None => None,
@@ -68,7 +68,7 @@ pub(crate) fn joined(
     program: &Program,
     arguments: &[Value],
 ) -> Result<Option<Answer>, Memory>
-    ensures { IfOk result (λ answer. answer ≡ reply program.now (answer_of program.now primitive_.JoinTexts arguments.now)) }
+    ensures { IfOk result (λ answer. answer ≡ reply (answer_of program.now primitive_.JoinTexts arguments.now)) }
 {
     match both_values(arguments) {
         None => Ok(None),
@@ -76,7 +76,7 @@ pub(crate) fn joined(
             let mut all = text(alloc, program, a)?;
             let more = text(alloc, program, b)?;
             all.append(more)?;
-            Ok(Some(Answer::Value(Value::Text(Shared::new(alloc, all)?))))
+            Ok(Some(Answer::Makes(all)))
         }
     }
 }
@@ -87,7 +87,7 @@ pub(crate) fn line(
     program: &Program,
     arguments: &[Value],
 ) -> Result<Option<Answer>, Memory>
-    ensures { IfOk result (λ answer. answer ≡ reply program.now (answer_of program.now primitive_.Println arguments.now)) }
+    ensures { IfOk result (λ answer. answer ≡ reply (answer_of program.now primitive_.Println arguments.now)) }
 {
     match single(arguments) {
         None => Ok(None),
@@ -105,7 +105,7 @@ pub(crate) fn shown(
     program: &Program,
     arguments: &[Value],
 ) -> Result<Option<Answer>, Memory>
-    ensures { IfOk result (λ answer. answer ≡ reply program.now (answer_of program.now primitive_.Print arguments.now)) }
+    ensures { IfOk result (λ answer. answer ≡ reply (answer_of program.now primitive_.Print arguments.now)) }
 {
     match single(arguments) {
         None => Ok(None),
@@ -115,7 +115,7 @@ pub(crate) fn shown(
 
 /// `length(a)`: how many characters a text has.
 pub(crate) fn length(program: &Program, arguments: &[Value]) -> Option<Answer>
-    ensures { result ≡ reply program.now (answer_of program.now primitive_.Length arguments.now) }
+    ensures { result ≡ reply (answer_of program.now primitive_.Length arguments.now) }
 {
     match single_text(arguments) {
         None => None,
@@ -126,12 +126,12 @@ pub(crate) fn length(program: &Program, arguments: &[Value]) -> Option<Answer>
     }
 }
 
-/// `abort()`, outside of any attempt.
-pub(crate) fn aborted(program: &Program, arguments: &[Value]) -> Option<Answer>
-    ensures { result ≡ reply program.now (answer_of program.now primitive_.Abort arguments.now) }
+/// `abort()`
+pub(crate) fn aborted(arguments: &[Value]) -> Option<Answer>
+    ensures { (p : Program) → result ≡ reply (answer_of p primitive_.Abort arguments.now) }
 {
     if arguments.is_empty() {
-        Some(Answer::Throws(program.built_in.abort_outside))
+        Some(Answer::Ends)
     } else {
         None
     }

@@ -8,5 +8,5 @@ pub unreachable-requires : goal.unreachable-requires
 unreachable-requires c =
     let p = c.args.program.now in
     let vs = c.args.arguments.now in
-    let none : None ≡ reply p (answer_of p c.args.primitive vs) = sym c.in-None.is ∙ c.in_ok-answer.ensures ∙ sym (ap (reply p) (c.operation.ensures p vs)) in
-    c.requires (nothing_from p (answer_of p c.args.primitive vs) none)
+    let none : None ≡ reply (answer_of p c.args.primitive vs) = sym c.in-None.is ∙ c.in_ok-answer.ensures ∙ sym (ap reply (c.operation.ensures p vs)) in
+    c.requires (nothing_from (answer_of p c.args.primitive vs) none)

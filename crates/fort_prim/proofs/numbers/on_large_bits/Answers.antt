@@ -3,4 +3,4 @@ use Rattle.fort_prim.specs.Answers.{reply}
 use Rattle.fort_prim.proofs.numbers.on_large_bits.Goals as goal
 
 pub returns-in-None : goal.returns-in-None
-returns-in-None c = sym (ap (reply c.args.program.now) (c.in-None.ensures _))
+returns-in-None c = sym (ap reply (c.in-None.ensures _))

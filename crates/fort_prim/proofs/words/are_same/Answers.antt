@@ -3,4 +3,4 @@ use Rattle.fort_prim.specs.Answers.{reply}
 use Rattle.fort_prim.proofs.words.are_same.Goals as goal
 
 pub returns-in-None : goal.returns-in-None
-returns-in-None c p = sym (ap (reply p) (c.in-None.ensures _))
+returns-in-None c p = sym (ap reply (c.in-None.ensures _))
