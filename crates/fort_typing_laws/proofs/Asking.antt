@@ -183,9 +183,11 @@ module _ (k : Knows) (A : IsAccepted k) where
         where
           unsuited : rule.Suits k want (type_of t) → ⊥
           unsuited s = let g : true ≡ false = sym (no (type_of t) (typed-of k A h B W).0 s) ∙ e in absurd cc
+
           to : (f : Fault) → FormBreaks k bs d f ⊎ (f ≡ own r) → As f
           to f (inl b) = breaking.inside (breaks-of f b)
           to f (inr q) = breaking.unlike t h unsuited (q ∙ own-rule)
+
           from : (f : Fault) → As f → FormBreaks k bs d f ⊎ (f ≡ own r)
           from f (breaking.inside b) = inl (inl b)
           from f (breaking.named name n w) = absurd (apart t name h n)
@@ -202,6 +204,7 @@ module _ (k : Knows) (A : IsAccepted k) where
           to : (f : Fault) → FormBreaks k bs d f ⊎ (f ≡ own FUNCTION_AS_VALUE) → As f
           to f (inl b) = breaking.inside (breaks-of f b)
           to f (inr q) = breaking.named name n (q ∙ own-is FUNCTION_AS_VALUE)
+
           from : (f : Fault) → As f → FormBreaks k bs d f ⊎ (f ≡ own FUNCTION_AS_VALUE)
           from f (breaking.inside b) = inl (inl b)
           from f (breaking.named name n w) = inr (w ∙ sym (own-is FUNCTION_AS_VALUE))

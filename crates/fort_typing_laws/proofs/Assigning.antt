@@ -107,6 +107,7 @@ module _ (k : Knows) (A : IsAccepted k) (bs : List Binding) (B : AreBound k bs) 
     where
       clean : IsFirst found (breaking.Breaks k bs d) new
       clean = alike found (FormBreaks k bs d) (breaking.Breaks k bs d) new (breaks-of k A bs B d W X) (λ f b. inl b) i
+
       by : (c : Bool) → rule.is_target k d t ≡ c → Targeted found (targeted here c (a_meaning.Value t) (with_seen k A (a_meaning.Value t) opened bs new))
       by true q = has_target t (a_meaning.Value t) new h q none (alike found (breaking.Breaks k bs d) TargetBreaks new (λ f b. inl b) from clean) refl
         where
@@ -114,6 +115,7 @@ module _ (k : Knows) (A : IsAccepted k) (bs : List Binding) (B : AreBound k bs) 
           none f (inl b) = never k A bs B d W X t h f b
           none f (inr (inl x)) = not-both q (ap (λ (u : TypedForm). rule.is_target k d u) (one-target t x.0 h x.1) ∙ x.2)
           none f (inr (inr x)) = apart k A bs B d W X t x.0 h x.1
+
           from : (f : Fault) → TargetBreaks f → breaking.Breaks k bs d f
           from f c = absurd (none f c)
       by false q = no_target (fault NOT_ASSIGNABLE (place_of d)) (a_meaning.Value t) (with_fault (fault NOT_ASSIGNABLE (place_of d)) new) (inr (inl (t, h, q, refl)))
@@ -125,6 +127,7 @@ module _ (k : Knows) (A : IsAccepted k) (bs : List Binding) (B : AreBound k bs) 
           to : (f : Fault) → breaking.Breaks k bs d f ⊎ (f ≡ fault NOT_ASSIGNABLE (place_of d)) → TargetBreaks f
           to f (inl b) = inl b
           to f (inr x) = inr (inl (t, h, q, x))
+
           from : (f : Fault) → TargetBreaks f → breaking.Breaks k bs d f ⊎ (f ≡ fault NOT_ASSIGNABLE (place_of d))
           from f (inl b) = inl b
           from f (inr (inl x)) = inr x.3
@@ -139,6 +142,7 @@ module _ (k : Knows) (A : IsAccepted k) (bs : List Binding) (B : AreBound k bs) 
       to : (f : Fault) → breaking.Breaks k bs d f ⊎ (f ≡ fault NOT_ASSIGNABLE (place_of d)) → TargetBreaks f
       to f (inl b) = inl b
       to f (inr x) = inr (inr (name, g, x))
+
       from : (f : Fault) → TargetBreaks f → breaking.Breaks k bs d f ⊎ (f ≡ fault NOT_ASSIGNABLE (place_of d))
       from f (inl b) = inl b
       from f (inr (inl x)) = inr x.3
@@ -365,6 +369,7 @@ module _ (k : Knows) (A : IsAccepted k) (bs : List Binding) (B : AreBound k bs) 
               let same : result ≡ x.2 = cc in
               x.8 (subst (λ (t : TypedForm). IsBelow k x.2 (type_of t)) (one-target u x.0 hu x.4) (subst (λ (t : Ty). IsBelow k t (type_of u)) same
               (D.told result (type_of u) (call-type k A set types result widened (D.has_call set types result widened T z)) (target-type u hu) b)))
+
           back : (f : Fault) → FormBreaks k bs e f → P f
           back f c = elim (own-of f c) [ inl x ↦ x | inr x ↦ absurd (contra f x) ]
       by-below result widened z false b = refused-so k A bs e found new P _ i to MISMATCH (place_of d)
@@ -374,9 +379,11 @@ module _ (k : Knows) (A : IsAccepted k) (bs : List Binding) (B : AreBound k bs) 
         where
           isnt : IsBelow k result (type_of u) → ⊥
           isnt h = let y : true ≡ false = sym (D.below result (type_of u) (call-type k A set types result widened (D.has_call set types result widened T z)) (target-type u hu) h) ∙ b in absurd cc
+
           own_is : (f : Fault) → NoSum k bs d v o f ⊎ UnlikeSum k bs d v o f → f ≡ fault MISMATCH (place_of d)
           own_is f (inl x) = let y : a_call.Result result widened ≡ a_call.Refused x.2 = sym z ∙ no-sum f x in absurd cc
           own_is f (inr x) = x.9
+
           back : (f : Fault) → FormBreaks k bs e f → P f ⊎ (f ≡ fault MISMATCH (place_of d))
           back f c = elim (own-of f c) [ inl x ↦ inl x | inr x ↦ inr (own_is f x) ]
 
@@ -388,6 +395,7 @@ module _ (k : Knows) (A : IsAccepted k) (bs : List Binding) (B : AreBound k bs) 
           own_is : (f : Fault) → NoSum k bs d v o f ⊎ UnlikeSum k bs d v o f → f ≡ fault r1 (place_of d)
           own_is f (inl x) = let y : a_call.Refused x.2 ≡ a_call.Refused r1 = sym (no-sum f x) ∙ z in let s : x.2 ≡ r1 = cc in x.7 ∙ ap (λ (c : Rule). fault c (place_of d)) s
           own_is f (inr x) = let y : a_call.Refused r1 ≡ a_call.Result x.2 x.3 = sym z ∙ unlike-sum f x in absurd cc
+
           back : (f : Fault) → FormBreaks k bs e f → P f ⊎ (f ≡ fault r1 (place_of d))
           back f c = elim (own-of f c) [ inl x ↦ inl x | inr x ↦ inr (own_is f x) ]
 

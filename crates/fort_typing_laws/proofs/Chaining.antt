@@ -170,8 +170,13 @@ module _ (k : Knows) (A : IsAccepted k) (bs : List Binding) (B : AreBound k bs) 
       inl (inr (u, v, subst (λ (z : Form). Is z u) qa hu, subst (λ (z : Form). Is z v) qb hv, inl (r, subst (λ (z : Op). CallBreaks k (operator_set k.facts z 2) (type_of u ∷ type_of v ∷ []) r) qo x, subst (λ (z : Form). f ≡ fault r (place_of z)) qa w)))
   chain-of op others c d rest W X E F f (inr (breaking.no_truth o os a b more u v result widened e1 e2 hu hv x n w)) =
       let qo : o ≡ op = cc in let qa : a ≡ c = cc in let qb : b ≡ d = cc in
-      inl (inr (u, v, subst (λ (z : Form). Is z u) qa hu, subst (λ (z : Form). Is z v) qb hv,
-      inr (result, widened, subst (λ (z : Op). Calls k (operator_set k.facts z 2) (type_of u ∷ type_of v ∷ []) result widened) qo x, n, subst (λ (z : Form). f ≡ fault MISMATCH (place_of z)) qa w)))
+      inl (inr (
+        u,
+        v,
+        subst (λ (z : Form). Is z u) qa hu,
+        subst (λ (z : Form). Is z v) qb hv,
+        inr (result, widened, subst (λ (z : Op). Calls k (operator_set k.facts z 2) (type_of u ∷ type_of v ∷ []) result widened) qo x, n, subst (λ (z : Form). f ≡ fault MISMATCH (place_of z)) qa w),
+      ))
   chain-of op others c d rest W X E F f (inr (breaking.next_comparison o os a more e1 e2 x)) =
       let qo : os ≡ others = cc in let qm : more ≡ d ∷ rest = cc in
       inr (inr (subst (λ (zs : List Op). breaking.ChainBreaks k bs zs (d ∷ rest) f) qo (subst (λ (zs : List Form). breaking.ChainBreaks k bs os zs f) qm x)))
@@ -198,17 +203,22 @@ module _ (k : Knows) (A : IsAccepted k) (bs : List Binding) (B : AreBound k bs) 
   chain-went (op ∷ others) (d ∷ rest) l V Z c W X y mid S =
       let one = side-went op c d W X V.0 Z.0 y mid S in
       let two = then-went k A bs mid (SideBreaks op c d W X V.0 Z.0) (ChainRest others d rest) (Subjected k A bs B d V.0 Z.0) (λ z. Unit {0}) (SideGood op c d W X V.0 Z.0 y) (ChainGood others d rest)
-          (sides_of k A others (map (judged k.facts) rest)) (chain-went others rest (omega arith) V.1 Z.1 d V.0 Z.0) y _ one in
+      (sides_of k A others (map (judged k.facts) rest)) (chain-went others rest (omega arith) V.1 Z.1 d V.0 Z.0) y _ one in
       subst (Went k A bs mid (ChainRest (op ∷ others) c (d ∷ rest)) (λ z. Unit {0}) (ChainGood (op ∷ others) c (d ∷ rest) y) y) (sym (next-side k A op others d (map (judged k.facts) rest) (st y bs mid)))
       (went-as k A bs mid _ (ChainRest (op ∷ others) c (d ∷ rest)) (λ z. Unit {0}) _ (ChainGood (op ∷ others) c (d ∷ rest) y) y _ (chain-made op others c d rest W X V.0 Z.0) (chain-of op others c d rest W X V.0 Z.0) good two)
     where
       good : (z : Frame) → ((x : Frame) × SideGood op c d W X V.0 Z.0 y x × ChainGood others d rest x z) → ChainGood (op ∷ others) c (d ∷ rest) y z
       good z (x, (u, v, result, widened, hu, e, hv, cl, bl, q1), (v2, us, cs, hv2, hs, cmp, f1, f2)) =
-          let same : v2 ≡ v = one-right op c d W X V.0 Z.0 v2 v hv2 hv in
-          (u, v ∷ us, chosen (set_for k A op) widened ∷ cs, hu, rule.part_ d rest v us refl refl hv hs,
-          rule.more op others u v us result widened cs refl refl cl bl (subst (λ (t : TypedForm). rule.Compares k (Calls k) others (t ∷ us) cs) same cmp) refl,
-          f1 ∙ ap (λ (f : Frame). f.first ++ us) q1 ∙ one_behind y.first us v,
-          f2 ∙ ap (λ (f : Frame). f.calls ++ cs) q1 ∙ one_behind y.calls cs (chosen (set_for k A op) widened))
+          let same : v2 ≡ v = one-right op c d W X V.0 Z.0 v2 v hv2 hv in (
+            u,
+            v ∷ us,
+            chosen (set_for k A op) widened ∷ cs,
+            hu,
+            rule.part_ d rest v us refl refl hv hs,
+            rule.more op others u v us result widened cs refl refl cl bl (subst (λ (t : TypedForm). rule.Compares k (Calls k) others (t ∷ us) cs) same cmp) refl,
+            f1 ∙ ap (λ (f : Frame). f.first ++ us) q1 ∙ one_behind y.first us v,
+            f2 ∙ ap (λ (f : Frame). f.calls ++ cs) q1 ∙ one_behind y.calls cs (chosen (set_for k A op) widened),
+          )
 
   -- ---- a whole chain
 
@@ -273,6 +283,7 @@ module _ (k : Knows) (A : IsAccepted k) (bs : List Binding) (B : AreBound k bs) 
         some : breaking.BreaksAs k bs rule.an_operand c f ⊎ breaking.BreaksSome k bs rule.an_operand ds f → P2 f
         some (inl x) = inl (inr x)
         some (inr x) = inr (inl x)
+
         by : BreaksAt k bs (Form-F.Chain p ops (c ∷ ds)) f → P2 f
         by (inl x) = some (some-of k A bs rule.an_operand c ds f x)
         by (inr x) = inr (inr x)
@@ -289,8 +300,10 @@ module _ (k : Knows) (A : IsAccepted k) (bs : List Binding) (B : AreBound k bs) 
       where
         same : v ≡ u
         same = one-as k A bs B c W X rule.an_operand v u hv hu
+
         firsts_are : z.first ≡ u ∷ us
         firsts_are = f1 ∙ ap (λ (y : Frame). y.first ++ us) (q1 ∙ ap (λ (y : Frame). record (kept a_slot.First v y) { side = side c v }) q0) ∙ ap (λ (t : TypedForm). t ∷ us) same
+
         calls_are : z.calls ≡ cs
         calls_are = f2 ∙ ap (λ (y : Frame). y.calls ++ cs) (q1 ∙ ap (λ (y : Frame). record (kept a_slot.First v y) { side = side c v }) q0)
 

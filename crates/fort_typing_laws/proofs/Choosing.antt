@@ -96,6 +96,7 @@ module _ (k : Knows) (A : IsAccepted k) where
     where
       inner : State
       inner = ask k.facts slot a_want.Value (judged k.facts d) (st wf (rule.with_clause bs name ty) found)
+
       by : Asked k A (rule.with_clause bs name ty) (clause-bound k A bs name ty B T) d W X rule.a_value slot wf found (ask k.facts slot a_want.Value (judged k.facts d) (st wf (rule.with_clause bs name ty) found))
           → AskedWith bs name ty d slot wf found (back_to bs (ask k.facts slot a_want.Value (judged k.facts d) (st wf (rule.with_clause bs name ty) found)))
       by (kept_there t new h i e) = kept_with t new h i (ap (back_to bs) e ∙ ap (λ (cs : List Binding). st (kept slot t wf) cs new) (clause_goes k A bs name ty))
@@ -149,6 +150,7 @@ module _ (k : Knows) (A : IsAccepted k) where
       where
         one : State
         one = ask_with k.facts name (rule.clause_type b) a_slot.Second (judged k.facts (out-TypeBranch b).value) (st wf bs found)
+
         by : ((y : Frame) (mid : Option Fault) → Cased bs name more y mid (cases k.facts name (map (judged_clause k.facts) more) (st y bs mid)))
             → AskedWith bs name (rule.clause_type b) (out-TypeBranch b).value a_slot.Second wf found (ask_with k.facts name (rule.clause_type b) a_slot.Second (judged k.facts (out-TypeBranch b).value) (st wf bs found))
             → Cased bs name (b ∷ more) wf found (cases k.facts name (map (judged_clause k.facts) more) (ask_with k.facts name (rule.clause_type b) a_slot.Second (judged k.facts (out-TypeBranch b).value) (st wf bs found)))
@@ -164,6 +166,7 @@ module _ (k : Knows) (A : IsAccepted k) where
       where
         clean : (new : Option Fault) (y : Frame) → cases k.facts name (map (judged_clause k.facts) branches) (st opened bs None) ≡ st y bs new → new ≡ None
         clean new y e = ap (λ (s : State). s.found) (sym e ∙ cases-answered k A h B W opened None)
+
         by : Cased bs name branches opened None (cases k.facts name (map (judged_clause k.facts) branches) (st opened bs None)) → ⊥
         by (all_cased us new hs i e) = (i.none (clean new _ e)).1 f b
         by (one_lacking g new x c i e br l hd) = (i.none (clean new x e)).1 f b

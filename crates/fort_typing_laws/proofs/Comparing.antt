@@ -52,7 +52,7 @@ use Rattle.fort_typing_laws.proofs.Deciding.{is_decided}
 use Rattle.fort_typing_laws.proofs.Written.{AllWritten, BranchWritten, MayBeWritten}
 use Rattle.fort_typing_laws.proofs.Typed.{all-types, call-type, typed-as, typed-clauses, typed-else}
 use Rattle.fort_typing_laws.proofs.Wide.{widest_is_computed, widest_told, none_told}
-use Rattle.fort_typing_laws.proofs.Answered.{Same, value_, operand_, unit_, st, mapped, at, at-level, mapped-case,  clauses-answered, clause_goes, one_behind, nothing_behind, cases-answered}
+use Rattle.fort_typing_laws.proofs.Answered.{Same, value_, operand_, unit_, st, mapped, at, at-level, mapped-case, clauses-answered, clause_goes, one_behind, nothing_behind, cases-answered}
 use Rattle.fort_typing_laws.proofs.Asking.{place-is, ValuedAs, got, missed, taken-is, AskedAll, some-of, none-breaks, each-never, one-each, Asked, kept_there, lacking, ask-exact, as-never, one-as}
 use Rattle.fort_typing_laws.proofs.Firsts.{no_more, alike, one_more, both}
 use Rattle.fort_typing_laws.proofs.Views.{BreaksAt, ElseBreaks, NoWidestCase}
@@ -122,8 +122,10 @@ module _ (k : Knows) (A : IsAccepted k) where
       where
         isnt : IsBelow k result boolean → ⊥
         isnt h = let z : true ≡ false = sym (D.below result boolean (call-type k A (set_for op) types result widened (D.has_call (set_for op) types result widened T q)) E h) ∙ b in absurd cc
+
         to : (f : Fault) → f ≡ fault MISMATCH p → ComparisonBreaks op u v p f
         to f e = inr (result, widened, D.has_call (set_for op) types result widened T q, isnt, e)
+
         from : (f : Fault) → ComparisonBreaks op u v p f → f ≡ fault MISMATCH p
         from f (inl x) = absurd (no-refusal result widened q f x)
         from f (inr x) = x.4
@@ -136,6 +138,7 @@ module _ (k : Knows) (A : IsAccepted k) where
       where
         to : (f : Fault) → f ≡ fault r p → ComparisonBreaks op u v p f
         to f e = inl (r, D.breaks_call (set_for op) types r T q, e)
+
         from : (f : Fault) → ComparisonBreaks op u v p f → f ≡ fault r p
         from f (inl x) = let z : a_call.Refused x.0 ≡ a_call.Refused r = sym (D.refuses (set_for op) types x.0 T x.1) ∙ q in let y : x.0 ≡ r = cc in x.2 ∙ ap (λ (s : Rule). fault s p) y
         from f (inr x) = absurd (no-result r q f x)
@@ -308,32 +311,46 @@ module _ (k : Knows) (A : IsAccepted k) where
     pub clauses-went : (branches : List Branch) → AllByRecursion (BranchWritten k) branches → AreExact k (map rule.test_of branches) → AreExact k (map rule.value_of branches) → (y : Frame) (mid : Option Fault) → Subjected y
         → Went k A bs mid (breaking.BreaksClauses k bs s branches) (λ z. Unit {0}) (ClauseGood branches y) y (clauses k.facts (map (judged_branch k.facts) branches) (st y bs mid))
     unfolding clauses
-    clauses-went [] V Y Z y mid (typed_subject u h e) = well y mid tt refl (u, [], [], [], h, e, rule.no_clause refl refl refl refl,
-        ap (λ (ts : List TypedForm). record y { first = ts }) (sym (nothing_behind y.first))
-        ∙ ap (λ (ts : List TypedForm). record y { first = y.first ++ []; second = ts }) (sym (nothing_behind y.second))
-        ∙ ap (λ (cs : List Chosen). record y { first = y.first ++ []; second = y.second ++ []; calls = cs }) (sym (nothing_behind y.calls)))
+    clauses-went [] V Y Z y mid (typed_subject u h e) = well y mid tt refl (
+      u,
+      [],
+      [],
+      [],
+      h,
+      e,
+      rule.no_clause refl refl refl refl,
+      ap (λ (ts : List TypedForm). record y { first = ts }) (sym (nothing_behind y.first))
+          ∙ ap (λ (ts : List TypedForm). record y { first = y.first ++ []; second = ts }) (sym (nothing_behind y.second))
+          ∙ ap (λ (cs : List Chosen). record y { first = y.first ++ []; second = y.second ++ []; calls = cs }) (sym (nothing_behind y.calls)),
+    )
         (no_more mid (breaking.BreaksClauses k bs s []) none-claused) refl
     clauses-went [] V Y Z y mid (lost_subject e br n) = still mid y tt br br (no_more mid (breaking.BreaksClauses k bs s []) none-claused) refl
     clauses-went (b ∷ more) V Y Z y mid S =
         let one = test-went (rule.test_of b) V.0.0 Y.0 y mid S in
         let two = then-went bs mid (TestBreaks (rule.test_of b) V.0.0 Y.0) (breaking.BreaksAs k bs rule.a_value (rule.value_of b)) Subjected Subjected (TestGood (rule.test_of b) V.0.0 Y.0 y)
-            (λ x z. (t : TypedForm) × rule.HasAs k (Calls k) bs rule.a_value (rule.value_of b) t × (z ≡ kept a_slot.Second t x)) (ask k.facts a_slot.Second a_want.Value (judged k.facts (rule.value_of b)))
-            (ask-went k A bs B Subjected a_slot.Second kept-second broken-still (λ x t. refl) (rule.value_of b) V.0.1 Z.0 rule.a_value a_want.Value value_) y _ one in
+        (λ x z. (t : TypedForm) × rule.HasAs k (Calls k) bs rule.a_value (rule.value_of b) t × (z ≡ kept a_slot.Second t x)) (ask k.facts a_slot.Second a_want.Value (judged k.facts (rule.value_of b)))
+        (ask-went k A bs B Subjected a_slot.Second kept-second broken-still (λ x t. refl) (rule.value_of b) V.0.1 Z.0 rule.a_value a_want.Value value_) y _ one in
         let three = then-went bs mid (λ f. TestBreaks (rule.test_of b) V.0.0 Y.0 f ⊎ breaking.BreaksAs k bs rule.a_value (rule.value_of b) f) (breaking.BreaksClauses k bs s more) Subjected (λ z. Unit {0})
-            (λ x. (z : Frame) × TestGood (rule.test_of b) V.0.0 Y.0 y z × ((t : TypedForm) × rule.HasAs k (Calls k) bs rule.a_value (rule.value_of b) t × (x ≡ kept a_slot.Second t z)))
-            (ClauseGood more) (clauses k.facts (map (judged_branch k.facts) more)) (clauses-went more V.1 Y.1 Z.1) y _ two in
+        (λ x. (z : Frame) × TestGood (rule.test_of b) V.0.0 Y.0 y z × ((t : TypedForm) × rule.HasAs k (Calls k) bs rule.a_value (rule.value_of b) t × (x ≡ kept a_slot.Second t z)))
+        (ClauseGood more) (clauses k.facts (map (judged_branch k.facts) more)) (clauses-went more V.1 Y.1 Z.1) y _ two in
         subst (λ (a : Arm). Went k A bs mid (breaking.BreaksClauses k bs s (b ∷ more)) (λ z. Unit {0}) (ClauseGood (b ∷ more) y) y
         (clauses k.facts (map (judged_branch k.facts) more) (ask k.facts a_slot.Second a_want.Value a.value (take_test k.facts a.test.place (said a.test (st y bs mid)))))) (sym (arm-is k.facts b))
         (went-as bs mid _ (breaking.BreaksClauses k bs s (b ∷ more)) (λ z. Unit {0}) _ (ClauseGood (b ∷ more) y) y _ (clauses-made b V.0 Y.0 more) (clauses-of b V.0 Y.0 more) good three)
       where
         good : (z : Frame) → ((x : Frame) × ((w : Frame) × TestGood (rule.test_of b) V.0.0 Y.0 y w × ((t : TypedForm) × rule.HasAs k (Calls k) bs rule.a_value (rule.value_of b) t × (x ≡ kept a_slot.Second t w))) × ClauseGood more x z) → ClauseGood (b ∷ more) y z
-        good z (x, (w, (u, v, result, widened, hu, e, hv, c, bl, q1), (t, ht, q2)), (u2, cs, ts, vs, hu2, e2, h2, q3)) =
-            (u, chosen (set_for an_op.Eq) widened ∷ cs, v ∷ ts, t ∷ vs, hu, e,
-            rule.clause b more v t result widened cs ts vs refl hv c bl ht (subst (λ (q : TypedForm). rule.HasClauses k (Calls k) bs q more cs ts vs) (one-subject u2 u hu2 hu) h2) refl refl refl,
-            q3 ∙ ap (λ (f : Frame). record f { first = f.first ++ ts; second = f.second ++ vs; calls = f.calls ++ cs }) (q2 ∙ ap (λ (f : Frame). kept a_slot.Second t f) q1)
-            ∙ ap (λ (xs : List TypedForm). record y { first = xs; second = (y.second ++ t ∷ []) ++ vs; calls = (y.calls ++ chosen (set_for an_op.Eq) widened ∷ []) ++ cs }) (one_behind y.first ts v)
-            ∙ ap (λ (xs : List TypedForm). record y { first = y.first ++ v ∷ ts; second = xs; calls = (y.calls ++ chosen (set_for an_op.Eq) widened ∷ []) ++ cs }) (one_behind y.second vs t)
-            ∙ ap (λ (xs : List Chosen). record y { first = y.first ++ v ∷ ts; second = y.second ++ t ∷ vs; calls = xs }) (one_behind y.calls cs (chosen (set_for an_op.Eq) widened)))
+        good z (x, (w, (u, v, result, widened, hu, e, hv, c, bl, q1), (t, ht, q2)), (u2, cs, ts, vs, hu2, e2, h2, q3)) = (
+          u,
+          chosen (set_for an_op.Eq) widened ∷ cs,
+          v ∷ ts,
+          t ∷ vs,
+          hu,
+          e,
+          rule.clause b more v t result widened cs ts vs refl hv c bl ht (subst (λ (q : TypedForm). rule.HasClauses k (Calls k) bs q more cs ts vs) (one-subject u2 u hu2 hu) h2) refl refl refl,
+          q3 ∙ ap (λ (f : Frame). record f { first = f.first ++ ts; second = f.second ++ vs; calls = f.calls ++ cs }) (q2 ∙ ap (λ (f : Frame). kept a_slot.Second t f) q1)
+              ∙ ap (λ (xs : List TypedForm). record y { first = xs; second = (y.second ++ t ∷ []) ++ vs; calls = (y.calls ++ chosen (set_for an_op.Eq) widened ∷ []) ++ cs }) (one_behind y.first ts v)
+              ∙ ap (λ (xs : List TypedForm). record y { first = y.first ++ v ∷ ts; second = xs; calls = (y.calls ++ chosen (set_for an_op.Eq) widened ∷ []) ++ cs }) (one_behind y.second vs t)
+              ∙ ap (λ (xs : List Chosen). record y { first = y.first ++ v ∷ ts; second = y.second ++ t ∷ vs; calls = xs }) (one_behind y.calls cs (chosen (set_for an_op.Eq) widened)),
+        )
 
     -- clauses that have types break nothing, and have one typed form each
     clause-frame : TypedForm → Frame
@@ -345,6 +362,7 @@ module _ (k : Knows) (A : IsAccepted k) where
       where
         clean : (new : Option Fault) (z : Frame) → clauses k.facts (map (judged_branch k.facts) branches) (st (record opened { side = side u }) bs None) ≡ st z bs new → new ≡ None
         clean new z q = ap (λ (t : State). t.found) (sym q ∙ clauses-answered k A h B V (subject-type u hu) (judged k.facts s).place (record opened { side = side u }) None refl)
+
         by : Went k A bs None (breaking.BreaksClauses k bs s branches) (λ z. Unit {0}) (ClauseGood branches (record opened { side = side u })) (record opened { side = side u })
             (clauses k.facts (map (judged_branch k.facts) branches) (st (record opened { side = side u }) bs None)) → ⊥
         by (well z new v br g i q) = (i.none (clean new z q)).1 f b
@@ -413,7 +431,7 @@ module _ (k : Knows) (A : IsAccepted k) where
           let f1 = go k A bs found Nothing_yet SubjectBreaks Fresh Subjected Fresh SubjectGood subject_step subject-went (st opened bs found) f0 in
           let f2 = go k A bs found P1 (breaking.BreaksClauses k bs s branches) Subjected (λ z. Unit {0}) G1 (ClauseGood branches) (clauses k.facts (map (judged_branch k.facts) branches)) (clauses-went branches V Y Z) _ f1 in
           go k A bs found P2 (Behind k A bs B rule.a_value other) (λ z. Unit {0}) (λ z. Unit {0}) G2 (λ y z. (o : Option TypedForm) × HasBehind k A bs B rule.a_value other o × (z ≡ with_last k A bs B o y))
-              (ask_if k.facts a_slot.Last a_want.Value (option_map (judged k.facts) other)) (λ y mid v. behind-went k A bs B other U O rule.a_value a_want.Value value_ y mid) _ f2
+          (ask_if k.facts a_slot.Last a_want.Value (option_map (judged k.facts) other)) (λ y mid v. behind-went k A bs B other U O rule.a_value a_want.Value value_ y mid) _ f2
 
       to : (f : Fault) → P3 f → FormBreaks k bs e f
       to f (inl (inl (inl c))) = absurd c
@@ -434,6 +452,7 @@ module _ (k : Knows) (A : IsAccepted k) where
           behind_ : (o : Option Form) → ElseBreaks k bs o f → Behind k A bs B rule.a_value o f
           behind_ None x = x
           behind_ (Some d) x = x
+
           by : BreaksAt k bs (Form-F.Case p s branches other) f → P3 f ⊎ Own f
           by (inl x) = inl (inl (inl (inr x)))
           by (inr (inl x)) = inl (inl (inr x))
@@ -482,6 +501,7 @@ module _ (k : Knows) (A : IsAccepted k) where
           frame_is : z ≡ with_last k A bs B o (record opened { head = Some u; first = ts; second = vs; calls = cs; side = side u })
           frame_is = q3 ∙ ap (λ (y : Frame). with_last k A bs B o y) (q2 ∙ ap (λ (y : Frame). record y { first = y.first ++ ts; second = y.second ++ vs; calls = y.calls ++ cs })
               (q1 ∙ ap (λ (y : Frame). record (kept a_slot.Head v y) { side = side v }) q0 ∙ ap (λ (t : TypedForm). record (kept a_slot.Head t opened) { side = side t }) (one-subject v u hv hu)))
+
           own : (f : Fault) → Own f → HasNoWidest k (types_of vs ++ rule.else_types o) × (f ≡ fault MISMATCH p)
           own f n =
               let eu = one-subject n.0 u n.5 hu in

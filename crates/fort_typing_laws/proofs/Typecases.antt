@@ -124,6 +124,7 @@ module _ (k : Knows) (A : IsAccepted k) (bs : List Binding) (B : AreBound k bs) 
     where
       told : else_with k.facts bound (Some (judged k.facts x)) (st y bs mid) ≡ ask_with k.facts bound (type_of u) a_slot.Last (judged k.facts x) (st y bs mid)
       told = ap (λ (o : Option TypedForm). ask_with k.facts bound (head_type o) a_slot.Last (judged k.facts x) (st y bs mid)) hd
+
       by : AskedWith k A bs bound (type_of u) x a_slot.Last y mid (ask_with k.facts bound (type_of u) a_slot.Last (judged k.facts x) (st y bs mid))
           → ElseLeft u y mid (else_with k.facts bound (option_map (judged k.facts) (Some x)) (st y bs mid))
       by (kept_with t new h i r) = kept_else (Some t) new (rule.else_ x t (sym q) h refl) (subst (λ (o : Option Form). IsFirst mid (ElseBreaks k (inner u) o) new) q i) (told ∙ r)
@@ -282,8 +283,10 @@ module _ (k : Knows) (A : IsAccepted k) (bs : List Binding) (B : AreBound k bs) 
     where
       same : v ≡ u
       same = one-as k A bs B d W X rule.a_value v u hv hu
+
       frame_is : z ≡ with_last k A bs B w (record opened { head = Some u; second = vs })
       frame_is = q3 ∙ ap (λ (y : Frame). with_last k A bs B w (record y { second = y.second ++ vs })) (q2 ∙ ap (λ (y : Frame). told_frame (kept a_slot.Head v y)) (q1 ∙ q0) ∙ ap (λ (t : TypedForm). told_frame (kept a_slot.Head t opened)) same)
+
       own : (f : Fault) → Own f → HasNoWidest k (types_of vs ++ rule.else_types w) × (f ≡ fault MISMATCH p)
       own f o =
           let eu = one-as k A bs B d W X rule.a_value o.0 u o.4 hu in
