@@ -1,63 +1,48 @@
 -- What an assignment answers is exact where its parts are.
-use Rattle.std.proofs.Common.{◌≡◌, ◌⊎◌, inl, inr, ℕ, Bool, true, false, cond, ◌&&◌, not, List, [], ◌∷◌, ◌++◌, map, Option, Some, None, refl, arith, ap, ◌∙◌, sym, subst}
-use Rattle.std.specs.Prelude.{option_map}
-use Rattle.std.specs.List.{AllByRecursion}
-use Rattle.fort_base.specs.declared.ids.NameId.{NameId}
+use Rattle.std.proofs.Common.{◌≡◌, ◌⊎◌, inl, inr, Bool, true, false, cond, ◌&&◌, List, [], ◌∷◌, Option, Some, None, refl, ap, ◌∙◌, sym, subst}
 use Rattle.fort_base.specs.declared.ids.SetId.{SetId}
 use Rattle.fort_base.specs.declared.refusal.Place.{Place}
 use Rattle.fort_base.specs.declared.refusal.Rule.{Rule}
 use Rattle.fort_base.specs.declared.rules.TheConstants.{MISMATCH, NOT_ASSIGNABLE}
 use Rattle.fort_base.specs.declared.ty.Ty.{Ty}
 use Rattle.fort_ops.specs.declared.op.Op.{Op}
-use Rattle.fort_ops.specs.declared.op.Op.TheVariants as an_op
 use Rattle.fort_scope.specs.declared.binding.Binding.{Binding}
 use Rattle.fort_form.specs.declared.form.Form.{Form, out-Form}
 use Rattle.fort_form.specs.declared.form.Form.TheOpen.{Form-F}
-use Rattle.fort_form.specs.declared.form.Branch.{Branch}
-use Rattle.fort_form.specs.declared.form.Generator.{Generator}
-use Rattle.fort_form.specs.declared.form.Item.{Item}
 use Rattle.fort_form.specs.declared.form.Update.{Update}
-use Rattle.fort_form.specs.declared.form.TypeBranch.{TypeBranch, out-TypeBranch}
-use Rattle.fort_typed_form.specs.declared.typed_form.Chosen.{Chosen}
 use Rattle.fort_typed_form.specs.declared.typed_form.TypedForm.{TypedForm, out-TypedForm}
 use Rattle.fort_typed_form.specs.declared.typed_form.TypedForm.TheVariants as a_typed
 use Rattle.fort_known.specs.declared.fault.Fault.{Fault}
 use Rattle.fort_known.specs.Known.{Knows}
 use Rattle.fort_known.specs.Below.{is_below}
-use Rattle.fort_known.specs.Names.{is_visible}
 use Rattle.fort_known.specs.Sets.{operator_set}
 use Rattle.fort_called.specs.Called.{called}
 use Rattle.fort_called.specs.declared.called.Called.{Called}
 use Rattle.fort_called.specs.declared.called.Called.TheVariants as a_call
 use Rattle.fort_typing_rules.specs.declared.part.Meaning.{Meaning}
 use Rattle.fort_typing_rules.specs.declared.part.Meaning.TheVariants as a_meaning
-use Rattle.fort_typing_rules.specs.Calls.{Calls, CallBreaks}
-use Rattle.fort_typing_rules.specs.Types.{exception, boolean, unit, type_of, types_of, place_of, fault, IsBelow, IsWidest, HasNoWidest}
+use Rattle.fort_typing_rules.specs.Calls.{Calls}
+use Rattle.fort_typing_rules.specs.Types.{unit, type_of, place_of, fault, IsBelow}
 use Rattle.fort_typing_rules.specs.Elements.{chosen}
 use Rattle.fort_typing_rules.specs.Typing as rule
 use Rattle.fort_typing_rules.specs.Breaking as breaking
-use Rattle.fort_judge.specs.declared.frame.Want.{Want}
 use Rattle.fort_judge.specs.declared.frame.Want.TheVariants as a_want
-use Rattle.fort_judge.specs.declared.frame.Slot.{Slot}
 use Rattle.fort_judge.specs.declared.frame.Slot.TheVariants as a_slot
 use Rattle.fort_judge.specs.declared.frame.Frame.{Frame}
-use Rattle.fort_judge.specs.declared.frame.Side.{Side}
 use Rattle.fort_judge.specs.declared.frame.Valued.{Valued}
-use Rattle.fort_judge.specs.declared.frame.Outcome.{Outcome}
 use Rattle.fort_judge.specs.Faults.{with_fault, breaks}
 use Rattle.fort_judge.specs.Tests.{value, refused, untyped, suits, valued, as_wanted, taken}
-use Rattle.fort_judge.specs.Parts.{Judge, State, begin, opened, is_broken, kept, kept_if, said, ask, take_part, below_by, as_wanted_below, targeted, assigned_valued, take_assigned}
-use Rattle.fort_judge.specs.Closing.{close_at, by_two, sum_by, assigned_by, assign_answer}
-use Rattle.fort_judge.specs.Judging.{inside, judged, takes_by, take_target, assigned_part}
+use Rattle.fort_judge.specs.Parts.{State, opened, is_broken, kept, kept_if, said, ask, as_wanted_below, targeted, take_assigned}
+use Rattle.fort_judge.specs.Closing.{sum_by, assigned_by, assign_answer}
+use Rattle.fort_judge.specs.Judging.{judged, takes_by, take_target, assigned_part}
 use Rattle.fort_typing_laws.specs.Deciding.{IsType, AreTypes, IsAccepted, Decides}
 use Rattle.fort_typing_laws.specs.Written.{IsWritten, AreBound}
-use Rattle.fort_typing_laws.specs.Exact.{IsFirst, PostfixBreaks, FormBreaks, IsSeen, a_type, a_name, a_postfix, a_fault, Answers, IsExactExpression}
-use Rattle.fort_typing_laws.proofs.Types.{all_join, built_in_type, unit_type}
+use Rattle.fort_typing_laws.specs.Exact.{IsFirst, FormBreaks, IsSeen, a_type, a_name, a_postfix, a_fault, Answers, IsExactExpression}
 use Rattle.fort_typing_laws.proofs.Deciding.{is_decided}
 use Rattle.fort_typing_laws.proofs.Typed.{call-type, typed-of, typed-as}
-use Rattle.fort_typing_laws.proofs.Answered.{Same, value_, operand_, st, with_seen, mapped, at, target-is}
+use Rattle.fort_typing_laws.proofs.Answered.{value_, operand_, st, with_seen, at, target-is}
 use Rattle.fort_typing_laws.proofs.Asking.{Asked, kept_there, lacking, ask-exact, place-is, breaks-of, one-type, never, never-named, apart, ValuedAs, got, missed, taken-is, below-is, as-never, one-as}
-use Rattle.fort_typing_laws.proofs.Firsts.{no_more, alike, one_more, both}
+use Rattle.fort_typing_laws.proofs.Firsts.{alike, one_more, both}
 use Rattle.fort_typing_laws.proofs.Views.{BreaksAt, Fixed, FixedName, Unlike, AssignBreaks, NoSum, UnlikeSum, UpdateBreaks}
 use Rattle.fort_typing_laws.proofs.Steps.{typed-so, broken-so, refused-so, of-layer, only-left}
 use Rattle.fort_typing_laws.proofs.Scopes.{not-both}

@@ -1,6 +1,5 @@
 -- What an `if` answers is exact where its parts are.
-use Rattle.std.proofs.Common.{◌≡◌, ◌⊎◌, inl, inr, ℕ, Bool, true, false, cond, List, [], ◌∷◌, ◌++◌, map, Option, Some, None, refl, ap, ◌∙◌, sym, subst}
-use Rattle.std.specs.Prelude.{option_map}
+use Rattle.std.proofs.Common.{◌≡◌, ◌⊎◌, inl, inr, true, cond, List, [], ◌∷◌, ◌++◌, map, Option, Some, None, refl, ap, ◌∙◌, sym, subst}
 use Rattle.std.specs.List.{AllByRecursion}
 use Rattle.fort_base.specs.declared.refusal.Place.{Place}
 use Rattle.fort_base.specs.declared.rules.TheConstants.{MISMATCH}
@@ -14,30 +13,29 @@ use Rattle.fort_typed_form.specs.declared.typed_form.TypedForm.TheVariants as a_
 use Rattle.fort_known.specs.declared.fault.Fault.{Fault}
 use Rattle.fort_known.specs.Known.{Knows}
 use Rattle.fort_typing_rules.specs.Calls.{Calls}
-use Rattle.fort_typing_rules.specs.Types.{unit, type_of, types_of, fault, IsWidest, HasNoWidest}
+use Rattle.fort_typing_rules.specs.Types.{unit, type_of, types_of, fault, HasNoWidest}
 use Rattle.fort_typing_rules.specs.Typing as rule
 use Rattle.fort_typing_rules.specs.Breaking as breaking
 use Rattle.fort_judge.specs.declared.frame.Want.{Want}
 use Rattle.fort_judge.specs.declared.frame.Want.TheVariants as a_want
 use Rattle.fort_judge.specs.declared.frame.Slot.TheVariants as a_slot
 use Rattle.fort_judge.specs.declared.frame.Frame.{Frame}
-use Rattle.fort_judge.specs.declared.frame.Outcome.{Outcome}
 use Rattle.fort_judge.specs.Tests.{value, untyped, widest}
 use Rattle.fort_judge.specs.Parts.{Arm, State, begin, opened, is_broken, kept, ask, arms}
-use Rattle.fort_judge.specs.Closing.{close_at, by_widest, if_answer}
-use Rattle.fort_judge.specs.Judging.{inside, if_parts, judged, judged_branch}
+use Rattle.fort_judge.specs.Closing.{by_widest, if_answer}
+use Rattle.fort_judge.specs.Judging.{inside, judged, judged_branch}
 use Rattle.fort_judge.proofs.Levels.{arm-is}
 use Rattle.fort_typing_laws.specs.Deciding.{IsType, AreTypes, IsAccepted}
 use Rattle.fort_typing_laws.specs.Written.{IsWritten, AreBound}
 use Rattle.fort_typing_laws.specs.Exact.{IsFirst, FormBreaks, Answers, IsExactExpression, AreExact}
 use Rattle.fort_typing_laws.proofs.Types.{all_join}
-use Rattle.fort_typing_laws.proofs.Written.{AllWritten, BranchWritten, tests-of, values-of}
+use Rattle.fort_typing_laws.proofs.Written.{BranchWritten, tests-of, values-of}
 use Rattle.fort_typing_laws.proofs.Typed.{all-types, typed-each, typed-as}
 use Rattle.fort_typing_laws.proofs.Wide.{widest_is_computed, widest_told, none_told}
 use Rattle.fort_typing_laws.proofs.Answered.{Same, value_, unit_, truth_, st, mapped, at, nothing_behind, one_behind}
 use Rattle.fort_typing_laws.proofs.Asking.{Asked, kept_there, lacking, ask-exact, some-of, none-breaks, each-never, one-each, as-never, one-as}
 use Rattle.fort_typing_laws.proofs.Firsts.{no_more, alike, both}
-use Rattle.fort_typing_laws.proofs.Views.{BreaksAt, IfBreaks, NoWidestIf}
+use Rattle.fort_typing_laws.proofs.Views.{BreaksAt, NoWidestIf}
 use Rattle.fort_typing_laws.proofs.Steps.{typed-so, broken-so, refused-so, of-layer, only-left}
 
 module _ (k : Knows) (A : IsAccepted k) (bs : List Binding) (B : AreBound k bs) where

@@ -1,61 +1,42 @@
 -- What a chain of relations answers is exact where its sides are.
-use Rattle.std.proofs.Common.{◌≡◌, ◌⊎◌, inl, inr, ℕ, Bool, true, false, cond, not, List, [], ◌∷◌, ◌++◌, map, length, Option, Some, None, refl, arith, ap, ◌∙◌, sym, subst}
-use Rattle.std.specs.Prelude.{option_map}
-use Rattle.std.specs.List.{AllByRecursion}
-use Rattle.fort_base.specs.declared.ids.NameId.{NameId}
-use Rattle.fort_base.specs.declared.ids.SetId.{SetId}
+use Rattle.std.proofs.Common.{◌≡◌, ◌⊎◌, inl, inr, Bool, true, false, cond, List, [], ◌∷◌, ◌++◌, map, length, Option, Some, None, refl, arith, ap, ◌∙◌, sym, subst}
 use Rattle.fort_base.specs.declared.refusal.Place.{Place}
-use Rattle.fort_base.specs.declared.refusal.Rule.{Rule}
-use Rattle.fort_base.specs.declared.rules.TheConstants.{SHADOWS, MISMATCH, NOT_AN_EXCEPTION}
+use Rattle.fort_base.specs.declared.rules.TheConstants.{MISMATCH}
 use Rattle.fort_base.specs.declared.ty.Ty.{Ty}
 use Rattle.fort_ops.specs.declared.op.Op.{Op}
 use Rattle.fort_ops.specs.declared.op.Op.TheVariants as an_op
 use Rattle.fort_scope.specs.declared.binding.Binding.{Binding}
 use Rattle.fort_form.specs.declared.form.Form.{Form, out-Form}
 use Rattle.fort_form.specs.declared.form.Form.TheOpen.{Form-F}
-use Rattle.fort_form.specs.declared.form.Branch.{Branch}
-use Rattle.fort_form.specs.declared.form.TypeBranch.{TypeBranch, out-TypeBranch}
 use Rattle.fort_typed_form.specs.declared.typed_form.Chosen.{Chosen}
 use Rattle.fort_typed_form.specs.declared.typed_form.TypedForm.{TypedForm}
 use Rattle.fort_typed_form.specs.declared.typed_form.TypedForm.TheVariants as a_typed
 use Rattle.fort_known.specs.declared.fault.Fault.{Fault}
 use Rattle.fort_known.specs.Known.{Knows}
-use Rattle.fort_known.specs.Below.{is_below}
-use Rattle.fort_known.specs.Names.{is_visible}
 use Rattle.fort_known.specs.Sets.{operator_set}
-use Rattle.fort_called.specs.Called.{called}
-use Rattle.fort_called.specs.declared.called.Called.{Called}
-use Rattle.fort_called.specs.declared.called.Called.TheVariants as a_call
 use Rattle.fort_typing_rules.specs.Calls.{Calls, CallBreaks}
-use Rattle.fort_typing_rules.specs.Types.{exception, boolean, unit, type_of, types_of, place_of, fault, IsBelow, IsWidest, HasNoWidest}
+use Rattle.fort_typing_rules.specs.Types.{boolean, type_of, place_of, fault, IsBelow}
 use Rattle.fort_typing_rules.specs.Elements.{chosen}
 use Rattle.fort_typing_rules.specs.Typing as rule
 use Rattle.fort_typing_rules.specs.Breaking as breaking
-use Rattle.fort_judge.specs.declared.frame.Want.{Want}
 use Rattle.fort_judge.specs.declared.frame.Want.TheVariants as a_want
-use Rattle.fort_judge.specs.declared.frame.Slot.{Slot}
 use Rattle.fort_judge.specs.declared.frame.Slot.TheVariants as a_slot
 use Rattle.fort_judge.specs.declared.frame.Frame.{Frame}
 use Rattle.fort_judge.specs.declared.frame.Side.{Side}
 use Rattle.fort_judge.specs.declared.frame.Valued.{Valued}
-use Rattle.fort_judge.specs.Faults.{with_fault, breaks}
-use Rattle.fort_judge.specs.Tests.{value, untyped, widest, taken}
-use Rattle.fort_judge.specs.Parts.{Judge, Arm, Clause, State, begin, opened, is_broken, kept, kept_if, said, compared_by, compared, side_type, side_place, side_of, after_side, take_side, sides, take_subject, take_test, clauses, ask, ask_if, ask_with, unless_lost, back_to, watch, catches, cases, lost_if_broken, head_type, else_with}
-use Rattle.fort_judge.specs.Closing.{close_at}
-use Rattle.fort_judge.specs.Judging.{inside, judged}
-use Rattle.fort_typing_laws.specs.Deciding.{IsType, AreTypes, IsAccepted, Decides}
+use Rattle.fort_judge.specs.Tests.{value, untyped, taken}
+use Rattle.fort_judge.specs.Parts.{State, opened, is_broken, kept, kept_if, said, compared, side_type, side_place, side_of, after_side, take_side}
+use Rattle.fort_judge.specs.Judging.{judged}
+use Rattle.fort_typing_laws.specs.Deciding.{IsAccepted}
 use Rattle.fort_typing_laws.specs.Written.{IsWritten, AreBound}
-use Rattle.fort_typing_laws.specs.Exact.{IsFirst, FormBreaks, Answers, IsExactExpression, AreExact, MayBeExact}
-use Rattle.fort_typing_laws.proofs.Types.{all_join, built_in_type, unit_type}
-use Rattle.fort_typing_laws.proofs.Deciding.{is_decided}
+use Rattle.fort_typing_laws.specs.Exact.{IsFirst, FormBreaks, Answers, IsExactExpression, AreExact}
 use Rattle.fort_typing_laws.proofs.Written.{AllWritten}
 use Rattle.fort_typing_laws.proofs.Typed.{typed-as}
-use Rattle.fort_typing_laws.proofs.Answered.{operand_, st, mapped, at, sides_of, first-side, next-side, no-side, nothing_behind, one_behind}
-use Rattle.fort_typing_laws.proofs.Asking.{place-is, ValuedAs, got, missed, taken-is, AskedAll, some-of, none-breaks, each-never, one-each, Asked, kept_there, lacking, ask-exact, as-never, one-as}
-use Rattle.fort_typing_laws.proofs.Firsts.{no_more, alike, one_more, both}
+use Rattle.fort_typing_laws.proofs.Answered.{operand_, st, at, sides_of, first-side, next-side, no-side, nothing_behind, one_behind}
+use Rattle.fort_typing_laws.proofs.Asking.{place-is, ValuedAs, got, missed, taken-is, some-of, none-breaks, as-never, one-as}
+use Rattle.fort_typing_laws.proofs.Firsts.{no_more, alike, both}
 use Rattle.fort_typing_laws.proofs.Views.{BreaksAt}
-use Rattle.fort_typing_laws.proofs.Steps.{typed-so, broken-so, refused-so, of-layer, only-left}
-use Rattle.fort_typing_laws.proofs.Scopes.{not-both, some-not-none, lost_frame, Shadow, Watched, is_free, is_taken, watch-exact}
+use Rattle.fort_typing_laws.proofs.Steps.{typed-so, broken-so, of-layer, only-left}
 use Rattle.fort_typing_laws.proofs.Comparing.{set_for, ComparisonBreaks, Compared, is_compared, not_compared, compared-exact, then-went, went-as, Subjected, typed_subject, lost_subject}
 use Rattle.fort_typing_laws.proofs.Trying.{Far, fine, foul, Went, well, ill, still, go}
 

@@ -1,5 +1,5 @@
 -- The elements of a run or of a juxtaposition, as they are asked.
-use Rattle.std.proofs.Common.{◌≡◌, ◌⊎◌, inl, inr, Bool, true, false, cond, List, [], ◌∷◌, ◌++◌, map, Option, Some, None, refl, ap, ◌∙◌, sym, subst}
+use Rattle.std.proofs.Common.{◌≡◌, ◌⊎◌, inl, inr, Bool, true, false, cond, List, [], ◌∷◌, ◌++◌, map, Option, refl, ap, ◌∙◌, sym, subst}
 use Rattle.std.specs.List.{AllByRecursion}
 use Rattle.fort_base.specs.declared.refusal.Place.{Place}
 use Rattle.fort_base.specs.declared.rules.TheConstants.{MISMATCH}
@@ -23,11 +23,11 @@ use Rattle.fort_typing_rules.specs.Breaking as breaking
 use Rattle.fort_judge.specs.declared.frame.Frame.{Frame}
 use Rattle.fort_judge.specs.declared.frame.Outcome.{Outcome}
 use Rattle.fort_judge.specs.Faults.{with_fault, breaks}
-use Rattle.fort_judge.specs.Parts.{Judge, State, said, element_meaning, element_found, take_element, elements}
+use Rattle.fort_judge.specs.Parts.{State, said, element_meaning, element_found, take_element, elements}
 use Rattle.fort_judge.specs.Judging.{judged}
 use Rattle.fort_typing_laws.specs.Deciding.{IsAccepted}
 use Rattle.fort_typing_laws.specs.Written.{IsWritten, AreBound}
-use Rattle.fort_typing_laws.specs.Typed.{MeansTyped, AreTyped}
+use Rattle.fort_typing_laws.specs.Typed.{AreTyped}
 use Rattle.fort_typing_laws.specs.Exact.{IsFirst, PostfixBreaks, FormBreaks, IsSeen, a_type, a_name, a_postfix, a_fault, IsExact}
 use Rattle.fort_typing_laws.proofs.Types.{all_first, all_rest}
 use Rattle.fort_typing_laws.proofs.Written.{AllWritten}

@@ -25,11 +25,11 @@ use Rattle.fort_judge.specs.declared.frame.Outcome.{Outcome}
 use Rattle.fort_judge.specs.Faults.{breaks}
 use Rattle.fort_judge.specs.Tests.{value}
 use Rattle.fort_judge.specs.Joining.{call, call_by, operation, operation_by, value_applied, applied_to, applied, joined_by, joined, indexed, read, method_called, followed_by, followed, Around, around, more_before, on, replaced, replaced_in, rewritten_by, rewritten, further, run_at, run_within, run}
-use Rattle.fort_typing_laws.specs.Deciding.{IsType, AreTypes, IsAccepted, Decides}
+use Rattle.fort_typing_laws.specs.Deciding.{AreTypes, IsAccepted, Decides}
 use Rattle.fort_typing_laws.specs.Typed.{IsTyped, MeansTyped, AreTyped}
-use Rattle.fort_typing_laws.proofs.Types.{all_left, all_right, all_first, all_rest, sides_type}
+use Rattle.fort_typing_laws.proofs.Types.{all_right, all_first, all_rest, sides_type}
 use Rattle.fort_typing_laws.proofs.Deciding.{is_decided}
-use Rattle.fort_typing_laws.proofs.Typed.{PartTyped, PartsTyped, all-types, arguments-typed, value-typed, rewritten-typed}
+use Rattle.fort_typing_laws.proofs.Typed.{PartTyped, all-types, arguments-typed, value-typed, rewritten-typed}
 use Rattle.fort_typing_laws.specs.Laws.{RunIsComputed, OneRun}
 use Rattle.fort_typing_laws.proofs.Juxtaposing.{rewriting_is_computed}
 use Rattle.fort_typing_laws.proofs.Wide.{unlike}

@@ -1,7 +1,6 @@
 -- Rewritings of a run: there is one at most, and what a run breaks goes by it.
-use Rattle.std.proofs.Common.{◌≡◌, ◌⊎◌, inl, inr, ◌≤◌, ℕ, zero, suc, Bool, true, false, not, cond, ◌||◌, List, [], ◌∷◌, ◌++◌, length, map, Option, Some, None, Result, Ok, Err, refl, arith, ap, ◌∙◌, sym, subst}
+use Rattle.std.proofs.Common.{◌≡◌, ◌⊎◌, inl, inr, suc, true, false, List, [], ◌∷◌, ◌++◌, length, Result, Ok, refl, arith, ap, ◌∙◌, sym, subst}
 use Rattle.fort_base.specs.declared.refusal.CheckFault.{CheckFault}
-use Rattle.fort_base.specs.declared.refusal.CheckFault.TheVariants as a_fault
 use Rattle.fort_base.specs.declared.refusal.Place.{Place}
 use Rattle.fort_base.specs.declared.refusal.Rule.{Rule}
 use Rattle.fort_base.specs.declared.rules.TheConstants.{MISMATCH}
@@ -12,19 +11,14 @@ use Rattle.fort_typed_form.specs.declared.typed_form.TypedForm.{TypedForm}
 use Rattle.fort_known.specs.declared.fault.Fault.{Fault}
 use Rattle.fort_known.specs.Known.{Knows}
 use Rattle.fort_typing_rules.specs.declared.part.Part.{Part}
-use Rattle.fort_typing_rules.specs.declared.part.Meaning.{Meaning}
-use Rattle.fort_typing_rules.specs.declared.part.Meaning.TheVariants as a_meaning
 use Rattle.fort_typing_rules.specs.Calls.{Calls}
 use Rattle.fort_typing_rules.specs.Types.{type_of, is_nothing, fault}
 use Rattle.fort_typing_rules.specs.Elements as rule
-use Rattle.fort_judge.specs.declared.frame.Made.{Made}
-use Rattle.fort_judge.specs.declared.frame.Made.TheVariants as a_made
 use Rattle.fort_judge.specs.Joining.{applied, joined, followed}
 use Rattle.fort_typing_laws.specs.Deciding.{IsAccepted}
 use Rattle.fort_typing_laws.specs.Typed.{AreTyped}
 use Rattle.fort_typing_laws.proofs.Juxtaposing.{rewriting_is_computed}
 use Rattle.fort_typing_laws.proofs.Running.{to, applies-is, joins-is, follows-is, first-typed, second-typed}
-use Rattle.fort_typing_laws.proofs.Scopes.{not-both}
 
 -- ---- lists with two items at one place
 

@@ -1,5 +1,5 @@
 -- Names that are bound, and generators: what they leave is exact. Functions, loops over generators, and reductions.
-use Rattle.std.proofs.Common.{◌≡◌, ◌⊎◌, inl, inr, ℕ, Bool, true, false, cond, List, [], ◌∷◌, ◌++◌, map, Option, Some, None, refl, arith, ap, ◌∙◌, sym, subst}
+use Rattle.std.proofs.Common.{◌≡◌, ◌⊎◌, inl, inr, Bool, true, false, cond, List, [], ◌∷◌, ◌++◌, map, Option, Some, None, refl, ap, ◌∙◌, sym, subst}
 use Rattle.std.specs.List.{AllByRecursion}
 use Rattle.fort_base.specs.declared.ids.NameId.{NameId}
 use Rattle.fort_base.specs.declared.refusal.Place.{Place}
@@ -11,7 +11,6 @@ use Rattle.fort_form.specs.declared.form.Form.{Form, out-Form}
 use Rattle.fort_form.specs.declared.form.Form.TheOpen.{Form-F}
 use Rattle.fort_form.specs.declared.form.Generator.{Generator, out-Generator}
 use Rattle.fort_form.specs.declared.form.Parameter.{Parameter}
-use Rattle.fort_form.specs.declared.form.Reduction.{Reduction}
 use Rattle.fort_form.specs.declared.form.Item.{Item}
 use Rattle.fort_form.specs.declared.form.Branch.{Branch}
 use Rattle.fort_form.specs.declared.form.TypeBranch.{TypeBranch}
@@ -20,7 +19,6 @@ use Rattle.fort_typed_form.specs.declared.typed_form.TypedForm.TheVariants as a_
 use Rattle.fort_known.specs.declared.fault.Fault.{Fault}
 use Rattle.fort_known.specs.Known.{Knows}
 use Rattle.fort_known.specs.Names.{is_visible}
-use Rattle.fort_known.specs.Sets.{operator_set}
 use Rattle.fort_typing_rules.specs.Calls.{Calls}
 use Rattle.fort_typing_rules.specs.Types.{unit, given, type_of, place_of, fault, tuple_of, parameter_type}
 use Rattle.fort_typing_rules.specs.Typing as rule
@@ -31,20 +29,19 @@ use Rattle.fort_judge.specs.declared.frame.Slot.TheVariants as a_slot
 use Rattle.fort_judge.specs.declared.frame.Frame.{Frame}
 use Rattle.fort_judge.specs.declared.frame.Valued.{Valued}
 use Rattle.fort_judge.specs.Faults.{with_fault, breaks}
-use Rattle.fort_judge.specs.Tests.{value, untyped, taken}
-use Rattle.fort_judge.specs.Parts.{Judge, Giving, State, begin, opened, is_broken, kept, said, ask, unless_lost, shadows, bind, bind_all, watch, given_by, gives, take_source, sources}
-use Rattle.fort_judge.specs.Closing.{close_at, giving_name, by_one, reduced}
-use Rattle.fort_judge.specs.Judging.{inside, judged, judged_generator, reduction_want}
+use Rattle.fort_judge.specs.Tests.{value, untyped}
+use Rattle.fort_judge.specs.Parts.{Giving, State, begin, opened, is_broken, kept, said, ask, unless_lost, shadows, bind, bind_all, watch, given_by, gives, take_source, sources}
+use Rattle.fort_judge.specs.Closing.{close_at, giving_name, by_one}
+use Rattle.fort_judge.specs.Judging.{inside, judged, judged_generator}
 use Rattle.fort_judge.proofs.Levels.{giving-is}
-use Rattle.fort_typing_laws.specs.Deciding.{IsType, AreTypes, IsAccepted}
+use Rattle.fort_typing_laws.specs.Deciding.{IsType, IsAccepted}
 use Rattle.fort_typing_laws.specs.Written.{IsWritten, AreBound}
 use Rattle.fort_typing_laws.specs.Exact.{IsFirst, FormBreaks, Answers, IsExactExpression}
 use Rattle.fort_typing_laws.proofs.Written.{GeneratorWritten}
 use Rattle.fort_typing_laws.proofs.Typed.{binds-bound, parameters-bound, one-bound, given-typed, typed-as}
-use Rattle.fort_typing_laws.proofs.Answered.{Same, value_, operand_, unit_, st, mapped, at, binds-is, sources-answered, giving-names, same-reduction, nothing_behind, one_behind}
+use Rattle.fort_typing_laws.proofs.Answered.{Same, value_, operand_, unit_, st, mapped, at, binds-is, sources-answered, giving-names, nothing_behind, one_behind}
 use Rattle.fort_typing_laws.proofs.Asking.{place-is, ValuedAs, got, missed, taken-is, Asked, kept_there, lacking, ask-exact, as-never, one-as}
 use Rattle.fort_typing_laws.proofs.Firsts.{no_more, alike, one_more, both}
-use Rattle.fort_typing_laws.proofs.Views.{BreaksAt}
 use Rattle.fort_typing_laws.proofs.Steps.{typed-so, broken-so, of-layer, only-left}
 
 -- a frame behind which the scope isn't known

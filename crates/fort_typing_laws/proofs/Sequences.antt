@@ -1,5 +1,5 @@
 -- What a block answers is exact where its items are; and a reduction.
-use Rattle.std.proofs.Common.{◌≡◌, ◌⊎◌, inl, inr, ℕ, Bool, true, false, cond, List, [], ◌∷◌, ◌++◌, map, Option, Some, None, refl, arith, ap, ◌∙◌, sym, subst}
+use Rattle.std.proofs.Common.{◌≡◌, ◌⊎◌, inl, inr, Bool, true, false, cond, List, [], ◌∷◌, ◌++◌, map, Option, Some, None, refl, ap, ◌∙◌, sym, subst}
 use Rattle.std.specs.List.{AllByRecursion}
 use Rattle.fort_base.specs.declared.ids.NameId.{NameId}
 use Rattle.fort_base.specs.declared.refusal.Place.{Place}
@@ -20,7 +20,7 @@ use Rattle.fort_known.specs.Known.{Knows}
 use Rattle.fort_known.specs.Names.{is_visible}
 use Rattle.fort_known.specs.Sets.{operator_set}
 use Rattle.fort_typing_rules.specs.Calls.{Calls}
-use Rattle.fort_typing_rules.specs.Types.{unit, type_of, place_of, fault}
+use Rattle.fort_typing_rules.specs.Types.{unit, type_of, fault}
 use Rattle.fort_typing_rules.specs.Typing as rule
 use Rattle.fort_typing_rules.specs.Breaking as breaking
 use Rattle.fort_judge.specs.declared.frame.Want.{Want}
@@ -30,20 +30,19 @@ use Rattle.fort_judge.specs.declared.frame.Frame.{Frame}
 use Rattle.fort_judge.specs.declared.frame.Valued.{Valued}
 use Rattle.fort_judge.specs.Faults.{with_fault, breaks}
 use Rattle.fort_judge.specs.Tests.{value, untyped, valued}
-use Rattle.fort_judge.specs.Parts.{Judge, Piece, local, locals, Giving, State, begin, opened, is_broken, kept, said, ask, unless_lost, lose, shadows, bind, bind_all, bind_parts, declares, declares_all, take_initial, take_initials, as_wanted_below, below_by, item, items}
+use Rattle.fort_judge.specs.Parts.{Piece, local, locals, Giving, State, opened, is_broken, kept, said, unless_lost, bind, bind_all, bind_parts, declares, declares_all, take_initial, take_initials, as_wanted_below, below_by, item, items}
 use Rattle.fort_judge.specs.Closing.{by_one, reduced, last_type}
-use Rattle.fort_judge.specs.Judging.{inside, judged, judged_item, judged_generator, judge_item, reduction_want}
+use Rattle.fort_judge.specs.Judging.{judged, judged_item, judged_generator, reduction_want}
 use Rattle.fort_judge.proofs.Levels.{giving-is}
 use Rattle.fort_typing_laws.specs.Deciding.{IsType, IsAccepted}
 use Rattle.fort_typing_laws.specs.Written.{IsWritten, AreBound}
 use Rattle.fort_typing_laws.specs.Exact.{IsFirst, FormBreaks, Answers, IsExactExpression}
-use Rattle.fort_typing_laws.proofs.Types.{all_first, all_rest, unit_type}
+use Rattle.fort_typing_laws.proofs.Types.{all_first, all_rest}
 use Rattle.fort_typing_laws.proofs.Written.{GeneratorWritten, ItemWritten, of-item}
 use Rattle.fort_typing_laws.proofs.Typed.{binds-bound, one-bound, named-bound}
-use Rattle.fort_typing_laws.proofs.Answered.{value_, unit_, st, mapped, at, item-out, block-type, binds-is, same-reduction, nothing_behind, one_behind}
+use Rattle.fort_typing_laws.proofs.Answered.{value_, unit_, st, at, item-out, block-type, binds-is, same-reduction, nothing_behind, one_behind}
 use Rattle.fort_typing_laws.proofs.Asking.{ValuedAs, got, missed, below-is, Asked, kept_there, lacking, ask-exact}
 use Rattle.fort_typing_laws.proofs.Firsts.{no_more, alike, one_more, both}
-use Rattle.fort_typing_laws.proofs.Views.{BreaksAt}
 use Rattle.fort_typing_laws.proofs.Steps.{typed-so, broken-so, of-layer, only-left}
 use Rattle.fort_typing_laws.proofs.Scopes.{lost_frame, not-both, Shadow, BoundAll, all_bound, one_taken, bind-all-exact, binds-once, one-of, behind, Inside}
 

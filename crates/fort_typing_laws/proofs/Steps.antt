@@ -1,11 +1,11 @@
 -- What a form answers is exact where its parts are: the forms without parts, of one part, of two, and those of a list of parts.
-use Rattle.std.proofs.Common.{◌≡◌, ◌⊎◌, inl, inr, ℕ, Bool, true, false, not, cond, List, [], ◌∷◌, ◌++◌, length, map, Option, Some, None, refl, arith, ap, ◌∙◌, sym, subst}
+use Rattle.std.proofs.Common.{◌≡◌, ◌⊎◌, inl, inr, ℕ, Bool, true, cond, List, [], ◌∷◌, length, map, Option, Some, None, refl, ap, ◌∙◌, sym, subst}
 use Rattle.fort_base.specs.declared.ids.NameId.{NameId}
 use Rattle.fort_base.specs.declared.ids.SetId.{SetId}
 use Rattle.fort_base.specs.declared.ids.TypeId.{TypeId}
 use Rattle.fort_base.specs.declared.refusal.Place.{Place}
 use Rattle.fort_base.specs.declared.refusal.Rule.{Rule}
-use Rattle.fort_base.specs.declared.rules.TheConstants.{UNKNOWN_NAME, MISMATCH}
+use Rattle.fort_base.specs.declared.rules.TheConstants.{UNKNOWN_NAME}
 use Rattle.fort_base.specs.declared.ty.Ty.{Ty}
 use Rattle.fort_base.specs.declared.ty.Ty.TheVariants as a_type
 use Rattle.fort_ops.specs.declared.op.Op.{Op}
@@ -34,24 +34,22 @@ use Rattle.fort_typing_rules.specs.Typing as rule
 use Rattle.fort_typing_rules.specs.Breaking as breaking
 use Rattle.fort_judge.specs.declared.frame.Want.{Want}
 use Rattle.fort_judge.specs.declared.frame.Want.TheVariants as a_want
-use Rattle.fort_judge.specs.declared.frame.Slot.{Slot}
 use Rattle.fort_judge.specs.declared.frame.Slot.TheVariants as a_slot
 use Rattle.fort_judge.specs.declared.frame.Frame.{Frame}
 use Rattle.fort_judge.specs.declared.frame.Outcome.{Outcome}
 use Rattle.fort_judge.specs.Faults.{with_fault, breaks}
 use Rattle.fort_judge.specs.Tests.{value, refused, untyped}
-use Rattle.fort_judge.specs.Parts.{Judge, Piece, Arm, Clause, Giving, State, begin, opened, is_broken, kept, ask, ask_below, asks}
+use Rattle.fort_judge.specs.Parts.{State, begin, opened, is_broken, kept, ask, ask_below, asks}
 use Rattle.fort_judge.specs.Joining.{operation, operation_by}
-use Rattle.fort_judge.specs.Closing.{close_at, means, receiver, name_by, name_answer, made_outcome}
+use Rattle.fort_judge.specs.Closing.{close_at, means, receiver, name_by, made_outcome}
 use Rattle.fort_judge.specs.Judging.{inside, judged}
-use Rattle.fort_typing_laws.specs.Deciding.{IsType, AreTypes, IsAccepted, Decides}
+use Rattle.fort_typing_laws.specs.Deciding.{IsType, IsAccepted}
 use Rattle.fort_typing_laws.specs.Written.{IsWritten, AreBound}
-use Rattle.fort_typing_laws.specs.Exact.{IsFirst, PostfixBreaks, FormBreaks, IsSeen, a_type, a_name, a_postfix, a_fault, Answers, IsExact, IsExactExpression, AreExact}
-use Rattle.fort_typing_laws.proofs.Types.{built_in_type, unit_type, all_first, all_rest}
+use Rattle.fort_typing_laws.specs.Exact.{IsFirst, PostfixBreaks, FormBreaks, IsSeen, a_type, a_name, a_postfix, a_fault, Answers, IsExactExpression, AreExact}
 use Rattle.fort_typing_laws.proofs.Deciding.{is_decided}
-use Rattle.fort_typing_laws.proofs.Written.{AllWritten, of-parts}
+use Rattle.fort_typing_laws.proofs.Written.{AllWritten}
 use Rattle.fort_typing_laws.proofs.Typed.{all-types, typed-each}
-use Rattle.fort_typing_laws.proofs.Answered.{Same, value_, operand_, unit_, small_, truth_, number_, exception_, st, kepts, kepts-first, mapped, at, closes-name}
+use Rattle.fort_typing_laws.proofs.Answered.{Same, value_, operand_, unit_, small_, truth_, exception_, st, kepts-first, mapped, at, closes-name}
 use Rattle.fort_typing_laws.proofs.Asking.{Asked, kept_there, lacking, ask-exact, ask-below-exact, AskedAll, kept_all, some_lacking, asks-exact, each-never, one-each}
 use Rattle.fort_typing_laws.proofs.Firsts.{no_more, alike, one_more, both}
 use Rattle.fort_typing_laws.proofs.Views.{BreaksAt, view-at}
