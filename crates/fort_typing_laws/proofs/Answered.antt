@@ -27,9 +27,7 @@ use Rattle.fort_known.specs.Known.{Knows}
 use Rattle.fort_known.specs.Below.{is_below}
 use Rattle.fort_known.specs.Names.{Standing, a_binding, a_field, a_variable, a_single, functions, is_visible, standing}
 use Rattle.fort_known.specs.Sets.{operator_set}
-use Rattle.fort_called.specs.Called.{called}
 use Rattle.fort_called.specs.declared.called.Called.{Called}
-use Rattle.fort_called.specs.declared.called.Called.TheVariants as a_call
 use Rattle.fort_typing_rules.specs.declared.part.Part.{Part}
 use Rattle.fort_typing_rules.specs.declared.part.Meaning.{Meaning}
 use Rattle.fort_typing_rules.specs.declared.part.Meaning.TheVariants as a_meaning
@@ -55,11 +53,10 @@ use Rattle.fort_judge.specs.Joining.{operation, operation_by}
 use Rattle.fort_judge.specs.Judging.{inside, reduction_want, takes_by, take_target, assigned_part, judge_form, judge_item, judge_branch, judge_generator, judge_clause, judged, judged_item, judged_branch, judged_generator, judged_clause}
 use Rattle.fort_typing_laws.specs.Deciding.{IsType, AreTypes, IsAccepted, Decides}
 use Rattle.fort_typing_laws.specs.Written.{IsWritten, AreBound}
-use Rattle.fort_typing_laws.specs.Typed.{IsTyped}
-use Rattle.fort_typing_laws.proofs.Types.{all_join, all_first, all_rest, named_type, built_in_type, unit_type}
+use Rattle.fort_typing_laws.proofs.Types.{all_join, all_first, all_rest, built_in_type, unit_type}
 use Rattle.fort_typing_laws.proofs.Written.{AllWritten, BranchWritten, GeneratorWritten, ClauseWritten, MayBeWritten, ItemWritten, of-parts, of-item, tests-of, values-of}
 use Rattle.fort_typing_laws.proofs.Deciding.{is_decided}
-use Rattle.fort_typing_laws.proofs.Typed.{all-types, call-type, typed-of, typed-as, typed-each, typed-clauses, typed-cases, typed-else, typed-parts, sources-bound, one-bound, binds-bound, clause-bound, parameters-bound, named-bound, given-typed}
+use Rattle.fort_typing_laws.proofs.Typed.{all-types, call-type, typed-of, typed-each, typed-clauses, typed-cases, typed-else, typed-parts, sources-bound, one-bound, binds-bound, clause-bound, parameters-bound, named-bound, given-typed}
 use Rattle.fort_typing_laws.specs.Laws.{HasIsAnswered, OneTypedForm}
 use Rattle.fort_typing_laws.proofs.Wide.{widest_is_computed}
 use Rattle.fort_typing_laws.proofs.Running.{run_is_computed, value-once}

@@ -1,6 +1,5 @@
 -- A part of a form, asked: it has a type as wanted, or breaks a rule; and the first broken rule is found.
-use Rattle.std.proofs.Common.{◌≡◌, ◌⊎◌, inl, inr, ℕ, nat_eq, Bool, true, false, not, cond, ◌||◌, List, [], ◌∷◌, ◌++◌, map, Option, Some, None, refl, arith, ap, ◌∙◌, sym, subst}
-use Rattle.std.specs.List.{AllByRecursion}
+use Rattle.std.proofs.Common.{◌≡◌, ◌⊎◌, inl, inr, ℕ, Bool, true, false, not, cond, ◌||◌, List, [], ◌∷◌, map, Option, Some, None, refl, arith, ap, ◌∙◌, sym, subst}
 use Rattle.std.proofs.lemmas.Bool.{eqb-true}
 use Rattle.fort_base.specs.declared.ids.NameId.{NameId}
 use Rattle.fort_base.specs.declared.ids.TypeId.{TypeId}
@@ -26,11 +25,10 @@ use Rattle.fort_known.specs.Names.{functions}
 use Rattle.fort_typing_rules.specs.declared.part.Meaning.{Meaning}
 use Rattle.fort_typing_rules.specs.declared.part.Meaning.TheVariants as a_meaning
 use Rattle.fort_typing_rules.specs.Calls.{Calls}
-use Rattle.fort_typing_rules.specs.Types.{exception, zz32, zz64, boolean, unit, is_nothing, type_of, place_of, fault}
+use Rattle.fort_typing_rules.specs.Types.{exception, zz32, zz64, unit, is_nothing, type_of, place_of, fault}
 use Rattle.fort_typing_rules.specs.Typing as rule
 use Rattle.fort_typing_rules.specs.Breaking as breaking
 use Rattle.fort_judge.specs.declared.frame.Want.{Want}
-use Rattle.fort_judge.specs.declared.frame.Want.TheVariants as a_want
 use Rattle.fort_judge.specs.declared.frame.Slot.{Slot}
 use Rattle.fort_judge.specs.declared.frame.Slot.TheVariants as a_slot
 use Rattle.fort_judge.specs.declared.frame.Frame.{Frame}
@@ -42,8 +40,8 @@ use Rattle.fort_judge.specs.Parts.{Judge, State, opened, is_broken, kept, kept_i
 use Rattle.fort_judge.specs.Judging.{judged}
 use Rattle.fort_typing_laws.specs.Deciding.{IsType, IsAccepted, Decides}
 use Rattle.fort_typing_laws.specs.Written.{IsWritten, AreBound}
-use Rattle.fort_typing_laws.specs.Exact.{IsFirst, PostfixBreaks, FormBreaks, IsSeen, a_type, a_name, a_postfix, a_fault, Answers, IsExact, IsExactExpression, AreExact}
-use Rattle.fort_typing_laws.proofs.Types.{out_named, built_in_type, unit_type, all_first, all_rest}
+use Rattle.fort_typing_laws.specs.Exact.{IsFirst, PostfixBreaks, FormBreaks, IsSeen, a_type, a_name, a_postfix, a_fault, IsExactExpression, AreExact}
+use Rattle.fort_typing_laws.proofs.Types.{out_named, built_in_type, unit_type}
 use Rattle.fort_typing_laws.proofs.Deciding.{is_decided}
 use Rattle.fort_typing_laws.proofs.Written.{AllWritten}
 use Rattle.fort_typing_laws.proofs.Typed.{typed-of}
@@ -183,9 +181,11 @@ module _ (k : Knows) (A : IsAccepted k) where
         where
           unsuited : rule.Suits k want (type_of t) → ⊥
           unsuited s = let g : true ≡ false = sym (no (type_of t) (typed-of k A h B W).0 s) ∙ e in absurd cc
+
           to : (f : Fault) → FormBreaks k bs d f ⊎ (f ≡ own r) → As f
           to f (inl b) = breaking.inside (breaks-of f b)
           to f (inr q) = breaking.unlike t h unsuited (q ∙ own-rule)
+
           from : (f : Fault) → As f → FormBreaks k bs d f ⊎ (f ≡ own r)
           from f (breaking.inside b) = inl (inl b)
           from f (breaking.named name n w) = absurd (apart t name h n)
@@ -202,6 +202,7 @@ module _ (k : Knows) (A : IsAccepted k) where
           to : (f : Fault) → FormBreaks k bs d f ⊎ (f ≡ own FUNCTION_AS_VALUE) → As f
           to f (inl b) = breaking.inside (breaks-of f b)
           to f (inr q) = breaking.named name n (q ∙ own-is FUNCTION_AS_VALUE)
+
           from : (f : Fault) → As f → FormBreaks k bs d f ⊎ (f ≡ own FUNCTION_AS_VALUE)
           from f (breaking.inside b) = inl (inl b)
           from f (breaking.named name n w) = inr (w ∙ sym (own-is FUNCTION_AS_VALUE))

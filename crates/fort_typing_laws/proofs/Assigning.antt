@@ -1,63 +1,48 @@
 -- What an assignment answers is exact where its parts are.
-use Rattle.std.proofs.Common.{◌≡◌, ◌⊎◌, inl, inr, ℕ, Bool, true, false, cond, ◌&&◌, not, List, [], ◌∷◌, ◌++◌, map, Option, Some, None, refl, arith, ap, ◌∙◌, sym, subst}
-use Rattle.std.specs.Prelude.{option_map}
-use Rattle.std.specs.List.{AllByRecursion}
-use Rattle.fort_base.specs.declared.ids.NameId.{NameId}
+use Rattle.std.proofs.Common.{◌≡◌, ◌⊎◌, inl, inr, Bool, true, false, cond, ◌&&◌, List, [], ◌∷◌, Option, Some, None, refl, ap, ◌∙◌, sym, subst}
 use Rattle.fort_base.specs.declared.ids.SetId.{SetId}
 use Rattle.fort_base.specs.declared.refusal.Place.{Place}
 use Rattle.fort_base.specs.declared.refusal.Rule.{Rule}
 use Rattle.fort_base.specs.declared.rules.TheConstants.{MISMATCH, NOT_ASSIGNABLE}
 use Rattle.fort_base.specs.declared.ty.Ty.{Ty}
 use Rattle.fort_ops.specs.declared.op.Op.{Op}
-use Rattle.fort_ops.specs.declared.op.Op.TheVariants as an_op
 use Rattle.fort_scope.specs.declared.binding.Binding.{Binding}
 use Rattle.fort_form.specs.declared.form.Form.{Form, out-Form}
 use Rattle.fort_form.specs.declared.form.Form.TheOpen.{Form-F}
-use Rattle.fort_form.specs.declared.form.Branch.{Branch}
-use Rattle.fort_form.specs.declared.form.Generator.{Generator}
-use Rattle.fort_form.specs.declared.form.Item.{Item}
 use Rattle.fort_form.specs.declared.form.Update.{Update}
-use Rattle.fort_form.specs.declared.form.TypeBranch.{TypeBranch, out-TypeBranch}
-use Rattle.fort_typed_form.specs.declared.typed_form.Chosen.{Chosen}
 use Rattle.fort_typed_form.specs.declared.typed_form.TypedForm.{TypedForm, out-TypedForm}
 use Rattle.fort_typed_form.specs.declared.typed_form.TypedForm.TheVariants as a_typed
 use Rattle.fort_known.specs.declared.fault.Fault.{Fault}
 use Rattle.fort_known.specs.Known.{Knows}
 use Rattle.fort_known.specs.Below.{is_below}
-use Rattle.fort_known.specs.Names.{is_visible}
 use Rattle.fort_known.specs.Sets.{operator_set}
 use Rattle.fort_called.specs.Called.{called}
 use Rattle.fort_called.specs.declared.called.Called.{Called}
 use Rattle.fort_called.specs.declared.called.Called.TheVariants as a_call
 use Rattle.fort_typing_rules.specs.declared.part.Meaning.{Meaning}
 use Rattle.fort_typing_rules.specs.declared.part.Meaning.TheVariants as a_meaning
-use Rattle.fort_typing_rules.specs.Calls.{Calls, CallBreaks}
-use Rattle.fort_typing_rules.specs.Types.{exception, boolean, unit, type_of, types_of, place_of, fault, IsBelow, IsWidest, HasNoWidest}
+use Rattle.fort_typing_rules.specs.Calls.{Calls}
+use Rattle.fort_typing_rules.specs.Types.{unit, type_of, place_of, fault, IsBelow}
 use Rattle.fort_typing_rules.specs.Elements.{chosen}
 use Rattle.fort_typing_rules.specs.Typing as rule
 use Rattle.fort_typing_rules.specs.Breaking as breaking
-use Rattle.fort_judge.specs.declared.frame.Want.{Want}
 use Rattle.fort_judge.specs.declared.frame.Want.TheVariants as a_want
-use Rattle.fort_judge.specs.declared.frame.Slot.{Slot}
 use Rattle.fort_judge.specs.declared.frame.Slot.TheVariants as a_slot
 use Rattle.fort_judge.specs.declared.frame.Frame.{Frame}
-use Rattle.fort_judge.specs.declared.frame.Side.{Side}
 use Rattle.fort_judge.specs.declared.frame.Valued.{Valued}
-use Rattle.fort_judge.specs.declared.frame.Outcome.{Outcome}
 use Rattle.fort_judge.specs.Faults.{with_fault, breaks}
 use Rattle.fort_judge.specs.Tests.{value, refused, untyped, suits, valued, as_wanted, taken}
-use Rattle.fort_judge.specs.Parts.{Judge, State, begin, opened, is_broken, kept, kept_if, said, ask, take_part, below_by, as_wanted_below, targeted, assigned_valued, take_assigned}
-use Rattle.fort_judge.specs.Closing.{close_at, by_two, sum_by, assigned_by, assign_answer}
-use Rattle.fort_judge.specs.Judging.{inside, judged, takes_by, take_target, assigned_part}
+use Rattle.fort_judge.specs.Parts.{State, opened, is_broken, kept, kept_if, said, ask, as_wanted_below, targeted, take_assigned}
+use Rattle.fort_judge.specs.Closing.{sum_by, assigned_by, assign_answer}
+use Rattle.fort_judge.specs.Judging.{judged, takes_by, take_target, assigned_part}
 use Rattle.fort_typing_laws.specs.Deciding.{IsType, AreTypes, IsAccepted, Decides}
 use Rattle.fort_typing_laws.specs.Written.{IsWritten, AreBound}
-use Rattle.fort_typing_laws.specs.Exact.{IsFirst, PostfixBreaks, FormBreaks, IsSeen, a_type, a_name, a_postfix, a_fault, Answers, IsExactExpression}
-use Rattle.fort_typing_laws.proofs.Types.{all_join, built_in_type, unit_type}
+use Rattle.fort_typing_laws.specs.Exact.{IsFirst, FormBreaks, IsSeen, a_type, a_name, a_postfix, a_fault, Answers, IsExactExpression}
 use Rattle.fort_typing_laws.proofs.Deciding.{is_decided}
 use Rattle.fort_typing_laws.proofs.Typed.{call-type, typed-of, typed-as}
-use Rattle.fort_typing_laws.proofs.Answered.{Same, value_, operand_, st, with_seen, mapped, at, target-is}
+use Rattle.fort_typing_laws.proofs.Answered.{value_, operand_, st, with_seen, at, target-is}
 use Rattle.fort_typing_laws.proofs.Asking.{Asked, kept_there, lacking, ask-exact, place-is, breaks-of, one-type, never, never-named, apart, ValuedAs, got, missed, taken-is, below-is, as-never, one-as}
-use Rattle.fort_typing_laws.proofs.Firsts.{no_more, alike, one_more, both}
+use Rattle.fort_typing_laws.proofs.Firsts.{alike, one_more, both}
 use Rattle.fort_typing_laws.proofs.Views.{BreaksAt, Fixed, FixedName, Unlike, AssignBreaks, NoSum, UnlikeSum, UpdateBreaks}
 use Rattle.fort_typing_laws.proofs.Steps.{typed-so, broken-so, refused-so, of-layer, only-left}
 use Rattle.fort_typing_laws.proofs.Scopes.{not-both}
@@ -107,6 +92,7 @@ module _ (k : Knows) (A : IsAccepted k) (bs : List Binding) (B : AreBound k bs) 
     where
       clean : IsFirst found (breaking.Breaks k bs d) new
       clean = alike found (FormBreaks k bs d) (breaking.Breaks k bs d) new (breaks-of k A bs B d W X) (λ f b. inl b) i
+
       by : (c : Bool) → rule.is_target k d t ≡ c → Targeted found (targeted here c (a_meaning.Value t) (with_seen k A (a_meaning.Value t) opened bs new))
       by true q = has_target t (a_meaning.Value t) new h q none (alike found (breaking.Breaks k bs d) TargetBreaks new (λ f b. inl b) from clean) refl
         where
@@ -114,6 +100,7 @@ module _ (k : Knows) (A : IsAccepted k) (bs : List Binding) (B : AreBound k bs) 
           none f (inl b) = never k A bs B d W X t h f b
           none f (inr (inl x)) = not-both q (ap (λ (u : TypedForm). rule.is_target k d u) (one-target t x.0 h x.1) ∙ x.2)
           none f (inr (inr x)) = apart k A bs B d W X t x.0 h x.1
+
           from : (f : Fault) → TargetBreaks f → breaking.Breaks k bs d f
           from f c = absurd (none f c)
       by false q = no_target (fault NOT_ASSIGNABLE (place_of d)) (a_meaning.Value t) (with_fault (fault NOT_ASSIGNABLE (place_of d)) new) (inr (inl (t, h, q, refl)))
@@ -125,6 +112,7 @@ module _ (k : Knows) (A : IsAccepted k) (bs : List Binding) (B : AreBound k bs) 
           to : (f : Fault) → breaking.Breaks k bs d f ⊎ (f ≡ fault NOT_ASSIGNABLE (place_of d)) → TargetBreaks f
           to f (inl b) = inl b
           to f (inr x) = inr (inl (t, h, q, x))
+
           from : (f : Fault) → TargetBreaks f → breaking.Breaks k bs d f ⊎ (f ≡ fault NOT_ASSIGNABLE (place_of d))
           from f (inl b) = inl b
           from f (inr (inl x)) = inr x.3
@@ -139,6 +127,7 @@ module _ (k : Knows) (A : IsAccepted k) (bs : List Binding) (B : AreBound k bs) 
       to : (f : Fault) → breaking.Breaks k bs d f ⊎ (f ≡ fault NOT_ASSIGNABLE (place_of d)) → TargetBreaks f
       to f (inl b) = inl b
       to f (inr x) = inr (inr (name, g, x))
+
       from : (f : Fault) → TargetBreaks f → breaking.Breaks k bs d f ⊎ (f ≡ fault NOT_ASSIGNABLE (place_of d))
       from f (inl b) = inl b
       from f (inr (inl x)) = inr x.3
@@ -365,6 +354,7 @@ module _ (k : Knows) (A : IsAccepted k) (bs : List Binding) (B : AreBound k bs) 
               let same : result ≡ x.2 = cc in
               x.8 (subst (λ (t : TypedForm). IsBelow k x.2 (type_of t)) (one-target u x.0 hu x.4) (subst (λ (t : Ty). IsBelow k t (type_of u)) same
               (D.told result (type_of u) (call-type k A set types result widened (D.has_call set types result widened T z)) (target-type u hu) b)))
+
           back : (f : Fault) → FormBreaks k bs e f → P f
           back f c = elim (own-of f c) [ inl x ↦ x | inr x ↦ absurd (contra f x) ]
       by-below result widened z false b = refused-so k A bs e found new P _ i to MISMATCH (place_of d)
@@ -374,9 +364,11 @@ module _ (k : Knows) (A : IsAccepted k) (bs : List Binding) (B : AreBound k bs) 
         where
           isnt : IsBelow k result (type_of u) → ⊥
           isnt h = let y : true ≡ false = sym (D.below result (type_of u) (call-type k A set types result widened (D.has_call set types result widened T z)) (target-type u hu) h) ∙ b in absurd cc
+
           own_is : (f : Fault) → NoSum k bs d v o f ⊎ UnlikeSum k bs d v o f → f ≡ fault MISMATCH (place_of d)
           own_is f (inl x) = let y : a_call.Result result widened ≡ a_call.Refused x.2 = sym z ∙ no-sum f x in absurd cc
           own_is f (inr x) = x.9
+
           back : (f : Fault) → FormBreaks k bs e f → P f ⊎ (f ≡ fault MISMATCH (place_of d))
           back f c = elim (own-of f c) [ inl x ↦ inl x | inr x ↦ inr (own_is f x) ]
 
@@ -388,6 +380,7 @@ module _ (k : Knows) (A : IsAccepted k) (bs : List Binding) (B : AreBound k bs) 
           own_is : (f : Fault) → NoSum k bs d v o f ⊎ UnlikeSum k bs d v o f → f ≡ fault r1 (place_of d)
           own_is f (inl x) = let y : a_call.Refused x.2 ≡ a_call.Refused r1 = sym (no-sum f x) ∙ z in let s : x.2 ≡ r1 = cc in x.7 ∙ ap (λ (c : Rule). fault c (place_of d)) s
           own_is f (inr x) = let y : a_call.Refused r1 ≡ a_call.Result x.2 x.3 = sym z ∙ unlike-sum f x in absurd cc
+
           back : (f : Fault) → FormBreaks k bs e f → P f ⊎ (f ≡ fault r1 (place_of d))
           back f c = elim (own-of f c) [ inl x ↦ inl x | inr x ↦ inr (own_is f x) ]
 

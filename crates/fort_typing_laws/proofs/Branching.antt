@@ -1,6 +1,5 @@
 -- What an `if` answers is exact where its parts are.
-use Rattle.std.proofs.Common.{◌≡◌, ◌⊎◌, inl, inr, ℕ, Bool, true, false, cond, List, [], ◌∷◌, ◌++◌, map, Option, Some, None, refl, ap, ◌∙◌, sym, subst}
-use Rattle.std.specs.Prelude.{option_map}
+use Rattle.std.proofs.Common.{◌≡◌, ◌⊎◌, inl, inr, true, cond, List, [], ◌∷◌, ◌++◌, map, Option, Some, None, refl, ap, ◌∙◌, sym, subst}
 use Rattle.std.specs.List.{AllByRecursion}
 use Rattle.fort_base.specs.declared.refusal.Place.{Place}
 use Rattle.fort_base.specs.declared.rules.TheConstants.{MISMATCH}
@@ -14,30 +13,29 @@ use Rattle.fort_typed_form.specs.declared.typed_form.TypedForm.TheVariants as a_
 use Rattle.fort_known.specs.declared.fault.Fault.{Fault}
 use Rattle.fort_known.specs.Known.{Knows}
 use Rattle.fort_typing_rules.specs.Calls.{Calls}
-use Rattle.fort_typing_rules.specs.Types.{unit, type_of, types_of, fault, IsWidest, HasNoWidest}
+use Rattle.fort_typing_rules.specs.Types.{unit, type_of, types_of, fault, HasNoWidest}
 use Rattle.fort_typing_rules.specs.Typing as rule
 use Rattle.fort_typing_rules.specs.Breaking as breaking
 use Rattle.fort_judge.specs.declared.frame.Want.{Want}
 use Rattle.fort_judge.specs.declared.frame.Want.TheVariants as a_want
 use Rattle.fort_judge.specs.declared.frame.Slot.TheVariants as a_slot
 use Rattle.fort_judge.specs.declared.frame.Frame.{Frame}
-use Rattle.fort_judge.specs.declared.frame.Outcome.{Outcome}
 use Rattle.fort_judge.specs.Tests.{value, untyped, widest}
 use Rattle.fort_judge.specs.Parts.{Arm, State, begin, opened, is_broken, kept, ask, arms}
-use Rattle.fort_judge.specs.Closing.{close_at, by_widest, if_answer}
-use Rattle.fort_judge.specs.Judging.{inside, if_parts, judged, judged_branch}
+use Rattle.fort_judge.specs.Closing.{by_widest, if_answer}
+use Rattle.fort_judge.specs.Judging.{inside, judged, judged_branch}
 use Rattle.fort_judge.proofs.Levels.{arm-is}
 use Rattle.fort_typing_laws.specs.Deciding.{IsType, AreTypes, IsAccepted}
 use Rattle.fort_typing_laws.specs.Written.{IsWritten, AreBound}
 use Rattle.fort_typing_laws.specs.Exact.{IsFirst, FormBreaks, Answers, IsExactExpression, AreExact}
 use Rattle.fort_typing_laws.proofs.Types.{all_join}
-use Rattle.fort_typing_laws.proofs.Written.{AllWritten, BranchWritten, tests-of, values-of}
+use Rattle.fort_typing_laws.proofs.Written.{BranchWritten, tests-of, values-of}
 use Rattle.fort_typing_laws.proofs.Typed.{all-types, typed-each, typed-as}
 use Rattle.fort_typing_laws.proofs.Wide.{widest_is_computed, widest_told, none_told}
 use Rattle.fort_typing_laws.proofs.Answered.{Same, value_, unit_, truth_, st, mapped, at, nothing_behind, one_behind}
 use Rattle.fort_typing_laws.proofs.Asking.{Asked, kept_there, lacking, ask-exact, some-of, none-breaks, each-never, one-each, as-never, one-as}
 use Rattle.fort_typing_laws.proofs.Firsts.{no_more, alike, both}
-use Rattle.fort_typing_laws.proofs.Views.{BreaksAt, IfBreaks, NoWidestIf}
+use Rattle.fort_typing_laws.proofs.Views.{BreaksAt, NoWidestIf}
 use Rattle.fort_typing_laws.proofs.Steps.{typed-so, broken-so, refused-so, of-layer, only-left}
 
 module _ (k : Knows) (A : IsAccepted k) (bs : List Binding) (B : AreBound k bs) where
@@ -92,16 +90,20 @@ module _ (k : Knows) (A : IsAccepted k) (bs : List Binding) (B : AreBound k bs) 
       where
         second : State → State
         second s = ask k.facts a_slot.Second w (judged k.facts (rule.value_of b)) s
+
         joined : (mid new : Option Fault) → IsFirst found (breaking.BreaksAs k bs rule.a_truth (rule.test_of b)) mid → IsFirst mid (breaking.BreaksAs k bs want (rule.value_of b)) new → IsFirst found (EitherOne b) new
         joined mid new i j = both found mid new (breaking.BreaksAs k bs rule.a_truth (rule.test_of b)) (breaking.BreaksAs k bs want (rule.value_of b)) i j
+
         after_kept : (t : TypedForm) (mid : Option Fault) (s : State) → rule.HasAs k (Calls k) bs rule.a_truth (rule.test_of b) t → IsFirst found (breaking.BreaksAs k bs rule.a_truth (rule.test_of b)) mid
             → Asked k A bs B (rule.value_of b) W.1 Y want a_slot.Second (kept a_slot.First t wf) mid s → OneArm b wf found s
         after_kept t mid s h i (kept_there v new g j e) = kept_arm t v new h g (joined mid new i j) e
         after_kept t mid s h i (lacking f new c j e) = arm_lacking f new (is_broken (kept a_slot.First t wf)) (inr c) (joined mid new i j) e refl
+
         after_lacking : (g : Fault) (mid : Option Fault) (s : State) → breaking.BreaksAs k bs rule.a_truth (rule.test_of b) g → IsFirst found (breaking.BreaksAs k bs rule.a_truth (rule.test_of b)) mid
             → Asked k A bs B (rule.value_of b) W.1 Y want a_slot.Second (is_broken wf) mid s → OneArm b wf found s
         after_lacking g mid s c i (kept_there v new h j e) = arm_lacking g new (kept a_slot.Second v (is_broken wf)) (inl c) (joined mid new i j) e refl
         after_lacking g mid s c i (lacking f new d j e) = arm_lacking g new (is_broken (is_broken wf)) (inl c) (joined mid new i j) e refl
+
         by : Asked k A bs B (rule.test_of b) W.0 X rule.a_truth a_slot.First wf found (ask k.facts a_slot.First a_want.Truth (judged k.facts (rule.test_of b)) (st wf bs found))
             → OneArm b wf found (second (ask k.facts a_slot.First a_want.Truth (judged k.facts (rule.test_of b)) (st wf bs found)))
         by (kept_there t mid h i e) = subst (λ (s : State). OneArm b wf found (second s)) (sym e)
@@ -136,8 +138,10 @@ module _ (k : Knows) (A : IsAccepted k) (bs : List Binding) (B : AreBound k bs) 
       where
         rest : State → State
         rest s = arms k.facts w (map (judged_branch k.facts) more) s
+
         both_asked : State
         both_asked = ask k.facts a_slot.Second w (judged k.facts (rule.value_of b)) (ask k.facts a_slot.First a_want.Truth (judged k.facts (rule.test_of b)) (st wf bs found))
+
         by : ((x : Frame) (mid : Option Fault) → AskedArms more x mid (arms k.facts w (map (judged_branch k.facts) more) (st x bs mid))) → OneArm b wf found both_asked → AskedArms (b ∷ more) wf found (rest both_asked)
         by others (kept_arm t v mid h g i e) = subst (λ (s : State). AskedArms (b ∷ more) wf found (rest s)) (sym e)
             (after-arm b more wf found mid t v _ h g i (others (record wf { first = wf.first ++ t ∷ []; second = wf.second ++ v ∷ [] }) mid))
@@ -153,11 +157,14 @@ module _ (k : Knows) (A : IsAccepted k) (bs : List Binding) (B : AreBound k bs) 
       where
         Parts : Fault → Type 0
         Parts f = Either (rule.below unit) a_want.Unit unit_ branches f
+
         to : (f : Fault) → Parts f → FormBreaks k bs e f
         to f (inl b) = inl (breaking.in_if_test p branches None is b)
         to f (inr b) = inl (breaking.in_if_alone p branches is b)
+
         from : (f : Fault) → FormBreaks k bs e f → Parts f
         from f b = only-left k A (of-layer k A bs e f is b)
+
         by : AskedArms (rule.below unit) a_want.Unit unit_ branches opened found (arms k.facts a_want.Unit (map (judged_branch k.facts) branches) (st opened bs found)) → Answers k bs e found ((judged k.facts e).answer bs found)
         by (kept_arms ts vs new hs gs i q) = typed-so k A bs e found new Parts _ i to (a_typed.If unit ts vs None) (rule.if_alone p branches ts vs is hs gs refl) from
             (at k A e bs found (st (record opened { first = ts; second = vs }) bs new) is q refl)
@@ -203,14 +210,19 @@ module _ (k : Knows) (A : IsAccepted k) (bs : List Binding) (B : AreBound k bs) 
         where
           goal : Type 0
           goal = Answers k bs e found ((judged k.facts e).answer bs found)
+
           last_ : State → State
           last_ s = ask k.facts a_slot.Last a_want.Value (judged k.facts d) s
+
           joined : (mid new : Option Fault) → IsFirst found (Either rule.a_value a_want.Value value_ branches) mid → IsFirst mid (breaking.BreaksAs k bs rule.a_value d) new → IsFirst found AllParts new
           joined mid new i j = both found mid new (Either rule.a_value a_want.Value value_ branches) (breaking.BreaksAs k bs rule.a_value d) i j
+
           broken_close : (x : Frame) (new : Option Fault) → x.broken ≡ true → cond x.broken (untyped new) (if_answer k.facts p (Some (judged k.facts d)) x new) ≡ untyped new
           broken_close x new br = ap (λ c. cond c (untyped new) (if_answer k.facts p (Some (judged k.facts d)) x new)) br
+
           lacks : (s : State) (x : Frame) (new : Option Fault) (f : Fault) → inside k.facts (mapped k A (Form-F.If p branches (Some d))) (begin bs found) ≡ st x bs new → x.broken ≡ true → AllParts f → IsFirst found AllParts new → goal
           lacks s x new f q br b i = broken-so k A bs e found new AllParts _ i (if-to is) f b (parts-only is f b) (at k A e bs found (st x bs new) is q (broken_close x new br))
+
           widely : (ts vs : List TypedForm) (u : TypedForm) (new : Option Fault) → rule.HasEach k (Calls k) bs rule.a_truth (map rule.test_of branches) ts → rule.HasEach k (Calls k) bs rule.a_value (map rule.value_of branches) vs
               → rule.HasAs k (Calls k) bs rule.a_value d u → IsFirst found AllParts new
               → (judged k.facts e).answer bs found ≡ by_widest p (widest k.facts (types_of vs ++ type_of u ∷ [])) new (λ ty. a_typed.If ty ts vs (Some u))
@@ -221,6 +233,7 @@ module _ (k : Knows) (A : IsAccepted k) (bs : List Binding) (B : AreBound k bs) 
             where
               T : AreTypes k (types_of vs ++ type_of u ∷ [])
               T = all_join (IsType k) (types_of vs) (type_of u ∷ []) (all-types k A vs (typed-each k A gs B (values-of k branches W))) ((typed-as k A h B V).0, tt)
+
               from : (f : Fault) → FormBreaks k bs e f → AllParts f
               from f b = pick (if-from is f b)
                 where
@@ -230,7 +243,7 @@ module _ (k : Knows) (A : IsAccepted k) (bs : List Binding) (B : AreBound k bs) 
                       let ev = one-each k A bs B rule.a_value a_want.Value a_slot.First value_ (map rule.value_of branches) vs n.1 (values-of k branches W) Y gs n.4 in
                       let eu = one-as k A bs B d V Z rule.a_value u n.2 h n.5 in
                       let nw : HasNoWidest k (types_of vs ++ type_of u ∷ []) = subst (λ (y : TypedForm). HasNoWidest k (types_of vs ++ type_of y ∷ [])) (sym eu)
-                          (subst (λ (ys : List TypedForm). HasNoWidest k (types_of ys ++ type_of n.2 ∷ [])) (sym ev) n.6) in
+                      (subst (λ (ys : List TypedForm). HasNoWidest k (types_of ys ++ type_of n.2 ∷ [])) (sym ev) n.6) in
                       absurd (let z : Some ty ≡ None = sym wide ∙ widest_is_computed.none k A _ T nw in cc)
           widely ts vs u new hs gs h i q None wide =
               refused-so k A bs e found new AllParts _ i (if-to is) MISMATCH p (inl (breaking.no_widest_if p branches d ts vs u is hs gs h (none_told k A _ T wide) refl)) from
@@ -238,22 +251,26 @@ module _ (k : Knows) (A : IsAccepted k) (bs : List Binding) (B : AreBound k bs) 
             where
               T : AreTypes k (types_of vs ++ type_of u ∷ [])
               T = all_join (IsType k) (types_of vs) (type_of u ∷ []) (all-types k A vs (typed-each k A gs B (values-of k branches W))) ((typed-as k A h B V).0, tt)
+
               from : (f : Fault) → FormBreaks k bs e f → AllParts f ⊎ (f ≡ fault MISMATCH p)
               from f b = pick (if-from is f b)
                 where
                   pick : AllParts f ⊎ NoWidestIf k bs p branches d f → AllParts f ⊎ (f ≡ fault MISMATCH p)
                   pick (inl x) = inl x
                   pick (inr n) = inr n.7
+
           after : (ts vs : List TypedForm) (mid : Option Fault) → rule.HasEach k (Calls k) bs rule.a_truth (map rule.test_of branches) ts → rule.HasEach k (Calls k) bs rule.a_value (map rule.value_of branches) vs
               → IsFirst found (Either rule.a_value a_want.Value value_ branches) mid → arms k.facts a_want.Value (map (judged_branch k.facts) branches) (st opened bs found) ≡ st (record opened { first = ts; second = vs }) bs mid
               → Asked k A bs B d V Z rule.a_value a_slot.Last (record opened { first = ts; second = vs }) mid (last_ (st (record opened { first = ts; second = vs }) bs mid)) → goal
           after ts vs mid hs gs i q (kept_there u new h j r) = widely ts vs u new hs gs h (joined mid new i j)
               (at k A e bs found (st (record opened { first = ts; second = vs; last = Some u }) bs new) is (ap last_ q ∙ r) refl) (widest k.facts (types_of vs ++ type_of u ∷ [])) refl
           after ts vs mid hs gs i q (lacking f new b j r) = lacks (st opened bs found) (is_broken (record opened { first = ts; second = vs })) new f (ap last_ q ∙ r) refl (inr b) (joined mid new i j)
+
           after_lacking : (x : Frame) (f : Fault) (mid : Option Fault) → Either rule.a_value a_want.Value value_ branches f → IsFirst found (Either rule.a_value a_want.Value value_ branches) mid
               → arms k.facts a_want.Value (map (judged_branch k.facts) branches) (st opened bs found) ≡ st x bs mid → x.broken ≡ true → Asked k A bs B d V Z rule.a_value a_slot.Last x mid (last_ (st x bs mid)) → goal
           after_lacking x f mid b i q br (kept_there u new h j r) = lacks (st opened bs found) (kept a_slot.Last u x) new f (ap last_ q ∙ r) br (inl b) (joined mid new i j)
           after_lacking x f mid b i q br (lacking g new c j r) = lacks (st opened bs found) (is_broken x) new f (ap last_ q ∙ r) refl (inl b) (joined mid new i j)
+
           by : AskedArms rule.a_value a_want.Value value_ branches opened found (arms k.facts a_want.Value (map (judged_branch k.facts) branches) (st opened bs found)) → goal
           by (kept_arms ts vs mid hs gs i q) = after ts vs mid hs gs i q (ask-exact k A bs B d V Z rule.a_value a_want.Value a_slot.Last (record opened { first = ts; second = vs }) mid value_)
           by (arms_lacking f mid x b i q br) = after_lacking x f mid b i q br (ask-exact k A bs B d V Z rule.a_value a_want.Value a_slot.Last x mid value_)

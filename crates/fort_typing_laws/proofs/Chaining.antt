@@ -1,61 +1,42 @@
 -- What a chain of relations answers is exact where its sides are.
-use Rattle.std.proofs.Common.{◌≡◌, ◌⊎◌, inl, inr, ℕ, Bool, true, false, cond, not, List, [], ◌∷◌, ◌++◌, map, length, Option, Some, None, refl, arith, ap, ◌∙◌, sym, subst}
-use Rattle.std.specs.Prelude.{option_map}
-use Rattle.std.specs.List.{AllByRecursion}
-use Rattle.fort_base.specs.declared.ids.NameId.{NameId}
-use Rattle.fort_base.specs.declared.ids.SetId.{SetId}
+use Rattle.std.proofs.Common.{◌≡◌, ◌⊎◌, inl, inr, Bool, true, false, cond, List, [], ◌∷◌, ◌++◌, map, length, Option, Some, None, refl, arith, ap, ◌∙◌, sym, subst}
 use Rattle.fort_base.specs.declared.refusal.Place.{Place}
-use Rattle.fort_base.specs.declared.refusal.Rule.{Rule}
-use Rattle.fort_base.specs.declared.rules.TheConstants.{SHADOWS, MISMATCH, NOT_AN_EXCEPTION}
+use Rattle.fort_base.specs.declared.rules.TheConstants.{MISMATCH}
 use Rattle.fort_base.specs.declared.ty.Ty.{Ty}
 use Rattle.fort_ops.specs.declared.op.Op.{Op}
 use Rattle.fort_ops.specs.declared.op.Op.TheVariants as an_op
 use Rattle.fort_scope.specs.declared.binding.Binding.{Binding}
 use Rattle.fort_form.specs.declared.form.Form.{Form, out-Form}
 use Rattle.fort_form.specs.declared.form.Form.TheOpen.{Form-F}
-use Rattle.fort_form.specs.declared.form.Branch.{Branch}
-use Rattle.fort_form.specs.declared.form.TypeBranch.{TypeBranch, out-TypeBranch}
 use Rattle.fort_typed_form.specs.declared.typed_form.Chosen.{Chosen}
 use Rattle.fort_typed_form.specs.declared.typed_form.TypedForm.{TypedForm}
 use Rattle.fort_typed_form.specs.declared.typed_form.TypedForm.TheVariants as a_typed
 use Rattle.fort_known.specs.declared.fault.Fault.{Fault}
 use Rattle.fort_known.specs.Known.{Knows}
-use Rattle.fort_known.specs.Below.{is_below}
-use Rattle.fort_known.specs.Names.{is_visible}
 use Rattle.fort_known.specs.Sets.{operator_set}
-use Rattle.fort_called.specs.Called.{called}
-use Rattle.fort_called.specs.declared.called.Called.{Called}
-use Rattle.fort_called.specs.declared.called.Called.TheVariants as a_call
 use Rattle.fort_typing_rules.specs.Calls.{Calls, CallBreaks}
-use Rattle.fort_typing_rules.specs.Types.{exception, boolean, unit, type_of, types_of, place_of, fault, IsBelow, IsWidest, HasNoWidest}
+use Rattle.fort_typing_rules.specs.Types.{boolean, type_of, place_of, fault, IsBelow}
 use Rattle.fort_typing_rules.specs.Elements.{chosen}
 use Rattle.fort_typing_rules.specs.Typing as rule
 use Rattle.fort_typing_rules.specs.Breaking as breaking
-use Rattle.fort_judge.specs.declared.frame.Want.{Want}
 use Rattle.fort_judge.specs.declared.frame.Want.TheVariants as a_want
-use Rattle.fort_judge.specs.declared.frame.Slot.{Slot}
 use Rattle.fort_judge.specs.declared.frame.Slot.TheVariants as a_slot
 use Rattle.fort_judge.specs.declared.frame.Frame.{Frame}
 use Rattle.fort_judge.specs.declared.frame.Side.{Side}
 use Rattle.fort_judge.specs.declared.frame.Valued.{Valued}
-use Rattle.fort_judge.specs.Faults.{with_fault, breaks}
-use Rattle.fort_judge.specs.Tests.{value, untyped, widest, taken}
-use Rattle.fort_judge.specs.Parts.{Judge, Arm, Clause, State, begin, opened, is_broken, kept, kept_if, said, compared_by, compared, side_type, side_place, side_of, after_side, take_side, sides, take_subject, take_test, clauses, ask, ask_if, ask_with, unless_lost, back_to, watch, catches, cases, lost_if_broken, head_type, else_with}
-use Rattle.fort_judge.specs.Closing.{close_at}
-use Rattle.fort_judge.specs.Judging.{inside, judged}
-use Rattle.fort_typing_laws.specs.Deciding.{IsType, AreTypes, IsAccepted, Decides}
+use Rattle.fort_judge.specs.Tests.{value, untyped, taken}
+use Rattle.fort_judge.specs.Parts.{State, opened, is_broken, kept, kept_if, said, compared, side_type, side_place, side_of, after_side, take_side}
+use Rattle.fort_judge.specs.Judging.{judged}
+use Rattle.fort_typing_laws.specs.Deciding.{IsAccepted}
 use Rattle.fort_typing_laws.specs.Written.{IsWritten, AreBound}
-use Rattle.fort_typing_laws.specs.Exact.{IsFirst, FormBreaks, Answers, IsExactExpression, AreExact, MayBeExact}
-use Rattle.fort_typing_laws.proofs.Types.{all_join, built_in_type, unit_type}
-use Rattle.fort_typing_laws.proofs.Deciding.{is_decided}
+use Rattle.fort_typing_laws.specs.Exact.{IsFirst, FormBreaks, Answers, IsExactExpression, AreExact}
 use Rattle.fort_typing_laws.proofs.Written.{AllWritten}
 use Rattle.fort_typing_laws.proofs.Typed.{typed-as}
-use Rattle.fort_typing_laws.proofs.Answered.{operand_, st, mapped, at, sides_of, first-side, next-side, no-side, nothing_behind, one_behind}
-use Rattle.fort_typing_laws.proofs.Asking.{place-is, ValuedAs, got, missed, taken-is, AskedAll, some-of, none-breaks, each-never, one-each, Asked, kept_there, lacking, ask-exact, as-never, one-as}
-use Rattle.fort_typing_laws.proofs.Firsts.{no_more, alike, one_more, both}
+use Rattle.fort_typing_laws.proofs.Answered.{operand_, st, at, sides_of, first-side, next-side, no-side, nothing_behind, one_behind}
+use Rattle.fort_typing_laws.proofs.Asking.{place-is, ValuedAs, got, missed, taken-is, some-of, none-breaks, as-never, one-as}
+use Rattle.fort_typing_laws.proofs.Firsts.{no_more, alike, both}
 use Rattle.fort_typing_laws.proofs.Views.{BreaksAt}
-use Rattle.fort_typing_laws.proofs.Steps.{typed-so, broken-so, refused-so, of-layer, only-left}
-use Rattle.fort_typing_laws.proofs.Scopes.{not-both, some-not-none, lost_frame, Shadow, Watched, is_free, is_taken, watch-exact}
+use Rattle.fort_typing_laws.proofs.Steps.{typed-so, broken-so, of-layer, only-left}
 use Rattle.fort_typing_laws.proofs.Comparing.{set_for, ComparisonBreaks, Compared, is_compared, not_compared, compared-exact, then-went, went-as, Subjected, typed_subject, lost_subject}
 use Rattle.fort_typing_laws.proofs.Trying.{Far, fine, foul, Went, well, ill, still, go}
 
@@ -170,8 +151,13 @@ module _ (k : Knows) (A : IsAccepted k) (bs : List Binding) (B : AreBound k bs) 
       inl (inr (u, v, subst (λ (z : Form). Is z u) qa hu, subst (λ (z : Form). Is z v) qb hv, inl (r, subst (λ (z : Op). CallBreaks k (operator_set k.facts z 2) (type_of u ∷ type_of v ∷ []) r) qo x, subst (λ (z : Form). f ≡ fault r (place_of z)) qa w)))
   chain-of op others c d rest W X E F f (inr (breaking.no_truth o os a b more u v result widened e1 e2 hu hv x n w)) =
       let qo : o ≡ op = cc in let qa : a ≡ c = cc in let qb : b ≡ d = cc in
-      inl (inr (u, v, subst (λ (z : Form). Is z u) qa hu, subst (λ (z : Form). Is z v) qb hv,
-      inr (result, widened, subst (λ (z : Op). Calls k (operator_set k.facts z 2) (type_of u ∷ type_of v ∷ []) result widened) qo x, n, subst (λ (z : Form). f ≡ fault MISMATCH (place_of z)) qa w)))
+      inl (inr (
+        u,
+        v,
+        subst (λ (z : Form). Is z u) qa hu,
+        subst (λ (z : Form). Is z v) qb hv,
+        inr (result, widened, subst (λ (z : Op). Calls k (operator_set k.facts z 2) (type_of u ∷ type_of v ∷ []) result widened) qo x, n, subst (λ (z : Form). f ≡ fault MISMATCH (place_of z)) qa w),
+      ))
   chain-of op others c d rest W X E F f (inr (breaking.next_comparison o os a more e1 e2 x)) =
       let qo : os ≡ others = cc in let qm : more ≡ d ∷ rest = cc in
       inr (inr (subst (λ (zs : List Op). breaking.ChainBreaks k bs zs (d ∷ rest) f) qo (subst (λ (zs : List Form). breaking.ChainBreaks k bs os zs f) qm x)))
@@ -198,17 +184,22 @@ module _ (k : Knows) (A : IsAccepted k) (bs : List Binding) (B : AreBound k bs) 
   chain-went (op ∷ others) (d ∷ rest) l V Z c W X y mid S =
       let one = side-went op c d W X V.0 Z.0 y mid S in
       let two = then-went k A bs mid (SideBreaks op c d W X V.0 Z.0) (ChainRest others d rest) (Subjected k A bs B d V.0 Z.0) (λ z. Unit {0}) (SideGood op c d W X V.0 Z.0 y) (ChainGood others d rest)
-          (sides_of k A others (map (judged k.facts) rest)) (chain-went others rest (omega arith) V.1 Z.1 d V.0 Z.0) y _ one in
+      (sides_of k A others (map (judged k.facts) rest)) (chain-went others rest (omega arith) V.1 Z.1 d V.0 Z.0) y _ one in
       subst (Went k A bs mid (ChainRest (op ∷ others) c (d ∷ rest)) (λ z. Unit {0}) (ChainGood (op ∷ others) c (d ∷ rest) y) y) (sym (next-side k A op others d (map (judged k.facts) rest) (st y bs mid)))
       (went-as k A bs mid _ (ChainRest (op ∷ others) c (d ∷ rest)) (λ z. Unit {0}) _ (ChainGood (op ∷ others) c (d ∷ rest) y) y _ (chain-made op others c d rest W X V.0 Z.0) (chain-of op others c d rest W X V.0 Z.0) good two)
     where
       good : (z : Frame) → ((x : Frame) × SideGood op c d W X V.0 Z.0 y x × ChainGood others d rest x z) → ChainGood (op ∷ others) c (d ∷ rest) y z
       good z (x, (u, v, result, widened, hu, e, hv, cl, bl, q1), (v2, us, cs, hv2, hs, cmp, f1, f2)) =
-          let same : v2 ≡ v = one-right op c d W X V.0 Z.0 v2 v hv2 hv in
-          (u, v ∷ us, chosen (set_for k A op) widened ∷ cs, hu, rule.part_ d rest v us refl refl hv hs,
-          rule.more op others u v us result widened cs refl refl cl bl (subst (λ (t : TypedForm). rule.Compares k (Calls k) others (t ∷ us) cs) same cmp) refl,
-          f1 ∙ ap (λ (f : Frame). f.first ++ us) q1 ∙ one_behind y.first us v,
-          f2 ∙ ap (λ (f : Frame). f.calls ++ cs) q1 ∙ one_behind y.calls cs (chosen (set_for k A op) widened))
+          let same : v2 ≡ v = one-right op c d W X V.0 Z.0 v2 v hv2 hv in (
+            u,
+            v ∷ us,
+            chosen (set_for k A op) widened ∷ cs,
+            hu,
+            rule.part_ d rest v us refl refl hv hs,
+            rule.more op others u v us result widened cs refl refl cl bl (subst (λ (t : TypedForm). rule.Compares k (Calls k) others (t ∷ us) cs) same cmp) refl,
+            f1 ∙ ap (λ (f : Frame). f.first ++ us) q1 ∙ one_behind y.first us v,
+            f2 ∙ ap (λ (f : Frame). f.calls ++ cs) q1 ∙ one_behind y.calls cs (chosen (set_for k A op) widened),
+          )
 
   -- ---- a whole chain
 
@@ -273,6 +264,7 @@ module _ (k : Knows) (A : IsAccepted k) (bs : List Binding) (B : AreBound k bs) 
         some : breaking.BreaksAs k bs rule.an_operand c f ⊎ breaking.BreaksSome k bs rule.an_operand ds f → P2 f
         some (inl x) = inl (inr x)
         some (inr x) = inr (inl x)
+
         by : BreaksAt k bs (Form-F.Chain p ops (c ∷ ds)) f → P2 f
         by (inl x) = some (some-of k A bs rule.an_operand c ds f x)
         by (inr x) = inr (inr x)
@@ -289,8 +281,10 @@ module _ (k : Knows) (A : IsAccepted k) (bs : List Binding) (B : AreBound k bs) 
       where
         same : v ≡ u
         same = one-as k A bs B c W X rule.an_operand v u hv hu
+
         firsts_are : z.first ≡ u ∷ us
         firsts_are = f1 ∙ ap (λ (y : Frame). y.first ++ us) (q1 ∙ ap (λ (y : Frame). record (kept a_slot.First v y) { side = side c v }) q0) ∙ ap (λ (t : TypedForm). t ∷ us) same
+
         calls_are : z.calls ≡ cs
         calls_are = f2 ∙ ap (λ (y : Frame). y.calls ++ cs) (q1 ∙ ap (λ (y : Frame). record (kept a_slot.First v y) { side = side c v }) q0)
 

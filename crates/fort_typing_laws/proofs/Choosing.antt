@@ -1,58 +1,40 @@
 -- What a `case`, a `typecase`, a `try` and an assignment answer is exact where their parts are.
-use Rattle.std.proofs.Common.{◌≡◌, ◌⊎◌, inl, inr, ℕ, Bool, true, false, cond, List, [], ◌∷◌, ◌++◌, map, Option, Some, None, refl, arith, ap, ◌∙◌, sym, subst}
-use Rattle.std.specs.Prelude.{option_map}
+use Rattle.std.proofs.Common.{◌≡◌, ◌⊎◌, inl, inr, true, List, [], ◌∷◌, ◌++◌, map, Option, Some, None, refl, ap, ◌∙◌, sym, subst}
 use Rattle.std.specs.List.{AllByRecursion}
 use Rattle.fort_base.specs.declared.ids.NameId.{NameId}
 use Rattle.fort_base.specs.declared.refusal.Place.{Place}
-use Rattle.fort_base.specs.declared.refusal.Rule.{Rule}
-use Rattle.fort_base.specs.declared.rules.TheConstants.{SHADOWS, MISMATCH, NOT_AN_EXCEPTION}
+use Rattle.fort_base.specs.declared.rules.TheConstants.{MISMATCH}
 use Rattle.fort_base.specs.declared.ty.Ty.{Ty}
-use Rattle.fort_ops.specs.declared.op.Op.TheVariants as an_op
 use Rattle.fort_scope.specs.declared.binding.Binding.{Binding}
-use Rattle.fort_form.specs.declared.form.Form.{Form, out-Form}
-use Rattle.fort_form.specs.declared.form.Form.TheOpen.{Form-F}
-use Rattle.fort_form.specs.declared.form.Branch.{Branch}
+use Rattle.fort_form.specs.declared.form.Form.{Form}
 use Rattle.fort_form.specs.declared.form.TypeBranch.{TypeBranch, out-TypeBranch}
-use Rattle.fort_typed_form.specs.declared.typed_form.Chosen.{Chosen}
 use Rattle.fort_typed_form.specs.declared.typed_form.TypedForm.{TypedForm}
-use Rattle.fort_typed_form.specs.declared.typed_form.TypedForm.TheVariants as a_typed
 use Rattle.fort_known.specs.declared.fault.Fault.{Fault}
 use Rattle.fort_known.specs.Known.{Knows}
-use Rattle.fort_known.specs.Below.{is_below}
-use Rattle.fort_known.specs.Names.{is_visible}
-use Rattle.fort_known.specs.Sets.{operator_set}
-use Rattle.fort_called.specs.Called.{called}
-use Rattle.fort_called.specs.declared.called.Called.{Called}
-use Rattle.fort_called.specs.declared.called.Called.TheVariants as a_call
 use Rattle.fort_typing_rules.specs.Calls.{Calls}
-use Rattle.fort_typing_rules.specs.Types.{exception, boolean, unit, type_of, types_of, place_of, fault, IsBelow, IsWidest, HasNoWidest}
+use Rattle.fort_typing_rules.specs.Types.{fault, IsWidest, HasNoWidest}
 use Rattle.fort_typing_rules.specs.Typing as rule
 use Rattle.fort_typing_rules.specs.Breaking as breaking
-use Rattle.fort_judge.specs.declared.frame.Want.{Want}
 use Rattle.fort_judge.specs.declared.frame.Want.TheVariants as a_want
 use Rattle.fort_judge.specs.declared.frame.Slot.{Slot}
 use Rattle.fort_judge.specs.declared.frame.Slot.TheVariants as a_slot
 use Rattle.fort_judge.specs.declared.frame.Frame.{Frame}
-use Rattle.fort_judge.specs.Faults.{with_fault, breaks}
-use Rattle.fort_judge.specs.Tests.{value, untyped, widest}
-use Rattle.fort_judge.specs.Parts.{Judge, Clause, State, begin, opened, is_broken, kept, ask, ask_if, ask_with, unless_lost, back_to, watch, catches, cases, lost_if_broken, head_type, else_with}
-use Rattle.fort_judge.specs.Closing.{close_at, by_widest}
-use Rattle.fort_judge.specs.Judging.{inside, judged, judged_clause}
+use Rattle.fort_judge.specs.Tests.{widest}
+use Rattle.fort_judge.specs.Parts.{Clause, State, opened, is_broken, kept, ask, ask_with, back_to, cases}
+use Rattle.fort_judge.specs.Closing.{by_widest}
+use Rattle.fort_judge.specs.Judging.{judged, judged_clause}
 use Rattle.fort_judge.proofs.Levels.{clause-is}
-use Rattle.fort_typing_laws.specs.Deciding.{IsType, AreTypes, IsAccepted, Decides}
+use Rattle.fort_typing_laws.specs.Deciding.{IsType, AreTypes, IsAccepted}
 use Rattle.fort_typing_laws.specs.Written.{IsWritten, AreBound}
 use Rattle.fort_typing_laws.specs.Exact.{IsFirst, FormBreaks, Answers, IsExactExpression}
-use Rattle.fort_typing_laws.proofs.Types.{built_in_type, unit_type}
-use Rattle.fort_typing_laws.proofs.Deciding.{is_decided}
-use Rattle.fort_typing_laws.proofs.Written.{ClauseWritten, MayBeWritten}
-use Rattle.fort_typing_laws.proofs.Typed.{all-types, typed-as, clause-bound}
+use Rattle.fort_typing_laws.proofs.Written.{ClauseWritten}
+use Rattle.fort_typing_laws.proofs.Typed.{clause-bound}
 use Rattle.fort_typing_laws.proofs.Wide.{widest_is_computed, widest_told, none_told}
-use Rattle.fort_typing_laws.proofs.Answered.{Same, value_, unit_, st, mapped, at, at-level, mapped-typecase, mapped-try, clause-types, clause_goes, one_behind, nothing_behind, cases-answered}
-use Rattle.fort_typing_laws.proofs.Asking.{Asked, kept_there, lacking, ask-exact, as-never, one-as}
-use Rattle.fort_typing_laws.proofs.Firsts.{no_more, alike, one_more, both}
-use Rattle.fort_typing_laws.proofs.Views.{BreaksAt, ElseBreaks, FinallyBreaks}
-use Rattle.fort_typing_laws.proofs.Steps.{typed-so, broken-so, refused-so, of-layer, only-left}
-use Rattle.fort_typing_laws.proofs.Scopes.{not-both, some-not-none}
+use Rattle.fort_typing_laws.proofs.Answered.{value_, st, clause_goes, one_behind, nothing_behind, cases-answered}
+use Rattle.fort_typing_laws.proofs.Asking.{Asked, kept_there, lacking, ask-exact}
+use Rattle.fort_typing_laws.proofs.Firsts.{no_more, alike, both}
+use Rattle.fort_typing_laws.proofs.Steps.{typed-so, refused-so}
+use Rattle.fort_typing_laws.proofs.Scopes.{some-not-none}
 
 module _ (k : Knows) (A : IsAccepted k) where
   -- ---- the widest type of parts
@@ -96,6 +78,7 @@ module _ (k : Knows) (A : IsAccepted k) where
     where
       inner : State
       inner = ask k.facts slot a_want.Value (judged k.facts d) (st wf (rule.with_clause bs name ty) found)
+
       by : Asked k A (rule.with_clause bs name ty) (clause-bound k A bs name ty B T) d W X rule.a_value slot wf found (ask k.facts slot a_want.Value (judged k.facts d) (st wf (rule.with_clause bs name ty) found))
           → AskedWith bs name ty d slot wf found (back_to bs (ask k.facts slot a_want.Value (judged k.facts d) (st wf (rule.with_clause bs name ty) found)))
       by (kept_there t new h i e) = kept_with t new h i (ap (back_to bs) e ∙ ap (λ (cs : List Binding). st (kept slot t wf) cs new) (clause_goes k A bs name ty))
@@ -149,6 +132,7 @@ module _ (k : Knows) (A : IsAccepted k) where
       where
         one : State
         one = ask_with k.facts name (rule.clause_type b) a_slot.Second (judged k.facts (out-TypeBranch b).value) (st wf bs found)
+
         by : ((y : Frame) (mid : Option Fault) → Cased bs name more y mid (cases k.facts name (map (judged_clause k.facts) more) (st y bs mid)))
             → AskedWith bs name (rule.clause_type b) (out-TypeBranch b).value a_slot.Second wf found (ask_with k.facts name (rule.clause_type b) a_slot.Second (judged k.facts (out-TypeBranch b).value) (st wf bs found))
             → Cased bs name (b ∷ more) wf found (cases k.facts name (map (judged_clause k.facts) more) (ask_with k.facts name (rule.clause_type b) a_slot.Second (judged k.facts (out-TypeBranch b).value) (st wf bs found)))
@@ -164,6 +148,7 @@ module _ (k : Knows) (A : IsAccepted k) where
       where
         clean : (new : Option Fault) (y : Frame) → cases k.facts name (map (judged_clause k.facts) branches) (st opened bs None) ≡ st y bs new → new ≡ None
         clean new y e = ap (λ (s : State). s.found) (sym e ∙ cases-answered k A h B W opened None)
+
         by : Cased bs name branches opened None (cases k.facts name (map (judged_clause k.facts) branches) (st opened bs None)) → ⊥
         by (all_cased us new hs i e) = (i.none (clean new _ e)).1 f b
         by (one_lacking g new x c i e br l hd) = (i.none (clean new x e)).1 f b

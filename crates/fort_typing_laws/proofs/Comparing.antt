@@ -1,12 +1,11 @@
 -- Comparisons: what a `case` and a chain answer is exact where their parts are.
-use Rattle.std.proofs.Common.{◌≡◌, ◌⊎◌, inl, inr, ℕ, Bool, true, false, cond, not, List, [], ◌∷◌, ◌++◌, map, Option, Some, None, refl, arith, ap, ◌∙◌, sym, subst}
+use Rattle.std.proofs.Common.{◌≡◌, ◌⊎◌, inl, inr, Bool, true, false, cond, List, [], ◌∷◌, ◌++◌, map, Option, Some, None, refl, arith, ap, ◌∙◌, sym, subst}
 use Rattle.std.specs.Prelude.{option_map}
 use Rattle.std.specs.List.{AllByRecursion}
-use Rattle.fort_base.specs.declared.ids.NameId.{NameId}
 use Rattle.fort_base.specs.declared.ids.SetId.{SetId}
 use Rattle.fort_base.specs.declared.refusal.Place.{Place}
 use Rattle.fort_base.specs.declared.refusal.Rule.{Rule}
-use Rattle.fort_base.specs.declared.rules.TheConstants.{SHADOWS, MISMATCH, NOT_AN_EXCEPTION}
+use Rattle.fort_base.specs.declared.rules.TheConstants.{MISMATCH}
 use Rattle.fort_base.specs.declared.ty.Ty.{Ty}
 use Rattle.fort_ops.specs.declared.op.Op.{Op}
 use Rattle.fort_ops.specs.declared.op.Op.TheVariants as an_op
@@ -14,50 +13,44 @@ use Rattle.fort_scope.specs.declared.binding.Binding.{Binding}
 use Rattle.fort_form.specs.declared.form.Form.{Form, out-Form}
 use Rattle.fort_form.specs.declared.form.Form.TheOpen.{Form-F}
 use Rattle.fort_form.specs.declared.form.Branch.{Branch}
-use Rattle.fort_form.specs.declared.form.TypeBranch.{TypeBranch, out-TypeBranch}
 use Rattle.fort_typed_form.specs.declared.typed_form.Chosen.{Chosen}
 use Rattle.fort_typed_form.specs.declared.typed_form.TypedForm.{TypedForm}
 use Rattle.fort_typed_form.specs.declared.typed_form.TypedForm.TheVariants as a_typed
 use Rattle.fort_known.specs.declared.fault.Fault.{Fault}
 use Rattle.fort_known.specs.Known.{Knows}
 use Rattle.fort_known.specs.Below.{is_below}
-use Rattle.fort_known.specs.Names.{is_visible}
 use Rattle.fort_known.specs.Sets.{operator_set}
 use Rattle.fort_called.specs.Called.{called}
 use Rattle.fort_called.specs.declared.called.Called.{Called}
 use Rattle.fort_called.specs.declared.called.Called.TheVariants as a_call
 use Rattle.fort_typing_rules.specs.Calls.{Calls, CallBreaks}
-use Rattle.fort_typing_rules.specs.Types.{exception, boolean, unit, type_of, types_of, place_of, fault, IsBelow, IsWidest, HasNoWidest}
+use Rattle.fort_typing_rules.specs.Types.{boolean, type_of, types_of, place_of, fault, IsBelow, HasNoWidest}
 use Rattle.fort_typing_rules.specs.Elements.{chosen}
 use Rattle.fort_typing_rules.specs.Typing as rule
 use Rattle.fort_typing_rules.specs.Breaking as breaking
-use Rattle.fort_judge.specs.declared.frame.Want.{Want}
 use Rattle.fort_judge.specs.declared.frame.Want.TheVariants as a_want
-use Rattle.fort_judge.specs.declared.frame.Slot.{Slot}
 use Rattle.fort_judge.specs.declared.frame.Slot.TheVariants as a_slot
 use Rattle.fort_judge.specs.declared.frame.Frame.{Frame}
 use Rattle.fort_judge.specs.declared.frame.Side.{Side}
 use Rattle.fort_judge.specs.declared.frame.Valued.{Valued}
 use Rattle.fort_judge.specs.Faults.{with_fault, breaks}
-use Rattle.fort_judge.specs.Tests.{value, untyped, widest, taken}
-use Rattle.fort_judge.specs.Parts.{Judge, Arm, Clause, State, begin, opened, is_broken, kept, kept_if, said, compared_by, compared, side_type, side_place, side_of, after_side, take_side, sides, take_subject, take_test, clauses, ask, ask_if, ask_with, unless_lost, back_to, watch, catches, cases, lost_if_broken, head_type, else_with}
-use Rattle.fort_judge.specs.Closing.{close_at, by_widest, case_answer, unbroken, clause_type as close_clause_type}
-use Rattle.fort_judge.specs.Judging.{inside, judged, judged_clause, judged_branch}
-use Rattle.fort_judge.proofs.Levels.{arm-is, clause-is}
+use Rattle.fort_judge.specs.Tests.{untyped, widest, taken}
+use Rattle.fort_judge.specs.Parts.{Arm, State, opened, is_broken, kept, kept_if, said, compared_by, compared, side_type, side_of, take_subject, take_test, clauses, ask, ask_if}
+use Rattle.fort_judge.specs.Closing.{by_widest, case_answer}
+use Rattle.fort_judge.specs.Judging.{judged, judged_branch}
+use Rattle.fort_judge.proofs.Levels.{arm-is}
 use Rattle.fort_typing_laws.specs.Deciding.{IsType, AreTypes, IsAccepted, Decides}
 use Rattle.fort_typing_laws.specs.Written.{IsWritten, AreBound}
 use Rattle.fort_typing_laws.specs.Exact.{IsFirst, FormBreaks, Answers, IsExactExpression, AreExact, MayBeExact}
-use Rattle.fort_typing_laws.proofs.Types.{all_join, built_in_type, unit_type}
+use Rattle.fort_typing_laws.proofs.Types.{all_join, built_in_type}
 use Rattle.fort_typing_laws.proofs.Deciding.{is_decided}
-use Rattle.fort_typing_laws.proofs.Written.{AllWritten, BranchWritten, MayBeWritten}
+use Rattle.fort_typing_laws.proofs.Written.{BranchWritten, MayBeWritten}
 use Rattle.fort_typing_laws.proofs.Typed.{all-types, call-type, typed-as, typed-clauses, typed-else}
-use Rattle.fort_typing_laws.proofs.Wide.{widest_is_computed, widest_told, none_told}
-use Rattle.fort_typing_laws.proofs.Answered.{Same, value_, operand_, unit_, st, mapped, at, at-level, mapped-case,  clauses-answered, clause_goes, one_behind, nothing_behind, cases-answered}
-use Rattle.fort_typing_laws.proofs.Asking.{place-is, ValuedAs, got, missed, taken-is, AskedAll, some-of, none-breaks, each-never, one-each, Asked, kept_there, lacking, ask-exact, as-never, one-as}
+use Rattle.fort_typing_laws.proofs.Answered.{value_, operand_, st, at-level, mapped-case, clauses-answered, one_behind, nothing_behind}
+use Rattle.fort_typing_laws.proofs.Asking.{place-is, ValuedAs, got, missed, taken-is, as-never, one-as}
 use Rattle.fort_typing_laws.proofs.Firsts.{no_more, alike, one_more, both}
 use Rattle.fort_typing_laws.proofs.Views.{BreaksAt, ElseBreaks, NoWidestCase}
-use Rattle.fort_typing_laws.proofs.Steps.{typed-so, broken-so, refused-so, of-layer, only-left}
-use Rattle.fort_typing_laws.proofs.Scopes.{not-both, some-not-none, lost_frame, Shadow, Watched, is_free, is_taken, watch-exact}
+use Rattle.fort_typing_laws.proofs.Steps.{broken-so, of-layer, only-left}
 use Rattle.fort_typing_laws.proofs.Trying.{Far, fine, foul, Went, well, ill, still, go, ask-went, with_last, Behind, HasBehind, behind-went, behind-never}
 use Rattle.fort_typing_laws.proofs.Choosing.{widest-so}
 
@@ -122,8 +115,10 @@ module _ (k : Knows) (A : IsAccepted k) where
       where
         isnt : IsBelow k result boolean → ⊥
         isnt h = let z : true ≡ false = sym (D.below result boolean (call-type k A (set_for op) types result widened (D.has_call (set_for op) types result widened T q)) E h) ∙ b in absurd cc
+
         to : (f : Fault) → f ≡ fault MISMATCH p → ComparisonBreaks op u v p f
         to f e = inr (result, widened, D.has_call (set_for op) types result widened T q, isnt, e)
+
         from : (f : Fault) → ComparisonBreaks op u v p f → f ≡ fault MISMATCH p
         from f (inl x) = absurd (no-refusal result widened q f x)
         from f (inr x) = x.4
@@ -136,6 +131,7 @@ module _ (k : Knows) (A : IsAccepted k) where
       where
         to : (f : Fault) → f ≡ fault r p → ComparisonBreaks op u v p f
         to f e = inl (r, D.breaks_call (set_for op) types r T q, e)
+
         from : (f : Fault) → ComparisonBreaks op u v p f → f ≡ fault r p
         from f (inl x) = let z : a_call.Refused x.0 ≡ a_call.Refused r = sym (D.refuses (set_for op) types x.0 T x.1) ∙ q in let y : x.0 ≡ r = cc in x.2 ∙ ap (λ (s : Rule). fault s p) y
         from f (inr x) = absurd (no-result r q f x)
@@ -308,32 +304,46 @@ module _ (k : Knows) (A : IsAccepted k) where
     pub clauses-went : (branches : List Branch) → AllByRecursion (BranchWritten k) branches → AreExact k (map rule.test_of branches) → AreExact k (map rule.value_of branches) → (y : Frame) (mid : Option Fault) → Subjected y
         → Went k A bs mid (breaking.BreaksClauses k bs s branches) (λ z. Unit {0}) (ClauseGood branches y) y (clauses k.facts (map (judged_branch k.facts) branches) (st y bs mid))
     unfolding clauses
-    clauses-went [] V Y Z y mid (typed_subject u h e) = well y mid tt refl (u, [], [], [], h, e, rule.no_clause refl refl refl refl,
-        ap (λ (ts : List TypedForm). record y { first = ts }) (sym (nothing_behind y.first))
-        ∙ ap (λ (ts : List TypedForm). record y { first = y.first ++ []; second = ts }) (sym (nothing_behind y.second))
-        ∙ ap (λ (cs : List Chosen). record y { first = y.first ++ []; second = y.second ++ []; calls = cs }) (sym (nothing_behind y.calls)))
+    clauses-went [] V Y Z y mid (typed_subject u h e) = well y mid tt refl (
+      u,
+      [],
+      [],
+      [],
+      h,
+      e,
+      rule.no_clause refl refl refl refl,
+      ap (λ (ts : List TypedForm). record y { first = ts }) (sym (nothing_behind y.first))
+          ∙ ap (λ (ts : List TypedForm). record y { first = y.first ++ []; second = ts }) (sym (nothing_behind y.second))
+          ∙ ap (λ (cs : List Chosen). record y { first = y.first ++ []; second = y.second ++ []; calls = cs }) (sym (nothing_behind y.calls)),
+    )
         (no_more mid (breaking.BreaksClauses k bs s []) none-claused) refl
     clauses-went [] V Y Z y mid (lost_subject e br n) = still mid y tt br br (no_more mid (breaking.BreaksClauses k bs s []) none-claused) refl
     clauses-went (b ∷ more) V Y Z y mid S =
         let one = test-went (rule.test_of b) V.0.0 Y.0 y mid S in
         let two = then-went bs mid (TestBreaks (rule.test_of b) V.0.0 Y.0) (breaking.BreaksAs k bs rule.a_value (rule.value_of b)) Subjected Subjected (TestGood (rule.test_of b) V.0.0 Y.0 y)
-            (λ x z. (t : TypedForm) × rule.HasAs k (Calls k) bs rule.a_value (rule.value_of b) t × (z ≡ kept a_slot.Second t x)) (ask k.facts a_slot.Second a_want.Value (judged k.facts (rule.value_of b)))
-            (ask-went k A bs B Subjected a_slot.Second kept-second broken-still (λ x t. refl) (rule.value_of b) V.0.1 Z.0 rule.a_value a_want.Value value_) y _ one in
+        (λ x z. (t : TypedForm) × rule.HasAs k (Calls k) bs rule.a_value (rule.value_of b) t × (z ≡ kept a_slot.Second t x)) (ask k.facts a_slot.Second a_want.Value (judged k.facts (rule.value_of b)))
+        (ask-went k A bs B Subjected a_slot.Second kept-second broken-still (λ x t. refl) (rule.value_of b) V.0.1 Z.0 rule.a_value a_want.Value value_) y _ one in
         let three = then-went bs mid (λ f. TestBreaks (rule.test_of b) V.0.0 Y.0 f ⊎ breaking.BreaksAs k bs rule.a_value (rule.value_of b) f) (breaking.BreaksClauses k bs s more) Subjected (λ z. Unit {0})
-            (λ x. (z : Frame) × TestGood (rule.test_of b) V.0.0 Y.0 y z × ((t : TypedForm) × rule.HasAs k (Calls k) bs rule.a_value (rule.value_of b) t × (x ≡ kept a_slot.Second t z)))
-            (ClauseGood more) (clauses k.facts (map (judged_branch k.facts) more)) (clauses-went more V.1 Y.1 Z.1) y _ two in
+        (λ x. (z : Frame) × TestGood (rule.test_of b) V.0.0 Y.0 y z × ((t : TypedForm) × rule.HasAs k (Calls k) bs rule.a_value (rule.value_of b) t × (x ≡ kept a_slot.Second t z)))
+        (ClauseGood more) (clauses k.facts (map (judged_branch k.facts) more)) (clauses-went more V.1 Y.1 Z.1) y _ two in
         subst (λ (a : Arm). Went k A bs mid (breaking.BreaksClauses k bs s (b ∷ more)) (λ z. Unit {0}) (ClauseGood (b ∷ more) y) y
         (clauses k.facts (map (judged_branch k.facts) more) (ask k.facts a_slot.Second a_want.Value a.value (take_test k.facts a.test.place (said a.test (st y bs mid)))))) (sym (arm-is k.facts b))
         (went-as bs mid _ (breaking.BreaksClauses k bs s (b ∷ more)) (λ z. Unit {0}) _ (ClauseGood (b ∷ more) y) y _ (clauses-made b V.0 Y.0 more) (clauses-of b V.0 Y.0 more) good three)
       where
         good : (z : Frame) → ((x : Frame) × ((w : Frame) × TestGood (rule.test_of b) V.0.0 Y.0 y w × ((t : TypedForm) × rule.HasAs k (Calls k) bs rule.a_value (rule.value_of b) t × (x ≡ kept a_slot.Second t w))) × ClauseGood more x z) → ClauseGood (b ∷ more) y z
-        good z (x, (w, (u, v, result, widened, hu, e, hv, c, bl, q1), (t, ht, q2)), (u2, cs, ts, vs, hu2, e2, h2, q3)) =
-            (u, chosen (set_for an_op.Eq) widened ∷ cs, v ∷ ts, t ∷ vs, hu, e,
-            rule.clause b more v t result widened cs ts vs refl hv c bl ht (subst (λ (q : TypedForm). rule.HasClauses k (Calls k) bs q more cs ts vs) (one-subject u2 u hu2 hu) h2) refl refl refl,
-            q3 ∙ ap (λ (f : Frame). record f { first = f.first ++ ts; second = f.second ++ vs; calls = f.calls ++ cs }) (q2 ∙ ap (λ (f : Frame). kept a_slot.Second t f) q1)
-            ∙ ap (λ (xs : List TypedForm). record y { first = xs; second = (y.second ++ t ∷ []) ++ vs; calls = (y.calls ++ chosen (set_for an_op.Eq) widened ∷ []) ++ cs }) (one_behind y.first ts v)
-            ∙ ap (λ (xs : List TypedForm). record y { first = y.first ++ v ∷ ts; second = xs; calls = (y.calls ++ chosen (set_for an_op.Eq) widened ∷ []) ++ cs }) (one_behind y.second vs t)
-            ∙ ap (λ (xs : List Chosen). record y { first = y.first ++ v ∷ ts; second = y.second ++ t ∷ vs; calls = xs }) (one_behind y.calls cs (chosen (set_for an_op.Eq) widened)))
+        good z (x, (w, (u, v, result, widened, hu, e, hv, c, bl, q1), (t, ht, q2)), (u2, cs, ts, vs, hu2, e2, h2, q3)) = (
+          u,
+          chosen (set_for an_op.Eq) widened ∷ cs,
+          v ∷ ts,
+          t ∷ vs,
+          hu,
+          e,
+          rule.clause b more v t result widened cs ts vs refl hv c bl ht (subst (λ (q : TypedForm). rule.HasClauses k (Calls k) bs q more cs ts vs) (one-subject u2 u hu2 hu) h2) refl refl refl,
+          q3 ∙ ap (λ (f : Frame). record f { first = f.first ++ ts; second = f.second ++ vs; calls = f.calls ++ cs }) (q2 ∙ ap (λ (f : Frame). kept a_slot.Second t f) q1)
+              ∙ ap (λ (xs : List TypedForm). record y { first = xs; second = (y.second ++ t ∷ []) ++ vs; calls = (y.calls ++ chosen (set_for an_op.Eq) widened ∷ []) ++ cs }) (one_behind y.first ts v)
+              ∙ ap (λ (xs : List TypedForm). record y { first = y.first ++ v ∷ ts; second = xs; calls = (y.calls ++ chosen (set_for an_op.Eq) widened ∷ []) ++ cs }) (one_behind y.second vs t)
+              ∙ ap (λ (xs : List Chosen). record y { first = y.first ++ v ∷ ts; second = y.second ++ t ∷ vs; calls = xs }) (one_behind y.calls cs (chosen (set_for an_op.Eq) widened)),
+        )
 
     -- clauses that have types break nothing, and have one typed form each
     clause-frame : TypedForm → Frame
@@ -345,6 +355,7 @@ module _ (k : Knows) (A : IsAccepted k) where
       where
         clean : (new : Option Fault) (z : Frame) → clauses k.facts (map (judged_branch k.facts) branches) (st (record opened { side = side u }) bs None) ≡ st z bs new → new ≡ None
         clean new z q = ap (λ (t : State). t.found) (sym q ∙ clauses-answered k A h B V (subject-type u hu) (judged k.facts s).place (record opened { side = side u }) None refl)
+
         by : Went k A bs None (breaking.BreaksClauses k bs s branches) (λ z. Unit {0}) (ClauseGood branches (record opened { side = side u })) (record opened { side = side u })
             (clauses k.facts (map (judged_branch k.facts) branches) (st (record opened { side = side u }) bs None)) → ⊥
         by (well z new v br g i q) = (i.none (clean new z q)).1 f b
@@ -413,7 +424,7 @@ module _ (k : Knows) (A : IsAccepted k) where
           let f1 = go k A bs found Nothing_yet SubjectBreaks Fresh Subjected Fresh SubjectGood subject_step subject-went (st opened bs found) f0 in
           let f2 = go k A bs found P1 (breaking.BreaksClauses k bs s branches) Subjected (λ z. Unit {0}) G1 (ClauseGood branches) (clauses k.facts (map (judged_branch k.facts) branches)) (clauses-went branches V Y Z) _ f1 in
           go k A bs found P2 (Behind k A bs B rule.a_value other) (λ z. Unit {0}) (λ z. Unit {0}) G2 (λ y z. (o : Option TypedForm) × HasBehind k A bs B rule.a_value other o × (z ≡ with_last k A bs B o y))
-              (ask_if k.facts a_slot.Last a_want.Value (option_map (judged k.facts) other)) (λ y mid v. behind-went k A bs B other U O rule.a_value a_want.Value value_ y mid) _ f2
+          (ask_if k.facts a_slot.Last a_want.Value (option_map (judged k.facts) other)) (λ y mid v. behind-went k A bs B other U O rule.a_value a_want.Value value_ y mid) _ f2
 
       to : (f : Fault) → P3 f → FormBreaks k bs e f
       to f (inl (inl (inl c))) = absurd c
@@ -434,6 +445,7 @@ module _ (k : Knows) (A : IsAccepted k) where
           behind_ : (o : Option Form) → ElseBreaks k bs o f → Behind k A bs B rule.a_value o f
           behind_ None x = x
           behind_ (Some d) x = x
+
           by : BreaksAt k bs (Form-F.Case p s branches other) f → P3 f ⊎ Own f
           by (inl x) = inl (inl (inl (inr x)))
           by (inr (inl x)) = inl (inl (inr x))
@@ -482,6 +494,7 @@ module _ (k : Knows) (A : IsAccepted k) where
           frame_is : z ≡ with_last k A bs B o (record opened { head = Some u; first = ts; second = vs; calls = cs; side = side u })
           frame_is = q3 ∙ ap (λ (y : Frame). with_last k A bs B o y) (q2 ∙ ap (λ (y : Frame). record y { first = y.first ++ ts; second = y.second ++ vs; calls = y.calls ++ cs })
               (q1 ∙ ap (λ (y : Frame). record (kept a_slot.Head v y) { side = side v }) q0 ∙ ap (λ (t : TypedForm). record (kept a_slot.Head t opened) { side = side t }) (one-subject v u hv hu)))
+
           own : (f : Fault) → Own f → HasNoWidest k (types_of vs ++ rule.else_types o) × (f ≡ fault MISMATCH p)
           own f n =
               let eu = one-subject n.0 u n.5 hu in

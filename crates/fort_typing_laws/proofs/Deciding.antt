@@ -1,5 +1,5 @@
 -- What is computed of two types and of a call is what the rules say of them, where the component is accepted.
-use Rattle.std.proofs.Common.{◌≡◌, ◌<◌, ◌↔◌, ◌⊎◌, inl, inr, ℕ, zero, suc, Bool, true, false, cond, IsTrue, List, [], ◌∷◌, length, replicate, Option, Some, None, refl, ap, ◌∙◌, sym, subst, arith}
+use Rattle.std.proofs.Common.{◌≡◌, ◌<◌, ◌↔◌, ◌⊎◌, inl, inr, ℕ, Bool, true, false, cond, IsTrue, List, length, replicate, Option, Some, None, refl, ap, ◌∙◌, sym, subst, arith}
 use Rattle.std.specs.List.{slice_get}
 use Rattle.fort_base.specs.declared.ids.SetId.{SetId}
 use Rattle.fort_base.specs.declared.refusal.Rule.{Rule}
@@ -12,18 +12,16 @@ use Rattle.fort_set.specs.Applicable.{IsApplicable, IsMoreSpecific}
 use Rattle.fort_set.specs.Best.{IsMostSpecific}
 use Rattle.fort_set.specs.Pairs.{Passes, aside, ordered, reversed, met}
 use Rattle.fort_set.specs.Rules.{StandsAt}
-use Rattle.fort_call.specs.declared.choice.Choice.TheVariants as choice
-use Rattle.fort_call.specs.Choosing.{Chooses}
-use Rattle.fort_call.specs.Widening.{IsApplicableWidened, WidensWithin, WidenedAmong, IsLeast, AreWidened, AllWidened}
+use Rattle.fort_call.specs.Widening.{IsApplicableWidened, WidensWithin, IsLeast, AreWidened}
 use Rattle.fort_known.specs.Known.{Knows}
 use Rattle.fort_called.specs.Fitting.{fits, goes_before, first_best, any_fits, positions, widened_types}
 use Rattle.fort_called.specs.Called.{called_wide, called_widened, called_plain, called_in, called}
 use Rattle.fort_called.specs.declared.called.Called.{Called}
 use Rattle.fort_called.specs.declared.called.Called.TheVariants as a_call
 use Rattle.fort_typing_rules.specs.Calls.{to_zz64, ArePositions, set_at, Calls, plain, widening, CallBreaks, no_set, not_applicable, unclear, no_best, no_best_widened}
-use Rattle.fort_typing_laws.specs.Deciding.{IsType, AreTypes, IsAccepted, Decides, IsDecided}
+use Rattle.fort_typing_laws.specs.Deciding.{AreTypes, IsAccepted, IsDecided}
 use Rattle.fort_typing_laws.proofs.Types.{below_is, along_is, parameters_are}
-use Rattle.fort_typing_laws.proofs.Walks.{Best, Found, Over, some_first, no_first, told_first, first_none, SomeFits, some_fits, fits_some, none_fits, fits_none}
+use Rattle.fort_typing_laws.proofs.Walks.{some_first, no_first, told_first, first_none, some_fits, fits_some, none_fits, fits_none}
 use Rattle.fort_typing_laws.proofs.Widened.{contained_is, positions_long, positions_are, positions_once, are_wide, wide_once, wide_types, suit_is}
 
 unequal : (k : Knows) (s : MemberSet) (p q : Member) → Passes k.declared s p q → p.parameters ≡ q.parameters → ⊥

@@ -1,6 +1,5 @@
 -- A form that is neither a run nor a juxtaposition answers exactly where its parts do.
-use Rattle.std.proofs.Common.{◌≡◌, ◌⊎◌, inl, inr, Bool, true, false, List, [], ◌∷◌, map, Option, Some, None, refl, ◌∙◌, sym}
-use Rattle.std.specs.List.{AllByRecursion}
+use Rattle.std.proofs.Common.{◌≡◌, inl, inr, true, false, List, [], ◌∷◌, Option, Some, None, refl, ◌∙◌, sym}
 use Rattle.fort_scope.specs.declared.binding.Binding.{Binding}
 use Rattle.fort_form.specs.declared.form.Form.{Form, out-Form}
 use Rattle.fort_form.specs.declared.form.Form.TheOpen.{Form-F}
@@ -15,8 +14,8 @@ use Rattle.fort_typing_rules.specs.Breaking.{Breaks}
 use Rattle.fort_judge.specs.Judging.{judged}
 use Rattle.fort_typing_laws.specs.Deciding.{IsAccepted}
 use Rattle.fort_typing_laws.specs.Written.{IsWritten, AreBound}
-use Rattle.fort_typing_laws.specs.Exact.{FormBreaks, IsSeen, a_type, a_name, a_postfix, a_fault, Answers, IsExact, IsExactExpression, PartsExact, FormsAreExact, IsOne, has_type, is_name, breaks_rule, ExactIsOne}
-use Rattle.fort_typing_laws.proofs.Written.{of-parts, tests-of, values-of}
+use Rattle.fort_typing_laws.specs.Exact.{FormBreaks, IsSeen, a_type, a_name, a_postfix, a_fault, Answers, IsExactExpression, PartsExact, FormsAreExact, IsOne, has_type, is_name, breaks_rule, ExactIsOne}
+use Rattle.fort_typing_laws.proofs.Written.{of-parts}
 use Rattle.fort_typing_laws.proofs.Asking.{no-postfix, never}
 use Rattle.fort_typing_laws.proofs.Steps as step
 use Rattle.fort_typing_laws.proofs.Branching.{if-alone-exact, if-else-exact}

@@ -1,5 +1,5 @@
 -- The first of some faults, one more after another.
-use Rattle.std.proofs.Common.{◌≡◌, ℕ, Bool, true, false, cond, Option, Some, None, ◌⊎◌, inl, inr, refl, sym, ap, ◌∙◌, subst, arith}
+use Rattle.std.proofs.Common.{◌≡◌, Bool, true, false, cond, Option, Some, None, ◌⊎◌, inl, inr, refl, sym, ◌∙◌, subst, arith}
 use Rattle.std.proofs.lemmas.Bool.Decides.{nat_tests}
 use Rattle.fort_known.specs.declared.fault.Fault.{Fault}
 use Rattle.fort_judge.specs.Faults.{goes_first, with_fault}
@@ -35,6 +35,7 @@ module _ (found : Option Fault) (P : Fault → Type 0) where
     there : (f : Fault) → (found ≡ Some f) ⊎ P f → (found ≡ Some f) ⊎ Q f
     there f (inl e) = inl e
     there f (inr p) = inr (to f p)
+
     back : (f : Fault) → (found ≡ Some f) ⊎ Q f → (found ≡ Some f) ⊎ P f
     back f (inl e) = inl e
     back f (inr q) = inr (from f q)
@@ -62,9 +63,11 @@ both found None new P Q h g = record { some = λ f e. some f (g.some f e); none 
   some : (f : Fault) → (None ≡ Some f) ⊎ Q f → (found ≡ Some f) ⊎ (P f ⊎ Q f)
   some f (inl e) = some-is e
   some f (inr q) = inr (inr q)
+
   not_any : (f : Fault) → new ≡ None → P f ⊎ Q f → ⊥
   not_any f e (inl p) = (h.none refl).1 f p
   not_any f e (inr q) = (g.none e).1 f q
+
   by : (f x : Fault) → new ≡ Some f → (found ≡ Some x) ⊎ (P x ⊎ Q x) → goes_first x f ≡ false
   by f x e (inl d) = some-is (sym (h.none refl).0 ∙ d)
   by f x e (inr (inl p)) = absurd ((h.none refl).1 x p)
@@ -76,6 +79,7 @@ both found (Some m) new P Q h g = record { some = λ f e. some f (g.some f e); n
     old : (found ≡ Some f) ⊎ P f → (found ≡ Some f) ⊎ (P f ⊎ Q f)
     old (inl d) = inl d
     old (inr p) = inr (inl p)
+
   by : (f x : Fault) → new ≡ Some f → (found ≡ Some x) ⊎ (P x ⊎ Q x) → goes_first x f ≡ false
   by f x e (inl d) = chains f m x (g.first f m e (inl refl)) (h.first m x refl (inl d))
   by f x e (inr (inl p)) = chains f m x (g.first f m e (inl refl)) (h.first m x refl (inr p))

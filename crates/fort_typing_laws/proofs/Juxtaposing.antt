@@ -45,15 +45,15 @@ found_nowhere test n (e ∷ es) never =
 from_nothing : (n : ℕ) → zero + n ≡ n
 from_nothing n = omega arith
 
-stands_there : (before after : List Element) (x : Element) → element_at (before ++ x ∷ after) (length before) ≡ Some x
+pub stands_there : (before after : List Element) (x : Element) → element_at (before ++ x ∷ after) (length before) ≡ Some x
 stands_there [] after x = refl
 stands_there (b ∷ before) after x = stands_there before after x
 
-one_longer : (before : List Element) (x : Element) → length (before ++ x ∷ []) ≡ suc (length before)
+pub one_longer : (before : List Element) (x : Element) → length (before ++ x ∷ []) ≡ suc (length before)
 one_longer [] x = refl
 one_longer (b ∷ before) x = ap suc (one_longer before x)
 
-behind_one : (before after : List Element) (x : Element) → (before ++ x ∷ []) ++ after ≡ before ++ x ∷ after
+pub behind_one : (before after : List Element) (x : Element) → (before ++ x ∷ []) ++ after ≡ before ++ x ∷ after
 behind_one [] after x = refl
 behind_one (b ∷ before) after x = ap (λ xs. b ∷ xs) (behind_one before after x)
 

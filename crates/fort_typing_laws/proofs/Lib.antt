@@ -23,3 +23,6 @@ pub mod Comparing
 pub mod Assigning
 pub mod Chaining
 pub mod Exactly
+pub mod Elements
+pub mod Rewriting
+pub mod Runs

@@ -25,11 +25,11 @@ use Rattle.fort_judge.specs.declared.frame.Outcome.{Outcome}
 use Rattle.fort_judge.specs.Faults.{breaks}
 use Rattle.fort_judge.specs.Tests.{value}
 use Rattle.fort_judge.specs.Joining.{call, call_by, operation, operation_by, value_applied, applied_to, applied, joined_by, joined, indexed, read, method_called, followed_by, followed, Around, around, more_before, on, replaced, replaced_in, rewritten_by, rewritten, further, run_at, run_within, run}
-use Rattle.fort_typing_laws.specs.Deciding.{IsType, AreTypes, IsAccepted, Decides}
+use Rattle.fort_typing_laws.specs.Deciding.{AreTypes, IsAccepted, Decides}
 use Rattle.fort_typing_laws.specs.Typed.{IsTyped, MeansTyped, AreTyped}
-use Rattle.fort_typing_laws.proofs.Types.{all_left, all_right, all_first, all_rest, sides_type}
+use Rattle.fort_typing_laws.proofs.Types.{all_right, all_first, all_rest, sides_type}
 use Rattle.fort_typing_laws.proofs.Deciding.{is_decided}
-use Rattle.fort_typing_laws.proofs.Typed.{PartTyped, PartsTyped, all-types, arguments-typed, value-typed, rewritten-typed}
+use Rattle.fort_typing_laws.proofs.Typed.{PartTyped, all-types, arguments-typed, value-typed, rewritten-typed}
 use Rattle.fort_typing_laws.specs.Laws.{RunIsComputed, OneRun}
 use Rattle.fort_typing_laws.proofs.Juxtaposing.{rewriting_is_computed}
 use Rattle.fort_typing_laws.proofs.Wide.{unlike}
@@ -127,10 +127,10 @@ module _ (k : Knows) (A : IsAccepted k) where
 
   -- ---- runs
 
-  first-typed : (ps before after : List Part) (x y : Part) → ps ≡ before ++ x ∷ y ∷ after → AreTyped k ps → PartTyped k A x
+  pub first-typed : (ps before after : List Part) (x y : Part) → ps ≡ before ++ x ∷ y ∷ after → AreTyped k ps → PartTyped k A x
   first-typed ps before after x y is P = all_first (PartTyped k A) x (y ∷ after) (all_right (PartTyped k A) before (x ∷ y ∷ after) (subst (AreTyped k) is P))
 
-  second-typed : (ps before after : List Part) (x y : Part) → ps ≡ before ++ x ∷ y ∷ after → AreTyped k ps → PartTyped k A y
+  pub second-typed : (ps before after : List Part) (x y : Part) → ps ≡ before ++ x ∷ y ∷ after → AreTyped k ps → PartTyped k A y
   second-typed ps before after x y is P = all_first (PartTyped k A) y after (all_rest (PartTyped k A) x (y ∷ after) (all_right (PartTyped k A) before (x ∷ y ∷ after) (subst (AreTyped k) is P)))
 
   -- a rewriting is done at its place
@@ -142,7 +142,7 @@ module _ (k : Knows) (A : IsAccepted k) where
       ∙ ap (λ (n : Made). replaced before x.place after n found) w
       ∙ ap (λ (p : Place). replaced before p after (to m) found) (sym at)
 
-  step-is : (ps before after : List Part) (place : Place) (m : rule.Made) (found : Option Fault) → AreTyped k ps → rule.Rewritten k (Calls k) ps before place m after
+  pub step-is : (ps before after : List Part) (place : Place) (m : rule.Made) (found : Option Fault) → AreTyped k ps → rule.Rewritten k (Calls k) ps before place m after
       → rewritten k.facts ps found ≡ replaced before place after (to m) found
   unfolding rewritten
   step-is ps before after place m found P (rule.applied f a next is at h) = ap (λ r. rewritten_by k.facts ps r found) (rewriting_is_computed (rule.elements ps) _ next)
@@ -154,24 +154,24 @@ module _ (k : Knows) (A : IsAccepted k) where
       (done_at (joined k.facts) ps [] after a b place m found is at (joins-is a b m (first-typed ps [] after a b is P) (second-typed ps [] after a b is P) h))
 
   -- two elements or more are rewritten
-  goes_on : (next : Option Fault → List Part → Outcome) (before after : List Part) (x y : Part) (found : Option Fault)
+  pub goes_on : (next : Option Fault → List Part → Outcome) (before after : List Part) (x y : Part) (found : Option Fault)
       → run_at next k.facts found (before ++ x ∷ y ∷ after) ≡ further next (rewritten k.facts (before ++ x ∷ y ∷ after) found)
   goes_on next [] after x y found = refl
   goes_on next (b ∷ []) after x y found = refl
   goes_on next (b ∷ c ∷ before) after x y found = refl
 
-  longer : (before after : List Part) (x y z : Part) → length (before ++ x ∷ y ∷ after) ≡ suc (length (before ++ z ∷ after))
+  pub longer : (before after : List Part) (x y z : Part) → length (before ++ x ∷ y ∷ after) ≡ suc (length (before ++ z ∷ after))
   longer [] after x y z = refl
   longer (b ∷ before) after x y z = ap suc (longer before after x y z)
 
   -- a run that is rewritten has two elements there
-  around_it : (ps before after : List Part) (place : Place) (m : rule.Made) → rule.Rewritten k (Calls k) ps before place m after → (x : Part) × (y : Part) × (ps ≡ before ++ x ∷ y ∷ after)
+  pub around_it : (ps before after : List Part) (place : Place) (m : rule.Made) → rule.Rewritten k (Calls k) ps before place m after → (x : Part) × (y : Part) × (ps ≡ before ++ x ∷ y ∷ after)
   around_it ps before after place m (rule.applied f a next is at h) = (f, a, is)
   around_it ps before after place m (rule.followed a p next is at h) = (a, p, is)
   around_it ps before after place m (rule.joined a b next none is at h) = (a, b, is ∙ ap (λ (bs : List Part). bs ++ a ∷ b ∷ after) (sym none))
 
   -- the run after a rewriting that isn't barred
-  same_run : (before after : List Part) (place : Place) (u : TypedForm) → (c d : Bool) → c || not d ≡ true → before ++ rule.made place (cond c (a_meaning.Value u) (cond d a_meaning.Unknown (a_meaning.Value u))) ∷ after
+  pub same_run : (before after : List Part) (place : Place) (u : TypedForm) → (c d : Bool) → c || not d ≡ true → before ++ rule.made place (cond c (a_meaning.Value u) (cond d a_meaning.Unknown (a_meaning.Value u))) ∷ after
       ≡ before ++ rule.made place (a_meaning.Value u) ∷ after
   same_run before after place u true d h = refl
   same_run before after place u false false h = refl

@@ -1,5 +1,5 @@
 -- Names that are bound, and generators: what they leave is exact. Functions, loops over generators, and reductions.
-use Rattle.std.proofs.Common.{◌≡◌, ◌⊎◌, inl, inr, ℕ, Bool, true, false, cond, List, [], ◌∷◌, ◌++◌, map, Option, Some, None, refl, arith, ap, ◌∙◌, sym, subst}
+use Rattle.std.proofs.Common.{◌≡◌, ◌⊎◌, inl, inr, Bool, true, false, cond, List, [], ◌∷◌, ◌++◌, map, Option, Some, None, refl, ap, ◌∙◌, sym, subst}
 use Rattle.std.specs.List.{AllByRecursion}
 use Rattle.fort_base.specs.declared.ids.NameId.{NameId}
 use Rattle.fort_base.specs.declared.refusal.Place.{Place}
@@ -11,7 +11,6 @@ use Rattle.fort_form.specs.declared.form.Form.{Form, out-Form}
 use Rattle.fort_form.specs.declared.form.Form.TheOpen.{Form-F}
 use Rattle.fort_form.specs.declared.form.Generator.{Generator, out-Generator}
 use Rattle.fort_form.specs.declared.form.Parameter.{Parameter}
-use Rattle.fort_form.specs.declared.form.Reduction.{Reduction}
 use Rattle.fort_form.specs.declared.form.Item.{Item}
 use Rattle.fort_form.specs.declared.form.Branch.{Branch}
 use Rattle.fort_form.specs.declared.form.TypeBranch.{TypeBranch}
@@ -20,7 +19,6 @@ use Rattle.fort_typed_form.specs.declared.typed_form.TypedForm.TheVariants as a_
 use Rattle.fort_known.specs.declared.fault.Fault.{Fault}
 use Rattle.fort_known.specs.Known.{Knows}
 use Rattle.fort_known.specs.Names.{is_visible}
-use Rattle.fort_known.specs.Sets.{operator_set}
 use Rattle.fort_typing_rules.specs.Calls.{Calls}
 use Rattle.fort_typing_rules.specs.Types.{unit, given, type_of, place_of, fault, tuple_of, parameter_type}
 use Rattle.fort_typing_rules.specs.Typing as rule
@@ -31,20 +29,19 @@ use Rattle.fort_judge.specs.declared.frame.Slot.TheVariants as a_slot
 use Rattle.fort_judge.specs.declared.frame.Frame.{Frame}
 use Rattle.fort_judge.specs.declared.frame.Valued.{Valued}
 use Rattle.fort_judge.specs.Faults.{with_fault, breaks}
-use Rattle.fort_judge.specs.Tests.{value, untyped, taken}
-use Rattle.fort_judge.specs.Parts.{Judge, Giving, State, begin, opened, is_broken, kept, said, ask, unless_lost, shadows, bind, bind_all, watch, given_by, gives, take_source, sources}
-use Rattle.fort_judge.specs.Closing.{close_at, giving_name, by_one, reduced}
-use Rattle.fort_judge.specs.Judging.{inside, judged, judged_generator, reduction_want}
+use Rattle.fort_judge.specs.Tests.{value, untyped}
+use Rattle.fort_judge.specs.Parts.{Giving, State, begin, opened, is_broken, kept, said, ask, unless_lost, shadows, bind, bind_all, watch, given_by, gives, take_source, sources}
+use Rattle.fort_judge.specs.Closing.{close_at, giving_name, by_one}
+use Rattle.fort_judge.specs.Judging.{inside, judged, judged_generator}
 use Rattle.fort_judge.proofs.Levels.{giving-is}
-use Rattle.fort_typing_laws.specs.Deciding.{IsType, AreTypes, IsAccepted}
+use Rattle.fort_typing_laws.specs.Deciding.{IsType, IsAccepted}
 use Rattle.fort_typing_laws.specs.Written.{IsWritten, AreBound}
 use Rattle.fort_typing_laws.specs.Exact.{IsFirst, FormBreaks, Answers, IsExactExpression}
 use Rattle.fort_typing_laws.proofs.Written.{GeneratorWritten}
 use Rattle.fort_typing_laws.proofs.Typed.{binds-bound, parameters-bound, one-bound, given-typed, typed-as}
-use Rattle.fort_typing_laws.proofs.Answered.{Same, value_, operand_, unit_, st, mapped, at, binds-is, sources-answered, giving-names, same-reduction, nothing_behind, one_behind}
+use Rattle.fort_typing_laws.proofs.Answered.{Same, value_, operand_, unit_, st, mapped, at, binds-is, sources-answered, giving-names, nothing_behind, one_behind}
 use Rattle.fort_typing_laws.proofs.Asking.{place-is, ValuedAs, got, missed, taken-is, Asked, kept_there, lacking, ask-exact, as-never, one-as}
 use Rattle.fort_typing_laws.proofs.Firsts.{no_more, alike, one_more, both}
-use Rattle.fort_typing_laws.proofs.Views.{BreaksAt}
 use Rattle.fort_typing_laws.proofs.Steps.{typed-so, broken-so, of-layer, only-left}
 
 -- a frame behind which the scope isn't known
@@ -103,8 +100,10 @@ module _ (k : Knows) (A : IsAccepted k) where
   bound-of bs b more f (breaking.this_binding c cs e v x) = let q : c ≡ b = cc in
       inl (subst (λ (y : Binding). is_visible k.facts bs y.name ≡ true) q v, subst (λ (y : Binding). f ≡ fault SHADOWS y.place) q x)
   bound-of bs b more f (breaking.next_binding c cs e v x) = let q : c ≡ b = cc in let r : cs ≡ more = cc in
-      inr (subst (λ (y : Binding). is_visible k.facts bs y.name ≡ false) q v,
-      subst (λ (ys : List Binding). breaking.BindingBreaks k (bs ++ b ∷ []) ys f) r (subst (λ (y : Binding). breaking.BindingBreaks k (bs ++ y ∷ []) cs f) q x))
+      inr (
+        subst (λ (y : Binding). is_visible k.facts bs y.name ≡ false) q v,
+        subst (λ (ys : List Binding). breaking.BindingBreaks k (bs ++ b ∷ []) ys f) r (subst (λ (y : Binding). breaking.BindingBreaks k (bs ++ y ∷ []) cs f) q x),
+      )
 
   bind-more : (bs : List Binding) (b : Binding) (more : List Binding) (wf : Frame) (found : Option Fault) (s : State) → is_visible k.facts bs b.name ≡ false → BoundAll (bs ++ b ∷ []) more wf found s
       → BoundAll bs (b ∷ more) wf found s
@@ -123,10 +122,13 @@ module _ (k : Knows) (A : IsAccepted k) where
     where
       rest : State → State
       rest s = bind_all k.facts more s
+
       here : Fault
       here = fault SHADOWS b.place
+
       from : is_visible k.facts bs b.name ≡ true → (f : Fault) → breaking.BindingBreaks k bs (b ∷ more) f → f ≡ fault SHADOWS b.place
       from v f c = elim (bound-of bs b more f c) [ inl x ↦ x.1 | inr x ↦ not-both v x.0 ]
+
       by : BoundAll (bs ++ b ∷ []) more wf found (bind_all k.facts more (st wf (bs ++ b ∷ []) found)) → (c : Bool) → is_visible k.facts bs b.name ≡ c
           → BoundAll bs (b ∷ more) wf found (unless_lost (bind_all k.facts more) (cond c (shadows b.place (st wf bs found)) (st wf (bs ++ b ∷ []) found)))
       by h true v = one_taken (fault SHADOWS b.place) (with_fault (fault SHADOWS b.place) found) bs (breaking.this_binding b more refl v refl)
@@ -145,20 +147,25 @@ module _ (k : Knows) (A : IsAccepted k) where
     where
       new : List Binding
       new = map rule.parameter_binding ps
+
       second : State → State
       second s = unless_lost (ask k.facts a_slot.Head a_want.Value (judged k.facts d)) s
+
       by : BoundAll bs (map rule.parameter_binding ps) opened found (bind_all k.facts (map rule.parameter_binding ps) (st opened bs found)) → Answers k bs e found ((judged k.facts e).answer bs found)
       by (all_bound inner h n q) = inside_ (ask-exact k A inner (binds-bound k A h B (parameters-bound k A ps T)) d W X rule.a_value a_want.Value a_slot.Head opened found value_)
         where
           V : AreBound k inner
           V = binds-bound k A h B (parameters-bound k A ps T)
+
           to : (f : Fault) → breaking.BreaksAs k inner rule.a_value d f → FormBreaks k bs e f
           to f b = inl (breaking.in_function p ps d inner is h b)
+
           from : (f : Fault) → FormBreaks k bs e f → breaking.BreaksAs k inner rule.a_value d f
           from f b = elim (only-left k A (of-layer k A bs e f is b)) [
             | inl c ↦ absurd (n f c)
             | inr c ↦ subst (λ (cs : List Binding). breaking.BreaksAs k cs rule.a_value d f) (binds-once c.1 h) c.2
           ]
+
           inside_ : Asked k A inner (binds-bound k A h B (parameters-bound k A ps T)) d W X rule.a_value a_slot.Head opened found (ask k.facts a_slot.Head a_want.Value (judged k.facts d) (st opened inner found))
               → Answers k bs e found ((judged k.facts e).answer bs found)
           inside_ (kept_there t mid g i r) = typed-so k A bs e found mid (breaking.BreaksAs k inner rule.a_value d) _ i to
@@ -171,6 +178,7 @@ module _ (k : Knows) (A : IsAccepted k) where
         where
           never : (inner : List Binding) → rule.Binds k bs (map rule.parameter_binding ps) inner → ⊥
           never inner h = let l : true ≡ false = ap (λ (s : State). s.frame.lost) (sym q ∙ binds-is k A h opened found refl) in absurd cc
+
           from : (g : Fault) → FormBreaks k bs e g → breaking.BindingBreaks k bs (map rule.parameter_binding ps) g
           from g c = elim (only-left k A (of-layer k A bs e g is c)) [ inl x ↦ x | inr x ↦ absurd (never x.0 x.1) ]
 
@@ -212,6 +220,7 @@ module _ (k : Knows) (A : IsAccepted k) where
         to : (f : Fault) → Shadow bs here name f ⊎ As f → OneSource f
         to f (inl b) = inl b
         to f (inr b) = inr (inl b)
+
         from : (f : Fault) → OneSource f → Shadow bs here name f ⊎ As f
         from f (inl b) = inl b
         from f (inr (inl b)) = inr b
@@ -225,10 +234,12 @@ module _ (k : Knows) (A : IsAccepted k) where
       where
         own : Fault
         own = fault NOT_A_GENERATOR (place_of from_there)
+
         to : (f : Fault) → (Shadow bs here name f ⊎ As f) ⊎ (f ≡ fault NOT_A_GENERATOR (place_of from_there)) → OneSource f
         to f (inl (inl b)) = inl b
         to f (inl (inr b)) = inr (inl b)
         to f (inr b) = inr (inr (u, h, e, b))
+
         from : (f : Fault) → OneSource f → (Shadow bs here name f ⊎ As f) ⊎ (f ≡ fault NOT_A_GENERATOR (place_of from_there))
         from f (inl b) = inl (inl b)
         from f (inr (inl b)) = inl (inr b)
@@ -293,9 +304,15 @@ module _ (k : Knows) (A : IsAccepted k) where
     sources-of more f (breaking.no_generator h cs u e s n x) = let q : h ≡ g = cc in
         inl (inr (inr (u, subst (λ (y : Generator). rule.HasAs k (Calls k) bs rule.an_operand (out-Generator y).source u) q s, n, subst (λ (y : Generator). f ≡ fault NOT_A_GENERATOR (place_of (out-Generator y).source)) q x)))
     sources-of more f (breaking.in_next h cs u ty e v s gv b) = let q : h ≡ g = cc in let r : cs ≡ more = cc in
-        inr (u, ty, subst (λ (y : Generator). is_visible k.facts bs (out-Generator y).name ≡ false) q v, subst (λ (y : Generator). rule.HasAs k (Calls k) bs rule.an_operand (out-Generator y).source u) q s, gv,
-        subst (λ (ys : List Generator). breaking.BreaksSources k (bs ++ rule.binding here name ty ∷ []) ys f) r
-        (subst (λ (y : Generator). breaking.BreaksSources k (bs ++ rule.binding (out-Generator y).place (out-Generator y).name ty ∷ []) cs f) q b))
+        inr (
+          u,
+          ty,
+          subst (λ (y : Generator). is_visible k.facts bs (out-Generator y).name ≡ false) q v,
+          subst (λ (y : Generator). rule.HasAs k (Calls k) bs rule.an_operand (out-Generator y).source u) q s,
+          gv,
+          subst (λ (ys : List Generator). breaking.BreaksSources k (bs ++ rule.binding here name ty ∷ []) ys f) r
+              (subst (λ (y : Generator). breaking.BreaksSources k (bs ++ rule.binding (out-Generator y).place (out-Generator y).name ty ∷ []) cs f) q b),
+        )
 
     sources-made : (more : List Generator) (f : Fault) → OneSource f ⊎ NextSource more f → breaking.BreaksSources k bs (g ∷ more) f
     sources-made more f (inl (inl h)) = breaking.shadowing_name g more refl h.0 h.1
@@ -325,6 +342,7 @@ module _ (k : Knows) (A : IsAccepted k) where
     where
       behind : List Binding
       behind = bs ++ rule.binding (out-Generator g).place (out-Generator g).name ty ∷ []
+
       first_of : (new : Option Fault) → IsFirst mid (breaking.BreaksSources k (bs ++ rule.binding (out-Generator g).place (out-Generator g).name ty ∷ []) more) new → IsFirst found (breaking.BreaksSources k bs (g ∷ more)) new
       first_of new j = alike found (λ f. OneSource bs B g W X f ⊎ breaking.BreaksSources k (bs ++ rule.binding (out-Generator g).place (out-Generator g).name ty ∷ []) more f) (breaking.BreaksSources k bs (g ∷ more)) new to from
           (both found mid new (OneSource bs B g W X) (breaking.BreaksSources k (bs ++ rule.binding (out-Generator g).place (out-Generator g).name ty ∷ []) more) i j)
@@ -332,13 +350,16 @@ module _ (k : Knows) (A : IsAccepted k) where
           to : (f : Fault) → OneSource bs B g W X f ⊎ breaking.BreaksSources k (bs ++ rule.binding (out-Generator g).place (out-Generator g).name ty ∷ []) more f → breaking.BreaksSources k bs (g ∷ more) f
           to f (inl b) = sources-made bs B g W X more f (inl b)
           to f (inr b) = breaking.in_next g more u ty refl vis h gv b
+
           same_type : (v : TypedForm) (t : Ty) → rule.HasAs k (Calls k) bs rule.an_operand (out-Generator g).source v → given (type_of v) ≡ Some t → t ≡ ty
           same_type v t hv gt = let q : Some t ≡ Some ty = sym gt ∙ ap (λ (x : TypedForm). given (type_of x)) (one-as k A bs B (out-Generator g).source W X rule.an_operand v u hv h) ∙ gv in cc
+
           from : (f : Fault) → breaking.BreaksSources k bs (g ∷ more) f → OneSource bs B g W X f ⊎ breaking.BreaksSources k (bs ++ rule.binding (out-Generator g).place (out-Generator g).name ty ∷ []) more f
           from f b = elim (sources-of bs B g W X more f b) [
             | inl c ↦ inl c
             | inr c ↦ inr (subst (λ (t : Ty). breaking.BreaksSources k (bs ++ rule.binding (out-Generator g).place (out-Generator g).name t ∷ []) more f) (same_type c.0 c.1 c.3 c.4) c.5)
           ]
+
       by : Sourced (bs ++ rule.binding (out-Generator g).place (out-Generator g).name ty ∷ []) more (kept a_slot.First u wf) mid s → Sourced bs (g ∷ more) wf found s
       by (sourced inner us new C hs j e) = sourced inner (u ∷ us) new C (rule.source g more u us ty refl refl vis h gv hs) (first_of new j)
           (e ∙ ap (λ (xs : List TypedForm). st (record wf { first = xs }) inner new) (one_behind wf.first us u))
@@ -384,6 +405,7 @@ module _ (k : Knows) (A : IsAccepted k) where
     where
       clean : (new : Option Fault) (y : Frame) (cs : List Binding) → sources k.facts (map (judged_generator k.facts) gs) (st opened bs None) ≡ st y cs new → new ≡ None
       clean new y cs e = ap found_of (sym e ∙ sources-answered k A h B W opened None refl)
+
       by : Sourced bs gs opened None (sources k.facts (map (judged_generator k.facts) gs) (st opened bs None)) → ⊥
       by (sourced inner us new C hs i e) = (i.none (clean new _ inner e)).1 f b
       by (unsourced g new x cs c i e br l) = (i.none (clean new x cs e)).1 f b
@@ -407,8 +429,10 @@ module _ (k : Knows) (A : IsAccepted k) where
       where
         second : State → State
         second s = unless_lost (ask k.facts a_slot.Last w (judged k.facts d)) s
+
         goal : Type 0
         goal = Answers k bs e found ((judged k.facts e).answer bs found)
+
         inside_ : (inner : List Binding) (us : List TypedForm) (mid : Option Fault) (C : AreBound k inner) → rule.HasSources k (Calls k) bs gs inner us → IsFirst found (breaking.BreaksSources k bs gs) mid
             → sources k.facts (map (judged_generator k.facts) gs) (st opened bs found) ≡ st (record opened { first = us }) inner mid
             → Asked k A inner C d W X want a_slot.Last (record opened { first = us }) mid (ask k.facts a_slot.Last w (judged k.facts d) (st (record opened { first = us }) inner mid)) → Answers k bs e found ((judged k.facts e).answer bs found)
@@ -416,18 +440,23 @@ module _ (k : Knows) (A : IsAccepted k) where
           where
             Both : Fault → Type 0
             Both f = breaking.BreaksSources k bs gs f ⊎ breaking.BreaksAs k inner want d f
+
             first_of : (new : Option Fault) → IsFirst mid (breaking.BreaksAs k inner want d) new → IsFirst found (λ f. breaking.BreaksSources k bs gs f ⊎ breaking.BreaksAs k inner want d f) new
             first_of new j = both found mid new (breaking.BreaksSources k bs gs) (breaking.BreaksAs k inner want d) i j
+
             to2 : (f : Fault) → breaking.BreaksSources k bs gs f ⊎ breaking.BreaksAs k inner want d f → FormBreaks k bs e f
             to2 f (inl b) = to f (inl b)
             to2 f (inr b) = to f (inr (inner, us, hs, b))
+
             from2 : (f : Fault) → FormBreaks k bs e f → breaking.BreaksSources k bs gs f ⊎ breaking.BreaksAs k inner want d f
             from2 f b = elim (from f b) [ inl c ↦ inl c | inr c ↦ inr (subst (λ (cs : List Binding). breaking.BreaksAs k cs want d f) (sources-once B G c.2 hs) c.3) ]
+
             by2 : Asked k A inner C d W X want a_slot.Last (record opened { first = us }) mid (ask k.facts a_slot.Last w (judged k.facts d) (st (record opened { first = us }) inner mid)) → Answers k bs e found ((judged k.facts e).answer bs found)
             by2 (kept_there u new g j z) = typed-so k A bs e found new (λ f. breaking.BreaksSources k bs gs f ⊎ breaking.BreaksAs k inner want d f) _ (first_of new j) to2 (made us u) (has inner us u hs g) from2
                 (at k A e bs found (st (record opened { first = us; last = Some u }) inner new) is (parts ∙ ap (unless_lost (ask k.facts a_slot.Last w (judged k.facts d))) q ∙ z) (whole us u inner new hs))
             by2 (lacking f new b j z) = broken-so k A bs e found new (λ f. breaking.BreaksSources k bs gs f ⊎ breaking.BreaksAs k inner want d f) _ (first_of new j) to2 f (inr b) from2
                 (at k A e bs found (st (is_broken (record opened { first = us })) inner new) is (parts ∙ ap (unless_lost (ask k.facts a_slot.Last w (judged k.facts d))) q ∙ z) (none (is_broken (record opened { first = us })) new refl))
+
         by : Sourced bs gs opened found (sources k.facts (map (judged_generator k.facts) gs) (st opened bs found)) → Answers k bs e found ((judged k.facts e).answer bs found)
         by (sourced inner us mid C hs i q) = inside_ inner us mid C hs i q (ask-exact k A inner C d W X want w a_slot.Last (record opened { first = us }) mid m)
         by (unsourced f new x cs b i q br l) = broken-so k A bs e found new (breaking.BreaksSources k bs gs) _ i (λ g c. to g (inl c)) f b from1

@@ -1,5 +1,5 @@
 -- What a block answers is exact where its items are; and a reduction.
-use Rattle.std.proofs.Common.{◌≡◌, ◌⊎◌, inl, inr, ℕ, Bool, true, false, cond, List, [], ◌∷◌, ◌++◌, map, Option, Some, None, refl, arith, ap, ◌∙◌, sym, subst}
+use Rattle.std.proofs.Common.{◌≡◌, ◌⊎◌, inl, inr, Bool, true, false, cond, List, [], ◌∷◌, ◌++◌, map, Option, Some, None, refl, ap, ◌∙◌, sym, subst}
 use Rattle.std.specs.List.{AllByRecursion}
 use Rattle.fort_base.specs.declared.ids.NameId.{NameId}
 use Rattle.fort_base.specs.declared.refusal.Place.{Place}
@@ -20,7 +20,7 @@ use Rattle.fort_known.specs.Known.{Knows}
 use Rattle.fort_known.specs.Names.{is_visible}
 use Rattle.fort_known.specs.Sets.{operator_set}
 use Rattle.fort_typing_rules.specs.Calls.{Calls}
-use Rattle.fort_typing_rules.specs.Types.{unit, type_of, place_of, fault}
+use Rattle.fort_typing_rules.specs.Types.{unit, type_of, fault}
 use Rattle.fort_typing_rules.specs.Typing as rule
 use Rattle.fort_typing_rules.specs.Breaking as breaking
 use Rattle.fort_judge.specs.declared.frame.Want.{Want}
@@ -30,20 +30,19 @@ use Rattle.fort_judge.specs.declared.frame.Frame.{Frame}
 use Rattle.fort_judge.specs.declared.frame.Valued.{Valued}
 use Rattle.fort_judge.specs.Faults.{with_fault, breaks}
 use Rattle.fort_judge.specs.Tests.{value, untyped, valued}
-use Rattle.fort_judge.specs.Parts.{Judge, Piece, local, locals, Giving, State, begin, opened, is_broken, kept, said, ask, unless_lost, lose, shadows, bind, bind_all, bind_parts, declares, declares_all, take_initial, take_initials, as_wanted_below, below_by, item, items}
+use Rattle.fort_judge.specs.Parts.{Piece, local, locals, Giving, State, opened, is_broken, kept, said, unless_lost, bind, bind_all, bind_parts, declares, declares_all, take_initial, take_initials, as_wanted_below, below_by, item, items}
 use Rattle.fort_judge.specs.Closing.{by_one, reduced, last_type}
-use Rattle.fort_judge.specs.Judging.{inside, judged, judged_item, judged_generator, judge_item, reduction_want}
+use Rattle.fort_judge.specs.Judging.{judged, judged_item, judged_generator, reduction_want}
 use Rattle.fort_judge.proofs.Levels.{giving-is}
 use Rattle.fort_typing_laws.specs.Deciding.{IsType, IsAccepted}
 use Rattle.fort_typing_laws.specs.Written.{IsWritten, AreBound}
 use Rattle.fort_typing_laws.specs.Exact.{IsFirst, FormBreaks, Answers, IsExactExpression}
-use Rattle.fort_typing_laws.proofs.Types.{all_first, all_rest, unit_type}
+use Rattle.fort_typing_laws.proofs.Types.{all_first, all_rest}
 use Rattle.fort_typing_laws.proofs.Written.{GeneratorWritten, ItemWritten, of-item}
 use Rattle.fort_typing_laws.proofs.Typed.{binds-bound, one-bound, named-bound}
-use Rattle.fort_typing_laws.proofs.Answered.{value_, unit_, st, mapped, at, item-out, block-type, binds-is, same-reduction, nothing_behind, one_behind}
+use Rattle.fort_typing_laws.proofs.Answered.{value_, unit_, st, at, item-out, block-type, binds-is, same-reduction, nothing_behind, one_behind}
 use Rattle.fort_typing_laws.proofs.Asking.{ValuedAs, got, missed, below-is, Asked, kept_there, lacking, ask-exact}
 use Rattle.fort_typing_laws.proofs.Firsts.{no_more, alike, one_more, both}
-use Rattle.fort_typing_laws.proofs.Views.{BreaksAt}
 use Rattle.fort_typing_laws.proofs.Steps.{typed-so, broken-so, of-layer, only-left}
 use Rattle.fort_typing_laws.proofs.Scopes.{lost_frame, not-both, Shadow, BoundAll, all_bound, one_taken, bind-all-exact, binds-once, one-of, behind, Inside}
 
@@ -66,11 +65,13 @@ module _ (k : Knows) (A : IsAccepted k) where
           ap (λ (xs : List TypedForm). reduced k.facts r (judged_generator k.facts g) xs u new) o.1
           ∙ ap (λ (x : Giving). reduced k.facts r x (o.0 ∷ []) u new) (giving-is k.facts g)
           ∙ ap (λ (xs : List TypedForm). value (a_typed.Reduce (type_of u) r (operator_set k.facts (rule.reduction_operator r) 2) (out-Generator g).name (out-Generator g).sequential (first_node xs u) u) new) (sym o.1)
+
       has : (inner : List Binding) (us : List TypedForm) (u : TypedForm) → rule.HasSources k (Calls k) bs (g ∷ []) inner us → rule.HasAs k (Calls k) inner (rule.reduction_want r) d u
           → rule.Has k (Calls k) bs e (a_typed.Reduce (type_of u) r (operator_set k.facts (rule.reduction_operator r) 2) (out-Generator g).name (out-Generator g).sequential (first_node us u) u)
       has inner us u hs h = let o = one-of k A hs in
           rule.reduce p r g d inner o.0 u is (subst (λ (xs : List TypedForm). rule.HasSources k (Calls k) bs (g ∷ []) inner xs) o.1 hs) h
           (ap (λ (xs : List TypedForm). a_typed.Reduce (type_of u) r (operator_set k.facts (rule.reduction_operator r) 2) (out-Generator g).name (out-Generator g).sequential (first_node xs u) u) o.1)
+
       to : (f : Fault) → breaking.BreaksSources k bs (g ∷ []) f ⊎ Inside k A bs B e found (g ∷ []) d (G, tt) (S, tt) W X (rule.reduction_want r) f → FormBreaks k bs e f
       to f (inl b) = inl (breaking.in_source p r g d is b)
       to f (inr c) = inl (breaking.in_reduced p r g d c.0 c.1 is c.2 c.3)
@@ -169,6 +170,7 @@ module _ (k : Knows) (A : IsAccepted k) where
         there : (f : Fault) → One f ⊎ breaking.BreaksItems k inner more f → breaking.BreaksItems k bs (i ∷ more) f
         there f (inl b) = made f (inl b)
         there f (inr b) = made f (inr (to f b))
+
         back : (f : Fault) → breaking.BreaksItems k bs (i ∷ more) f → One f ⊎ breaking.BreaksItems k inner more f
         back f b = elim (of f b) [ inl c ↦ inl c | inr c ↦ inr (from f c) ]
 
@@ -404,6 +406,7 @@ module _ (k : Knows) (A : IsAccepted k) where
         where
           all_of : State
           all_of = items k.facts (map (judged_item k.facts) (i ∷ more)) (st wf bs found)
+
           by : (o : Option (List Binding)) → rule.named_parts names ty ≡ o → Goal (items k.facts (map (judged_item k.facts) (i ∷ more)) (st wf bs found))
           by None n = subst Goal (sym (items-cons (judged_item k.facts i) (map (judged_item k.facts) more) (st wf bs found) (st (lost_frame (is_broken wf)) bs (with_fault (fault MISMATCH p) initial2.found))
               (λ w. ap (λ (x : Piece). item k.facts w x (st wf bs found)) (item-out k A i is) ∙ pieces-left w None n ∙ none-left)))
@@ -486,8 +489,10 @@ module _ (k : Knows) (A : IsAccepted k) where
     where
       to : (f : Fault) → breaking.BreaksItems k bs is f → FormBreaks k bs e f
       to f b = inl (breaking.in_block p is eq b)
+
       from : (f : Fault) → FormBreaks k bs e f → breaking.BreaksItems k bs is f
       from f b = only-left k A (of-layer k A bs e f eq b)
+
       by : Itemed bs is opened found (items k.facts (map (judged_item k.facts) is) (st opened bs found)) → Answers k bs e found ((judged k.facts e).answer bs found)
       by (all_items ts ty new inner h i q) = typed-so k A bs e found new (breaking.BreaksItems k bs is) _ i to (a_typed.Block ty ts) (rule.block p is ts ty eq h refl) from
           (at k A e bs found (st (record opened { first = ts }) inner new) eq q (ap (λ (x : Ty). value (a_typed.Block x ts) new) (block-type k A h)))

@@ -1,11 +1,11 @@
 -- What a form answers is exact where its parts are: the forms without parts, of one part, of two, and those of a list of parts.
-use Rattle.std.proofs.Common.{◌≡◌, ◌⊎◌, inl, inr, ℕ, Bool, true, false, not, cond, List, [], ◌∷◌, ◌++◌, length, map, Option, Some, None, refl, arith, ap, ◌∙◌, sym, subst}
+use Rattle.std.proofs.Common.{◌≡◌, ◌⊎◌, inl, inr, ℕ, Bool, true, cond, List, [], ◌∷◌, length, map, Option, Some, None, refl, ap, ◌∙◌, sym, subst}
 use Rattle.fort_base.specs.declared.ids.NameId.{NameId}
 use Rattle.fort_base.specs.declared.ids.SetId.{SetId}
 use Rattle.fort_base.specs.declared.ids.TypeId.{TypeId}
 use Rattle.fort_base.specs.declared.refusal.Place.{Place}
 use Rattle.fort_base.specs.declared.refusal.Rule.{Rule}
-use Rattle.fort_base.specs.declared.rules.TheConstants.{UNKNOWN_NAME, MISMATCH}
+use Rattle.fort_base.specs.declared.rules.TheConstants.{UNKNOWN_NAME}
 use Rattle.fort_base.specs.declared.ty.Ty.{Ty}
 use Rattle.fort_base.specs.declared.ty.Ty.TheVariants as a_type
 use Rattle.fort_ops.specs.declared.op.Op.{Op}
@@ -34,24 +34,22 @@ use Rattle.fort_typing_rules.specs.Typing as rule
 use Rattle.fort_typing_rules.specs.Breaking as breaking
 use Rattle.fort_judge.specs.declared.frame.Want.{Want}
 use Rattle.fort_judge.specs.declared.frame.Want.TheVariants as a_want
-use Rattle.fort_judge.specs.declared.frame.Slot.{Slot}
 use Rattle.fort_judge.specs.declared.frame.Slot.TheVariants as a_slot
 use Rattle.fort_judge.specs.declared.frame.Frame.{Frame}
 use Rattle.fort_judge.specs.declared.frame.Outcome.{Outcome}
 use Rattle.fort_judge.specs.Faults.{with_fault, breaks}
 use Rattle.fort_judge.specs.Tests.{value, refused, untyped}
-use Rattle.fort_judge.specs.Parts.{Judge, Piece, Arm, Clause, Giving, State, begin, opened, is_broken, kept, ask, ask_below, asks}
+use Rattle.fort_judge.specs.Parts.{State, begin, opened, is_broken, kept, ask, ask_below, asks}
 use Rattle.fort_judge.specs.Joining.{operation, operation_by}
-use Rattle.fort_judge.specs.Closing.{close_at, means, receiver, name_by, name_answer, made_outcome}
+use Rattle.fort_judge.specs.Closing.{close_at, means, receiver, name_by, made_outcome}
 use Rattle.fort_judge.specs.Judging.{inside, judged}
-use Rattle.fort_typing_laws.specs.Deciding.{IsType, AreTypes, IsAccepted, Decides}
+use Rattle.fort_typing_laws.specs.Deciding.{IsType, IsAccepted}
 use Rattle.fort_typing_laws.specs.Written.{IsWritten, AreBound}
-use Rattle.fort_typing_laws.specs.Exact.{IsFirst, PostfixBreaks, FormBreaks, IsSeen, a_type, a_name, a_postfix, a_fault, Answers, IsExact, IsExactExpression, AreExact}
-use Rattle.fort_typing_laws.proofs.Types.{built_in_type, unit_type, all_first, all_rest}
+use Rattle.fort_typing_laws.specs.Exact.{IsFirst, PostfixBreaks, FormBreaks, IsSeen, a_type, a_name, a_postfix, a_fault, Answers, IsExactExpression, AreExact}
 use Rattle.fort_typing_laws.proofs.Deciding.{is_decided}
-use Rattle.fort_typing_laws.proofs.Written.{AllWritten, of-parts}
+use Rattle.fort_typing_laws.proofs.Written.{AllWritten}
 use Rattle.fort_typing_laws.proofs.Typed.{all-types, typed-each}
-use Rattle.fort_typing_laws.proofs.Answered.{Same, value_, operand_, unit_, small_, truth_, number_, exception_, st, kepts, kepts-first, mapped, at, closes-name}
+use Rattle.fort_typing_laws.proofs.Answered.{Same, value_, operand_, unit_, small_, truth_, exception_, st, kepts-first, mapped, at, closes-name}
 use Rattle.fort_typing_laws.proofs.Asking.{Asked, kept_there, lacking, ask-exact, ask-below-exact, AskedAll, kept_all, some_lacking, asks-exact, each-never, one-each}
 use Rattle.fort_typing_laws.proofs.Firsts.{no_more, alike, one_more, both}
 use Rattle.fort_typing_laws.proofs.Views.{BreaksAt, view-at}
@@ -75,8 +73,11 @@ module _ (k : Knows) (A : IsAccepted k) where
     pub refused-so : (r : Rule) (p : Place) → FormBreaks k bs e (fault r p) → ((f : Fault) → FormBreaks k bs e f → P f ⊎ (f ≡ fault r p)) → o ≡ refused r p new → Answers k bs e found o
     unfolding breaks
     refused-so r p own from eq = subst (Answers k bs e found) (sym eq)
-        (record { seen = a_fault (fault r p) refl own; first = alike found (λ f. P f ⊎ (f ≡ fault r p)) (FormBreaks k bs e) (with_fault (fault r p) new) all from
-        (both found new (with_fault (fault r p) new) P (λ f. f ≡ fault r p) i (one_more (fault r p) new)) })
+        (record {
+          seen = a_fault (fault r p) refl own;
+          first = alike found (λ f. P f ⊎ (f ≡ fault r p)) (FormBreaks k bs e) (with_fault (fault r p) new) all from
+              (both found new (with_fault (fault r p) new) P (λ f. f ≡ fault r p) i (one_more (fault r p) new));
+        })
       where
         all : (f : Fault) → P f ⊎ (f ≡ fault r p) → FormBreaks k bs e f
         all f (inl b) = to f b
@@ -136,8 +137,10 @@ module _ (k : Knows) (A : IsAccepted k) where
     where
       answer : (s : Standing) → standing k.facts bs name ≡ s → (judged k.facts e).answer bs found ≡ name_by p name s found
       answer s h = at k A e bs found (st opened bs found) is refl (closes-name k A p name bs found s h)
+
       others : (s : Standing) → standing k.facts bs name ≡ s → (nothing ≡ s → ⊥) → (f : Fault) → FormBreaks k bs e f → None-breaks f
       others s h n f b = let c = only-left (of-layer bs e f is b) in n (sym c.0 ∙ h)
+
       by : (s : Standing) → standing k.facts bs name ≡ s → Answers k bs e found ((judged k.facts e).answer bs found)
       by (a_binding b) h = typed-so bs e found found None-breaks _ (nothing-more found) (λ f b. absurd b) _ (rule.local p name b is h refl) (others (a_binding b) h (λ q. absurd cc)) (answer (a_binding b) h)
       by (a_field o f) h = typed-so bs e found found None-breaks _ (nothing-more found) (λ f b. absurd b) _ (rule.own p name o f is h refl) (others (a_field o f) h (λ q. absurd cc)) (answer (a_field o f) h)
@@ -230,10 +233,13 @@ module _ (k : Knows) (A : IsAccepted k) where
       where
         Some-breaks : Fault → Type 0
         Some-breaks f = breaking.BreaksSome k bs rule.an_operand ds f
+
         to : (f : Fault) → Some-breaks f → FormBreaks k bs e f
         to f b = inl (breaking.in_operator p op ds is b)
+
         set : List TypedForm → SetId
         set ts = operator_set k.facts op (length ts)
+
         closes : (ts : List TypedForm) (new : Option Fault) → rule.HasEach k (Calls k) bs rule.an_operand ds ts → IsFirst found Some-breaks new
             → (judged k.facts e).answer bs found ≡ made_outcome (operation k.facts (set ts) ts p) new → (c : Called) → called k.facts (set ts) (types_of ts) ≡ c → Answers k bs e found ((judged k.facts e).answer bs found)
         closes ts new h i eq (a_call.Result result widened) q =
@@ -268,6 +274,7 @@ module _ (k : Knows) (A : IsAccepted k) where
                     let z : a_call.Refused s ≡ a_call.Refused r = sym n' ∙ q in
                     let y : s ≡ r = cc in
                     inr (w ∙ ap (λ (x : Rule). fault x p) y)
+
         by : AskedAll k A bs rule.an_operand a_slot.First ds opened found (asks k.facts a_slot.First a_want.Operand (map (judged k.facts) ds) (st opened bs found)) → Answers k bs e found ((judged k.facts e).answer bs found)
         by (kept_all ts new h i eq) = closes ts new h i
             (at k A e bs found (st (record opened { first = ts }) bs new) is (eq ∙ ap (λ (x : Frame). st x bs new) (kepts-first ts opened)) refl) (called k.facts (set ts) (types_of ts)) refl
@@ -304,18 +311,23 @@ module _ (k : Knows) (A : IsAccepted k) where
       where
         Either : Fault → Type 0
         Either f = breaking.BreaksAs k bs want c f ⊎ breaking.BreaksAs k bs other d f
+
         goal : Type 0
         goal = Answers k bs e found ((judged k.facts e).answer bs found)
+
         joined : (mid new : Option Fault) → IsFirst found (breaking.BreaksAs k bs want c) mid → IsFirst mid (breaking.BreaksAs k bs other d) new → IsFirst found Either new
         joined mid new i j = both found mid new (breaking.BreaksAs k bs want c) (breaking.BreaksAs k bs other d) i j
+
         after_kept : (t : TypedForm) (mid : Option Fault) → rule.HasAs k (Calls k) bs want c t → IsFirst found (breaking.BreaksAs k bs want c) mid
             → inside k.facts (mapped k A y) (begin bs found) ≡ second (st (kept a_slot.Head t opened) bs mid) → Asked k A bs B d V Y other a_slot.Last (kept a_slot.Head t opened) mid (second (st (kept a_slot.Head t opened) bs mid)) → goal
         after_kept t mid h i eq (kept_there u new g j eq2) = typed-so bs e found new Either _ (joined mid new i j) to (made t u) (has t u h g) from (at k A e bs found _ is (eq ∙ eq2) (whole t u new))
         after_kept t mid h i eq (lacking f new b j eq2) = broken-so bs e found new Either _ (joined mid new i j) to f (inr b) from (at k A e bs found _ is (eq ∙ eq2) (first_only t new))
+
         after_lacking : (g : Fault) (mid : Option Fault) → breaking.BreaksAs k bs want c g → IsFirst found (breaking.BreaksAs k bs want c) mid
             → inside k.facts (mapped k A y) (begin bs found) ≡ second (st (is_broken opened) bs mid) → Asked k A bs B d V Y other a_slot.Last (is_broken opened) mid (second (st (is_broken opened) bs mid)) → goal
         after_lacking g mid b i eq (kept_there u new h j eq2) = broken-so bs e found new Either _ (joined mid new i j) to g (inl b) from (at k A e bs found _ is (eq ∙ eq2) (second_only u new))
         after_lacking g mid b i eq (lacking f new b2 j eq2) = broken-so bs e found new Either _ (joined mid new i j) to g (inl b) from (at k A e bs found _ is (eq ∙ eq2) (none new))
+
         by : Asked k A bs B c W X want a_slot.Head opened found (ask k.facts a_slot.Head w (judged k.facts c) (st opened bs found)) → goal
         by (kept_there t mid h i eq) = after_kept t mid h i (parts ∙ ap second eq) (asked (kept a_slot.Head t opened) mid)
         by (lacking g mid b i eq) = after_lacking g mid b i (parts ∙ ap second eq) (asked (is_broken opened) mid)

@@ -1,31 +1,22 @@
 -- What a `try` answers is exact where its parts are; parts one after another, as far as they have come.
-use Rattle.std.proofs.Common.{◌≡◌, ◌⊎◌, inl, inr, ℕ, Bool, true, false, cond, not, List, [], ◌∷◌, ◌++◌, map, Option, Some, None, refl, arith, ap, ◌∙◌, sym, subst}
+use Rattle.std.proofs.Common.{◌≡◌, ◌⊎◌, inl, inr, Bool, true, false, cond, not, List, [], ◌∷◌, ◌++◌, map, Option, Some, None, refl, arith, ap, ◌∙◌, sym, subst}
 use Rattle.std.specs.Prelude.{option_map}
 use Rattle.std.specs.List.{AllByRecursion}
 use Rattle.fort_base.specs.declared.ids.NameId.{NameId}
 use Rattle.fort_base.specs.declared.refusal.Place.{Place}
-use Rattle.fort_base.specs.declared.refusal.Rule.{Rule}
 use Rattle.fort_base.specs.declared.rules.TheConstants.{SHADOWS, MISMATCH, NOT_AN_EXCEPTION}
 use Rattle.fort_base.specs.declared.ty.Ty.{Ty}
-use Rattle.fort_ops.specs.declared.op.Op.TheVariants as an_op
 use Rattle.fort_scope.specs.declared.binding.Binding.{Binding}
 use Rattle.fort_form.specs.declared.form.Form.{Form, out-Form}
 use Rattle.fort_form.specs.declared.form.Form.TheOpen.{Form-F}
-use Rattle.fort_form.specs.declared.form.Branch.{Branch}
 use Rattle.fort_form.specs.declared.form.TypeBranch.{TypeBranch, out-TypeBranch}
-use Rattle.fort_typed_form.specs.declared.typed_form.Chosen.{Chosen}
 use Rattle.fort_typed_form.specs.declared.typed_form.TypedForm.{TypedForm}
 use Rattle.fort_typed_form.specs.declared.typed_form.TypedForm.TheVariants as a_typed
 use Rattle.fort_known.specs.declared.fault.Fault.{Fault}
 use Rattle.fort_known.specs.Known.{Knows}
 use Rattle.fort_known.specs.Below.{is_below}
-use Rattle.fort_known.specs.Names.{is_visible}
-use Rattle.fort_known.specs.Sets.{operator_set}
-use Rattle.fort_called.specs.Called.{called}
-use Rattle.fort_called.specs.declared.called.Called.{Called}
-use Rattle.fort_called.specs.declared.called.Called.TheVariants as a_call
 use Rattle.fort_typing_rules.specs.Calls.{Calls}
-use Rattle.fort_typing_rules.specs.Types.{exception, boolean, unit, type_of, types_of, place_of, fault, IsBelow, IsWidest, HasNoWidest}
+use Rattle.fort_typing_rules.specs.Types.{exception, unit, type_of, types_of, fault, IsBelow, HasNoWidest}
 use Rattle.fort_typing_rules.specs.Typing as rule
 use Rattle.fort_typing_rules.specs.Breaking as breaking
 use Rattle.fort_judge.specs.declared.frame.Want.{Want}
@@ -34,26 +25,25 @@ use Rattle.fort_judge.specs.declared.frame.Slot.{Slot}
 use Rattle.fort_judge.specs.declared.frame.Slot.TheVariants as a_slot
 use Rattle.fort_judge.specs.declared.frame.Frame.{Frame}
 use Rattle.fort_judge.specs.Faults.{with_fault, breaks}
-use Rattle.fort_judge.specs.Tests.{value, untyped, widest}
-use Rattle.fort_judge.specs.Parts.{Judge, Clause, State, begin, opened, is_broken, kept, ask, ask_if, ask_with, unless_lost, back_to, watch, catches, cases, lost_if_broken, head_type, else_with}
-use Rattle.fort_judge.specs.Closing.{close_at, by_widest, try_answer, clause_type as close_clause_type}
-use Rattle.fort_judge.specs.Judging.{inside, judged, judged_clause}
+use Rattle.fort_judge.specs.Tests.{untyped, widest}
+use Rattle.fort_judge.specs.Parts.{Clause, State, opened, is_broken, kept, ask, ask_if, unless_lost, watch, catches, cases}
+use Rattle.fort_judge.specs.Closing.{by_widest, try_answer, clause_type as close_clause_type}
+use Rattle.fort_judge.specs.Judging.{judged, judged_clause}
 use Rattle.fort_judge.proofs.Levels.{clause-is}
-use Rattle.fort_typing_laws.specs.Deciding.{IsType, AreTypes, IsAccepted, Decides}
+use Rattle.fort_typing_laws.specs.Deciding.{IsType, IsAccepted}
 use Rattle.fort_typing_laws.specs.Written.{IsWritten, AreBound}
 use Rattle.fort_typing_laws.specs.Exact.{IsFirst, FormBreaks, Answers, IsExactExpression, MayBeExact}
-use Rattle.fort_typing_laws.proofs.Types.{built_in_type, unit_type}
+use Rattle.fort_typing_laws.proofs.Types.{built_in_type}
 use Rattle.fort_typing_laws.proofs.Deciding.{is_decided}
 use Rattle.fort_typing_laws.proofs.Written.{ClauseWritten, MayBeWritten}
 use Rattle.fort_typing_laws.proofs.Typed.{all-types, typed-as, typed-cases}
-use Rattle.fort_typing_laws.proofs.Wide.{widest_is_computed, widest_told, none_told}
-use Rattle.fort_typing_laws.proofs.Answered.{Same, value_, unit_, st, mapped, at, at-level, mapped-typecase, mapped-try, clause-types, clause_goes, one_behind, nothing_behind, cases-answered}
+use Rattle.fort_typing_laws.proofs.Answered.{Same, value_, unit_, st, at-level, mapped-try, clause-types}
 use Rattle.fort_typing_laws.proofs.Asking.{Asked, kept_there, lacking, ask-exact, as-never, one-as}
 use Rattle.fort_typing_laws.proofs.Firsts.{no_more, alike, one_more, both}
 use Rattle.fort_typing_laws.proofs.Views.{BreaksAt, ShadowsCatch, FinallyBreaks, NoWidestTry}
-use Rattle.fort_typing_laws.proofs.Steps.{typed-so, broken-so, refused-so, of-layer, only-left}
-use Rattle.fort_typing_laws.proofs.Scopes.{not-both, some-not-none, lost_frame, Shadow, Watched, is_free, is_taken, watch-exact}
-use Rattle.fort_typing_laws.proofs.Choosing.{widest-so, ClauseExact, AreClauses, Cased, all_cased, one_lacking, cases-exact, never-cased, one-cases}
+use Rattle.fort_typing_laws.proofs.Steps.{broken-so, of-layer, only-left}
+use Rattle.fort_typing_laws.proofs.Scopes.{not-both, lost_frame, Watched, is_free, is_taken, watch-exact}
+use Rattle.fort_typing_laws.proofs.Choosing.{widest-so, AreClauses, Cased, all_cased, one_lacking, cases-exact, never-cased, one-cases}
 
 module _ (k : Knows) (A : IsAccepted k) where
   -- ---- parts one after another, as far as they have come
@@ -129,16 +119,20 @@ module _ (k : Knows) (A : IsAccepted k) where
         where
           own : Fault
           own = fault NOT_AN_EXCEPTION (out-TypeBranch b).place
+
           E : IsType k exception
           E = built_in_type k A 1 (omega arith)
+
           by : ((z : Frame) (new : Option Fault) → Caught more z new (catches k.facts (map (judged_clause k.facts) more) (st z bs new))) → (c : Bool) → is_below k.facts (rule.clause_type b) exception ≡ c
               → Caught (b ∷ more) y mid (catches k.facts (map (judged_clause k.facts) more) (cond c (st y bs mid) (st (is_broken y) bs (with_fault (fault NOT_AN_EXCEPTION (out-TypeBranch b).place) mid))))
           by rest true q = yes (rest y mid)
             where
               is_so : IsBelow k (rule.clause_type b) exception
               is_so = (is_decided k A).told (rule.clause_type b) exception W.0.0 (built_in_type k A 1 (omega arith)) q
+
               from : (f : Fault) → breaking.ExceptionBreaks k (b ∷ more) f → breaking.ExceptionBreaks k more f
               from f c = elim (caught-of b more f c) [ inl z ↦ absurd (z.0 is_so) | inr z ↦ z ]
+
               yes : Caught more y mid (catches k.facts (map (judged_clause k.facts) more) (st y bs mid)) → Caught (b ∷ more) y mid (catches k.facts (map (judged_clause k.facts) more) (st y bs mid))
               yes (all_caught h i e) = all_caught (is_so, h) (alike mid (breaking.ExceptionBreaks k more) (breaking.ExceptionBreaks k (b ∷ more)) mid (λ f c. breaking.next_type b more refl c) from i) e
               yes (not_caught f new c i e) = not_caught f new (breaking.next_type b more refl c)
@@ -147,6 +141,7 @@ module _ (k : Knows) (A : IsAccepted k) where
             where
               isnt : IsBelow k (rule.clause_type b) exception → ⊥
               isnt h = let z : true ≡ false = sym ((is_decided k A).below (rule.clause_type b) exception W.0.0 (built_in_type k A 1 (omega arith)) h) ∙ q in absurd cc
+
               first_of : (new : Option Fault) → IsFirst (with_fault (fault NOT_AN_EXCEPTION (out-TypeBranch b).place) mid) (breaking.ExceptionBreaks k more) new → IsFirst mid (breaking.ExceptionBreaks k (b ∷ more)) new
               first_of new j = alike mid (λ f. (f ≡ fault NOT_AN_EXCEPTION (out-TypeBranch b).place) ⊎ breaking.ExceptionBreaks k more f) (breaking.ExceptionBreaks k (b ∷ more)) new to back
                   (both mid (with_fault (fault NOT_AN_EXCEPTION (out-TypeBranch b).place) mid) new (λ f. f ≡ fault NOT_AN_EXCEPTION (out-TypeBranch b).place) (breaking.ExceptionBreaks k more)
@@ -155,8 +150,10 @@ module _ (k : Knows) (A : IsAccepted k) where
                   to : (f : Fault) → (f ≡ fault NOT_AN_EXCEPTION (out-TypeBranch b).place) ⊎ breaking.ExceptionBreaks k more f → breaking.ExceptionBreaks k (b ∷ more) f
                   to f (inl x) = breaking.this_type b more refl isnt x
                   to f (inr x) = breaking.next_type b more refl x
+
                   back : (f : Fault) → breaking.ExceptionBreaks k (b ∷ more) f → (f ≡ fault NOT_AN_EXCEPTION (out-TypeBranch b).place) ⊎ breaking.ExceptionBreaks k more f
                   back f c = elim (caught-of b more f c) [ inl z ↦ inl z.1 | inr z ↦ inr z ]
+
               no : Caught more (is_broken y) (with_fault (fault NOT_AN_EXCEPTION (out-TypeBranch b).place) mid) (catches k.facts (map (judged_clause k.facts) more) (st (is_broken y) bs (with_fault (fault NOT_AN_EXCEPTION (out-TypeBranch b).place) mid)))
                   → Caught (b ∷ more) y mid (catches k.facts (map (judged_clause k.facts) more) (st (is_broken y) bs (with_fault (fault NOT_AN_EXCEPTION (out-TypeBranch b).place) mid)))
               no (all_caught h i e) = not_caught (fault NOT_AN_EXCEPTION (out-TypeBranch b).place) (with_fault (fault NOT_AN_EXCEPTION (out-TypeBranch b).place) mid) (breaking.this_type b more refl isnt refl) (first_of _ i) e
@@ -238,6 +235,7 @@ module _ (k : Knows) (A : IsAccepted k) where
       where
         abbrev_goal : State → Type 0
         abbrev_goal s = Went bs mid CasesIfFresh (λ z. Unit {0}) (λ z. (vs : List TypedForm) × rule.HasCases k (Calls k) bs name branches vs × (z ≡ record y { second = y.second ++ vs })) y s
+
         by : (c : Bool) → rule.is_fresh k bs name ≡ c
             → Went bs mid CasesIfFresh (λ z. Unit {0}) (λ z. (vs : List TypedForm) × rule.HasCases k (Calls k) bs name branches vs × (z ≡ record y { second = y.second ++ vs })) y
             (unless_lost (cases k.facts name (map (judged_clause k.facts) branches)) (st y bs mid))
@@ -245,8 +243,10 @@ module _ (k : Knows) (A : IsAccepted k) where
           where
             known : unless_lost (cases k.facts name (map (judged_clause k.facts) branches)) (st y bs mid) ≡ cases k.facts name (map (judged_clause k.facts) branches) (st y bs mid)
             known = ap (λ c. cond c (st y bs mid) (cases k.facts name (map (judged_clause k.facts) branches) (st y bs mid))) (v.0 ∙ ap not q)
+
             fresh_first : (new : Option Fault) → IsFirst mid (breaking.BreaksCases k bs name branches) new → IsFirst mid CasesIfFresh new
             fresh_first new i = alike mid (breaking.BreaksCases k bs name branches) CasesIfFresh new (λ f c. (q, c)) (λ f c. c.1) i
+
             ask_them : Cased k A bs name branches y mid (cases k.facts name (map (judged_clause k.facts) branches) (st y bs mid))
                 → Went bs mid CasesIfFresh (λ z. Unit {0}) (λ z. (vs : List TypedForm) × rule.HasCases k (Calls k) bs name branches vs × (z ≡ record y { second = y.second ++ vs })) y
                 (unless_lost (cases k.facts name (map (judged_clause k.facts) branches)) (st y bs mid))
@@ -301,13 +301,13 @@ module _ (k : Knows) (A : IsAccepted k) where
     far =
         let f0 : Far bs found P0 Unlost G0 (st opened bs found) = fine opened found refl refl refl (no_more found P0 (λ f c. c)) refl in
         let f1 : Far bs found P1 Unlost G1 (ask k.facts a_slot.Head a_want.Value (judged k.facts b) (st opened bs found)) = go bs found P0 (breaking.BreaksAs k bs rule.a_value b) Unlost Unlost G0 Head (ask k.facts a_slot.Head a_want.Value (judged k.facts b))
-            (ask-went bs B Unlost a_slot.Head (λ y t l. l) (λ y l. l) (λ y t. refl) b W X rule.a_value a_want.Value value_) (st opened bs found) f0 in
+        (ask-went bs B Unlost a_slot.Head (λ y t l. l) (λ y l. l) (λ y t. refl) b W X rule.a_value a_want.Value value_) (st opened bs found) f0 in
         let f2 = go bs found P1 (ShadowsCatch k bs name) Unlost Watching G1 (λ y z. (fresh ≡ true) × (z ≡ y)) (watch k.facts name) (watched-by name refl) _ f1 in
         let f3 = go bs found P2 (breaking.ExceptionBreaks k branches) Watching Watching G2 (λ y z. rule.AreExceptions k branches × (z ≡ y)) (catches k.facts (map (judged_clause k.facts) branches)) caught-went _ f2 in
         let f4 = go bs found P3 CasesIfFresh Watching (λ z. Unit {0}) G3 (λ y z. (vs : List TypedForm) × rule.HasCases k (Calls k) bs name branches vs × (z ≡ record y { second = y.second ++ vs }))
-            (unless_lost (cases k.facts name (map (judged_clause k.facts) branches))) cased-went _ f3 in
+        (unless_lost (cases k.facts name (map (judged_clause k.facts) branches))) cased-went _ f3 in
         go bs found P4 (Behind bs B (rule.below unit) last) (λ z. Unit {0}) (λ z. Unit {0}) G4 (λ y z. (o : Option TypedForm) × HasBehind bs B (rule.below unit) last o × (z ≡ with_last bs B o y))
-            (ask_if k.facts a_slot.Last a_want.Unit (option_map (judged k.facts) last)) (λ y mid v. behind-went bs B last U Z (rule.below unit) a_want.Unit unit_ y mid) _ f4
+        (ask_if k.facts a_slot.Last a_want.Unit (option_map (judged k.facts) last)) (λ y mid v. behind-went bs B last U Z (rule.below unit) a_want.Unit unit_ y mid) _ f4
 
     to : (f : Fault) → P5 f → FormBreaks k bs e f
     to f (inl (inl (inl (inl (inl c))))) = absurd c
@@ -334,6 +334,7 @@ module _ (k : Knows) (A : IsAccepted k) where
         behind_ : (o : Option Form) → FinallyBreaks k bs o f → Behind bs B (rule.below unit) o f
         behind_ None x = x
         behind_ (Some d) x = x
+
         by : BreaksAt k bs (Form-F.Try p b name branches last) f → P5 f ⊎ Own f
         by (inl x) = inl (inl (inl (inl (inl (inr x)))))
         by (inr (inl x)) = inl (inl (inl (inl (inr x))))
@@ -389,6 +390,7 @@ module _ (k : Knows) (A : IsAccepted k) where
       where
         frame_is : z ≡ with_last bs B o (record opened { head = Some u; second = vs })
         frame_is = q5 ∙ ap (λ (y : Frame). with_last bs B o y) (q4 ∙ ap (λ (y : Frame). record y { second = y.second ++ vs }) (q3 ∙ q2 ∙ q1 ∙ ap (λ (y : Frame). kept a_slot.Head u y) q0))
+
         own : (f : Fault) → Own f → HasNoWidest k (type_of u ∷ types_of vs) × (f ≡ fault MISMATCH p)
         own f n =
             let eu = one-as k A bs B b W X rule.a_value u n.0 hu n.3 in
@@ -406,4 +408,3 @@ module _ (k : Knows) (A : IsAccepted k) where
             back g d = elim (from g d) [ inl x ↦ x | inr x ↦ absurd (no-own f c g x) ]
         by (fine z new v nb (y4, (y3, (y2, (y1, (y0, q0, (u, hu, q1)), (fr, q2)), (ex, q3)), (vs, hv, q4)), (o, hb, q5)) i q) =
             try-whole z y4 y3 y2 y1 y0 new u vs o q0 hu q1 fr q2 ex q3 hv q4 hb q5 i q
-

@@ -1,60 +1,45 @@
 -- What a `typecase` answers is exact where its parts are.
-use Rattle.std.proofs.Common.{◌≡◌, ◌⊎◌, inl, inr, ℕ, Bool, true, false, cond, not, List, [], ◌∷◌, ◌++◌, map, Option, Some, None, refl, arith, ap, ◌∙◌, sym, subst}
+use Rattle.std.proofs.Common.{◌≡◌, ◌⊎◌, inl, inr, Bool, true, false, cond, List, ◌++◌, map, Option, Some, None, refl, ap, ◌∙◌, sym, subst}
 use Rattle.std.specs.Prelude.{option_map}
 use Rattle.std.specs.List.{AllByRecursion}
 use Rattle.fort_base.specs.declared.ids.NameId.{NameId}
 use Rattle.fort_base.specs.declared.refusal.Place.{Place}
-use Rattle.fort_base.specs.declared.refusal.Rule.{Rule}
-use Rattle.fort_base.specs.declared.rules.TheConstants.{SHADOWS, MISMATCH, NOT_AN_EXCEPTION}
+use Rattle.fort_base.specs.declared.rules.TheConstants.{SHADOWS, MISMATCH}
 use Rattle.fort_base.specs.declared.ty.Ty.{Ty}
-use Rattle.fort_ops.specs.declared.op.Op.TheVariants as an_op
 use Rattle.fort_scope.specs.declared.binding.Binding.{Binding}
 use Rattle.fort_form.specs.declared.form.Form.{Form, out-Form}
 use Rattle.fort_form.specs.declared.form.Form.TheOpen.{Form-F}
-use Rattle.fort_form.specs.declared.form.Branch.{Branch}
-use Rattle.fort_form.specs.declared.form.TypeBranch.{TypeBranch, out-TypeBranch}
-use Rattle.fort_typed_form.specs.declared.typed_form.Chosen.{Chosen}
+use Rattle.fort_form.specs.declared.form.TypeBranch.{TypeBranch}
 use Rattle.fort_typed_form.specs.declared.typed_form.TypedForm.{TypedForm}
 use Rattle.fort_typed_form.specs.declared.typed_form.TypedForm.TheVariants as a_typed
 use Rattle.fort_known.specs.declared.fault.Fault.{Fault}
 use Rattle.fort_known.specs.Known.{Knows}
-use Rattle.fort_known.specs.Below.{is_below}
 use Rattle.fort_known.specs.Names.{is_visible}
-use Rattle.fort_known.specs.Sets.{operator_set}
-use Rattle.fort_called.specs.Called.{called}
-use Rattle.fort_called.specs.declared.called.Called.{Called}
-use Rattle.fort_called.specs.declared.called.Called.TheVariants as a_call
 use Rattle.fort_typing_rules.specs.Calls.{Calls}
-use Rattle.fort_typing_rules.specs.Types.{exception, boolean, unit, type_of, types_of, place_of, fault, IsBelow, IsWidest, HasNoWidest}
+use Rattle.fort_typing_rules.specs.Types.{type_of, types_of, fault, HasNoWidest}
 use Rattle.fort_typing_rules.specs.Typing as rule
 use Rattle.fort_typing_rules.specs.Breaking as breaking
-use Rattle.fort_judge.specs.declared.frame.Want.{Want}
 use Rattle.fort_judge.specs.declared.frame.Want.TheVariants as a_want
-use Rattle.fort_judge.specs.declared.frame.Slot.{Slot}
 use Rattle.fort_judge.specs.declared.frame.Slot.TheVariants as a_slot
 use Rattle.fort_judge.specs.declared.frame.Frame.{Frame}
-use Rattle.fort_judge.specs.Faults.{with_fault, breaks}
-use Rattle.fort_judge.specs.Tests.{value, untyped, widest}
-use Rattle.fort_judge.specs.Parts.{Judge, Clause, State, begin, opened, is_broken, kept, ask, ask_if, ask_with, unless_lost, back_to, watch, catches, cases, lost_if_broken, head_type, else_with}
-use Rattle.fort_judge.specs.Closing.{close_at, by_widest, typecase_answer, clause_type as close_clause_type}
-use Rattle.fort_judge.specs.Judging.{inside, judged, judged_clause}
-use Rattle.fort_judge.proofs.Levels.{clause-is}
-use Rattle.fort_typing_laws.specs.Deciding.{IsType, AreTypes, IsAccepted, Decides}
+use Rattle.fort_judge.specs.Tests.{untyped, widest}
+use Rattle.fort_judge.specs.Parts.{State, opened, is_broken, kept, ask, ask_with, unless_lost, watch, cases, lost_if_broken, head_type, else_with}
+use Rattle.fort_judge.specs.Closing.{by_widest, typecase_answer, clause_type as close_clause_type}
+use Rattle.fort_judge.specs.Judging.{judged, judged_clause}
+use Rattle.fort_typing_laws.specs.Deciding.{IsType, IsAccepted}
 use Rattle.fort_typing_laws.specs.Written.{IsWritten, AreBound}
 use Rattle.fort_typing_laws.specs.Exact.{IsFirst, FormBreaks, Answers, IsExactExpression, MayBeExact}
-use Rattle.fort_typing_laws.proofs.Types.{all_join, built_in_type, unit_type}
-use Rattle.fort_typing_laws.proofs.Deciding.{is_decided}
+use Rattle.fort_typing_laws.proofs.Types.{all_join}
 use Rattle.fort_typing_laws.proofs.Written.{ClauseWritten, MayBeWritten}
 use Rattle.fort_typing_laws.proofs.Typed.{all-types, typed-as, typed-cases, typed-else, clause-bound}
-use Rattle.fort_typing_laws.proofs.Wide.{widest_is_computed, widest_told, none_told}
-use Rattle.fort_typing_laws.proofs.Answered.{Same, value_, unit_, st, mapped, at, at-level, mapped-typecase, mapped-try, clause-types, clause_goes, one_behind, nothing_behind, cases-answered}
+use Rattle.fort_typing_laws.proofs.Answered.{value_, st, at-level, mapped-typecase, clause-types}
 use Rattle.fort_typing_laws.proofs.Asking.{Asked, kept_there, lacking, ask-exact, as-never, one-as}
-use Rattle.fort_typing_laws.proofs.Firsts.{no_more, alike, one_more, both}
-use Rattle.fort_typing_laws.proofs.Views.{BreaksAt, ElseBreaks, TypecaseBreaks}
-use Rattle.fort_typing_laws.proofs.Steps.{typed-so, broken-so, refused-so, of-layer, only-left}
-use Rattle.fort_typing_laws.proofs.Scopes.{not-both, some-not-none, lost_frame, Shadow, Watched, is_free, is_taken, watch-exact}
+use Rattle.fort_typing_laws.proofs.Firsts.{no_more, alike, both}
+use Rattle.fort_typing_laws.proofs.Views.{BreaksAt, ElseBreaks}
+use Rattle.fort_typing_laws.proofs.Steps.{broken-so, of-layer, only-left}
+use Rattle.fort_typing_laws.proofs.Scopes.{not-both, lost_frame, Shadow, Watched, is_free, is_taken, watch-exact}
 use Rattle.fort_typing_laws.proofs.Trying.{Far, fine, foul, Went, well, ill, still, go, with_last}
-use Rattle.fort_typing_laws.proofs.Choosing.{AskedWith, kept_with, lacking_with, ask-with-exact, widest-so, ClauseExact, AreClauses, Cased, all_cased, one_lacking, cases-exact, never-cased, one-cases}
+use Rattle.fort_typing_laws.proofs.Choosing.{AskedWith, kept_with, lacking_with, ask-with-exact, widest-so, AreClauses, Cased, all_cased, one_lacking, cases-exact, never-cased, one-cases}
 
 module _ (k : Knows) (A : IsAccepted k) (bs : List Binding) (B : AreBound k bs) (e : Form) (found : Option Fault) (p spot : Place) (n : NameId) (d : Form) (branches : List TypeBranch) (other : Option Form)
     (W : IsWritten k d) (V : AllByRecursion (ClauseWritten k) branches) (U : MayBeWritten k other) (X : IsExactExpression k d) (Y : AreClauses k A branches) (Z : MayBeExact k other)
@@ -124,6 +109,7 @@ module _ (k : Knows) (A : IsAccepted k) (bs : List Binding) (B : AreBound k bs) 
     where
       told : else_with k.facts bound (Some (judged k.facts x)) (st y bs mid) ≡ ask_with k.facts bound (type_of u) a_slot.Last (judged k.facts x) (st y bs mid)
       told = ap (λ (o : Option TypedForm). ask_with k.facts bound (head_type o) a_slot.Last (judged k.facts x) (st y bs mid)) hd
+
       by : AskedWith k A bs bound (type_of u) x a_slot.Last y mid (ask_with k.facts bound (type_of u) a_slot.Last (judged k.facts x) (st y bs mid))
           → ElseLeft u y mid (else_with k.facts bound (option_map (judged k.facts) (Some x)) (st y bs mid))
       by (kept_with t new h i r) = kept_else (Some t) new (rule.else_ x t (sym q) h refl) (subst (λ (o : Option Form). IsFirst mid (ElseBreaks k (inner u) o) new) q i) (told ∙ r)
@@ -282,8 +268,10 @@ module _ (k : Knows) (A : IsAccepted k) (bs : List Binding) (B : AreBound k bs) 
     where
       same : v ≡ u
       same = one-as k A bs B d W X rule.a_value v u hv hu
+
       frame_is : z ≡ with_last k A bs B w (record opened { head = Some u; second = vs })
       frame_is = q3 ∙ ap (λ (y : Frame). with_last k A bs B w (record y { second = y.second ++ vs })) (q2 ∙ ap (λ (y : Frame). told_frame (kept a_slot.Head v y)) (q1 ∙ q0) ∙ ap (λ (t : TypedForm). told_frame (kept a_slot.Head t opened)) same)
+
       own : (f : Fault) → Own f → HasNoWidest k (types_of vs ++ rule.else_types w) × (f ≡ fault MISMATCH p)
       own f o =
           let eu = one-as k A bs B d W X rule.a_value o.0 u o.4 hu in

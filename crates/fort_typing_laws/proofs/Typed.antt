@@ -1,5 +1,5 @@
 -- What has a type by the rules has a type of the component.
-use Rattle.std.proofs.Common.{◌≡◌, ◌<◌, ◌≤◌, ◌⊎◌, inl, inr, ℕ, zero, suc, nat_eq, nat_le, Bool, true, false, not, cond, ◌&&◌, ◌||◌, List, [], ◌∷◌, ◌++◌, length, map, Option, Some, None, rules, refl, arith, ap, ◌∙◌, sym, subst}
+use Rattle.std.proofs.Common.{◌≡◌, ◌<◌, ℕ, suc, nat_eq, nat_le, Bool, true, false, not, cond, ◌&&◌, List, [], ◌∷◌, ◌++◌, length, map, Option, Some, None, rules, refl, arith, ap, ◌∙◌, sym, subst}
 use Rattle.std.specs.List.{slice_get, AllByRecursion}
 use Rattle.std.proofs.lemmas.Option.{slice_get_within}
 use Rattle.fort_base.specs.declared.ids.NameId.{NameId}
@@ -10,14 +10,13 @@ use Rattle.fort_base.specs.declared.ty.Ty.{Ty, out-Ty}
 use Rattle.fort_base.specs.declared.ty.Ty.TheVariants as a_type
 use Rattle.fort_base.specs.declared.ty.Ty.TheOpen.{Ty-F}
 use Rattle.fort_set.specs.declared.field.Field.{Field}
-use Rattle.fort_set.specs.Leaves.{is_leaf, leaves_of}
-use Rattle.fort_types.specs.Hierarchy.{DeclaredTypes}
+use Rattle.fort_set.specs.Leaves.{is_leaf}
 use Rattle.fort_juxt.specs.declared.elements.Grouping.{Grouping}
 use Rattle.fort_scope.specs.declared.binding.Binding.{Binding}
-use Rattle.fort_form.specs.declared.form.Form.{Form, out-Form}
+use Rattle.fort_form.specs.declared.form.Form.{Form}
 use Rattle.fort_form.specs.declared.form.Item.{Item}
 use Rattle.fort_form.specs.declared.form.Branch.{Branch}
-use Rattle.fort_form.specs.declared.form.Generator.{Generator, out-Generator}
+use Rattle.fort_form.specs.declared.form.Generator.{Generator}
 use Rattle.fort_form.specs.declared.form.TypeBranch.{TypeBranch}
 use Rattle.fort_form.specs.declared.form.Parameter.{Parameter}
 use Rattle.fort_form.specs.declared.form.Reduction.{Reduction}
@@ -25,7 +24,7 @@ use Rattle.fort_typed_form.specs.declared.typed_form.Chosen.{Chosen}
 use Rattle.fort_typed_form.specs.declared.typed_form.TypedForm.{TypedForm, out-TypedForm, the_lemmas as typed_lemmas}
 use Rattle.fort_typed_form.specs.declared.typed_form.TypedForm.TheVariants as a_typed
 use Rattle.fort_typed_form.specs.declared.typed_form.TypedForm.TheOpen.{TypedForm-F}
-use Rattle.fort_known.specs.Known.{Facts, Knows}
+use Rattle.fort_known.specs.Known.{Knows}
 use Rattle.fort_known.specs.Names.{Standing, a_binding, a_field, a_variable, a_single, functions, nothing, bound, field_in, field_among, field_of, field_at, variable, is_so, is_leaf_number, is_object, object_of, single, standing_single, standing_top, standing_field, standing_within, standing_bound, standing, type_number}
 use Rattle.fort_known.specs.Sets.{is_function, spelled}
 use Rattle.fort_typing_rules.specs.declared.part.Part.{Part}
@@ -37,9 +36,9 @@ use Rattle.fort_typing_rules.specs.Elements as element
 use Rattle.fort_typing_rules.specs.Typing as rule
 use Rattle.fort_typing_laws.specs.Deciding.{IsType, AreTypes, IsAccepted}
 use Rattle.fort_typing_laws.specs.Written.{IsWritten, AreBound}
-use Rattle.fort_typing_laws.specs.Typed.{IsTyped, MeansTyped, AreTyped}
+use Rattle.fort_typing_laws.specs.Typed.{IsTyped, MeansTyped}
 use Rattle.fort_typing_laws.proofs.Types.{all_left, all_right, all_join, all_first, all_rest, all_item, nothing_type, named_type, tuple_type, array_type, arrow_type, sides_type, element_type, parts_type, result_is, built_in_type, unit_type}
-use Rattle.fort_typing_laws.proofs.Written.{AllWritten, BranchWritten, GeneratorWritten, ClauseWritten, MayBeWritten, ItemWritten, of-parts, of-item, tests-of, values-of}
+use Rattle.fort_typing_laws.proofs.Written.{AllWritten, BranchWritten, GeneratorWritten, ClauseWritten, MayBeWritten, ItemWritten, of-parts, of-item, values-of}
 
 shift : (n m : ℕ) → n < m → suc n < suc m
 shift n m l = omega arith

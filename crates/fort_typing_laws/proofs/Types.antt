@@ -1,11 +1,11 @@
 -- Lists all of whose items are types of the component, and below of such types.
-use Rattle.std.proofs.Common.{◌≡◌, ◌<◌, ◌≤◌, ◌↔◌, ℕ, zero, suc, Bool, true, false, ◌&&◌, IsTrue, List, [], ◌∷◌, ◌++◌, length, map, Some, refl, sym, ap, ◌∙◌, subst, rules, arith}
+use Rattle.std.proofs.Common.{◌≡◌, ◌<◌, ◌↔◌, ℕ, zero, suc, Bool, true, false, ◌&&◌, IsTrue, List, [], ◌∷◌, ◌++◌, length, map, Some, refl, sym, ap, ◌∙◌, subst, rules, arith}
 use Rattle.std.specs.List.{slice_get, AllByRecursion}
 use Rattle.fort_base.specs.declared.ids.TypeId.{TypeId}
 use Rattle.fort_base.specs.declared.ty.Ty.{Ty, out-Ty, the_lemmas}
 use Rattle.fort_base.specs.declared.ty.Ty.TheOpen.{Ty-F}
 use Rattle.fort_base.specs.declared.ty.Ty.TheVariants as a_type
-use Rattle.fort_types.specs.Types.{Below, IsNumbered, no_name, name, in_parts, in_sides, in_element, bottom, top, declared, parts as tuple_shape, function, elements, shape, shape_of}
+use Rattle.fort_types.specs.Types.{IsNumbered, no_name, name, in_parts, in_sides, in_element, bottom, declared, parts as tuple_shape, function, elements, shape, shape_of}
 use Rattle.fort_types.specs.Relation.{Relation, relation, each_below}
 use Rattle.fort_types.proofs.Asked.{relation_below}
 use Rattle.fort_set.specs.Applicable.{Along}
@@ -13,7 +13,7 @@ use Rattle.fort_set.specs.declared.member.Member.{Member}
 use Rattle.fort_set.specs.declared.member.MemberSet.{MemberSet}
 use Rattle.fort_known.specs.Known.{Knows}
 use Rattle.fort_known.specs.Below.{is_below, are_below}
-use Rattle.fort_typing_rules.specs.Types.{IsBelow, exception, zz32, zz64, string, boolean, unit, number_type}
+use Rattle.fort_typing_rules.specs.Types.{IsBelow, unit}
 use Rattle.fort_typing_laws.specs.Deciding.{IsType, AreTypes, IsAccepted}
 
 -- ---- lists all of whose items have a property

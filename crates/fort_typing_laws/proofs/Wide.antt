@@ -1,12 +1,11 @@
 -- The widest type of several, as the judge computes it.
-use Rattle.std.proofs.Common.{◌≡◌, ◌≤◌, ℕ, zero, suc, Bool, true, false, cond, List, [], ◌∷◌, slice_get, Option, Some, None, refl, arith, ap, ◌∙◌, sym, subst}
+use Rattle.std.proofs.Common.{◌≡◌, ◌≤◌, ℕ, zero, suc, Bool, true, false, cond, List, [], ◌∷◌, slice_get, Some, None, refl, arith, ap, ◌∙◌, sym, subst}
 use Rattle.fort_base.specs.declared.ty.Ty.{Ty}
 use Rattle.fort_known.specs.Known.{Knows}
 use Rattle.fort_known.specs.Below.{is_below}
 use Rattle.fort_typing_rules.specs.Types.{IsBelow, AreAllBelow, IsWidest, HasNoWidest}
 use Rattle.fort_judge.specs.Tests.{all_below, first_widest, widest}
 use Rattle.fort_typing_laws.specs.Deciding.{IsType, AreTypes, IsAccepted, Decides}
-use Rattle.fort_typing_laws.proofs.Types.{all_item}
 use Rattle.fort_typing_laws.proofs.Deciding.{is_decided}
 use Rattle.fort_typing_laws.specs.Laws.{WidestIsComputed}
 

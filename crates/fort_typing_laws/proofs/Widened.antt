@@ -1,20 +1,18 @@
 -- Widening, position by position, as it is computed.
-use Rattle.std.proofs.Common.{◌≡◌, ◌<◌, ◌↔◌, ◌⊎◌, inl, inr, ℕ, zero, suc, nat_eq, Bool, true, false, cond, not, ◌&&◌, ◌||◌, IsTrue, List, [], ◌∷◌, length, Option, Some, None, refl, ap, ◌∙◌, sym, subst, arith}
+use Rattle.std.proofs.Common.{◌≡◌, ◌↔◌, ◌⊎◌, inl, inr, ℕ, zero, suc, nat_eq, Bool, true, false, cond, not, ◌&&◌, ◌||◌, IsTrue, List, [], ◌∷◌, length, Some, refl, ap, ◌∙◌, sym, subst, arith}
 use Rattle.std.specs.Prelude.{get_or}
 use Rattle.std.specs.List.{slice_get}
 use Rattle.std.proofs.lemmas.Bool.{eq-eqb, eqb-true}
 use Rattle.fort_base.specs.declared.ids.TypeId.{TypeId}
 use Rattle.fort_base.specs.declared.ty.Ty.{Ty, out-Ty}
 use Rattle.fort_base.specs.declared.ty.Ty.TheOpen.{Ty-F}
-use Rattle.fort_base.specs.declared.ty.Ty.TheVariants as a_type
 use Rattle.fort_types.proofs.ByParts.{same_layers}
 use Rattle.fort_set.specs.Applicable.{Along}
-use Rattle.fort_set.specs.declared.member.Member.{Member}
 use Rattle.fort_call.specs.Widening.{IsWidened, Suits, WidenedAmong, AllKept, StandsFor, AllWidened}
 use Rattle.fort_known.specs.Known.{Knows}
 use Rattle.fort_known.specs.Below.{is_below}
 use Rattle.fort_called.specs.Fitting.{is_widened_at, is_widened, all_suit, contained, positions, widened_types}
-use Rattle.fort_typing_rules.specs.Types.{IsBelow, zz32_id, zz64_id, zz64}
+use Rattle.fort_typing_rules.specs.Types.{zz32_id, zz64_id, zz64}
 use Rattle.fort_typing_rules.specs.Calls.{to_zz64}
 use Rattle.fort_typing_laws.specs.Deciding.{IsType, AreTypes, IsAccepted}
 use Rattle.fort_typing_laws.proofs.Types.{below_is, built_in_type, out_named}

@@ -1,12 +1,12 @@
 -- The types that are written in the parts of a form.
-use Rattle.std.proofs.Common.{◌≡◌, ℕ, Bool, List, [], ◌∷◌, ◌++◌, map, Option, Some, None, rules, refl, ap, ◌∙◌, sym, subst}
+use Rattle.std.proofs.Common.{◌≡◌, List, [], ◌∷◌, ◌++◌, map, Option, Some, None, rules, subst}
 use Rattle.std.specs.Prelude.{option_map}
 use Rattle.std.specs.List.{AllByRecursion}
 use Rattle.fort_base.specs.declared.ty.Ty.{Ty}
 use Rattle.fort_form.specs.declared.form.Form.{Form, out-Form, map-Form, fold_out-Form, the_lemmas}
 use Rattle.fort_form.specs.declared.form.Form.TheOpen.{Form-F, Item-F}
 use Rattle.fort_form.specs.declared.form.Item.{Item, out-Item, map-Item, fold_out-Item}
-use Rattle.fort_form.specs.declared.form.Branch.{Branch, out-Branch}
+use Rattle.fort_form.specs.declared.form.Branch.{Branch}
 use Rattle.fort_form.specs.declared.form.Generator.{Generator, out-Generator}
 use Rattle.fort_form.specs.declared.form.TypeBranch.{TypeBranch, out-TypeBranch}
 use Rattle.fort_form.specs.declared.form.Parameter.{Parameter}

@@ -1,5 +1,5 @@
 -- The chapter "Typing", which refusal comes: what a form answers is what it is by the rules, and what it finds is the first of the rules that it breaks.
-use Rattle.std.specs.Prelude.{◌≡◌, ◌⊎◌, Bool, true, false, List, [], ◌∷◌, length, map, Option, Some, None}
+use Rattle.std.specs.Prelude.{◌≡◌, ◌⊎◌, true, false, List, [], ◌∷◌, length, map, Option, Some, None}
 use Rattle.std.specs.List.{AllByRecursion}
 use Rattle.fort_base.specs.declared.ids.NameId.{NameId}
 use Rattle.fort_scope.specs.declared.binding.Binding.{Binding}

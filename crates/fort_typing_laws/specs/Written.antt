@@ -1,5 +1,5 @@
 -- The chapter "Typing": the types that are written in a form.
-use Rattle.std.specs.Prelude.{Bool, List, [], ◌∷◌, ◌++◌, map, Option, Some, None}
+use Rattle.std.specs.Prelude.{List, [], ◌∷◌, ◌++◌, map, Option, Some, None}
 use Rattle.std.specs.List.{AllByRecursion}
 use Rattle.fort_base.specs.declared.ty.Ty.{Ty}
 use Rattle.fort_form.specs.declared.form.Form.{Form, fold-Form}
