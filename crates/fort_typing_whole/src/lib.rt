@@ -1,0 +1,2 @@
+//! What a component becomes by the judge of typing, or its first broken rule: definitions.
+#![tactic(auto)]
