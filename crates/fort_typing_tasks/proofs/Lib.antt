@@ -1,0 +1,4 @@
+pub mod Levels
+pub mod Single
+pub mod Known
+pub mod Binders
