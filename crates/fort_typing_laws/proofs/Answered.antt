@@ -1071,7 +1071,7 @@ module _ (k : Knows) (A : IsAccepted k) where
         ∙ parts-answered rest B F.1 (record wf { parts = wf.parts ++ rule.part d m ∷ [] }) found
         ∙ ap (λ (x : List Part). st (record wf { parts = x }) bs found) (one_behind wf.parts qs (rule.part d m) ∙ ap (λ (x : List Part). wf.parts ++ x) (sym e2))
 
-    means-answered : {bs : List Binding} {e : Form} {m : Meaning} → rule.Means k (Calls k) bs e m → AreBound k bs → IsWritten k e → Element bs e m
+    pub means-answered : {bs : List Binding} {e : Form} {m : Meaning} → rule.Means k (Calls k) bs e m → AreBound k bs → IsWritten k e → Element bs e m
     means-answered {bs = bs} {e = e} (rule.a_named name (rule.names p is s) me) B W found =
         (a_meaning.Functions name, at e bs found (st opened bs found) is refl (closes-name p name bs found functions s), sym me, refl)
     means-answered {bs = bs} {e = e} (rule.a_valued t h me) B W found =

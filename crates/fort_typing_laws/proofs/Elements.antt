@@ -41,10 +41,10 @@ module _ (k : Knows) (A : IsAccepted k) (bs : List Binding) (B : AreBound k bs) 
   -- ---- one element
 
   module _ (d : Form) (W : IsWritten k d) (X : IsExact k d) where
-    abbrev PartBreaks : Fault → Type 0
+    abbrev pub PartBreaks : Fault → Type 0
     PartBreaks f = breaking.BreaksPart k bs d f
 
-    abbrev IsNothing : Fault → Type 0
+    abbrev pub IsNothing : Fault → Type 0
     IsNothing f = (t : TypedForm) × rule.Has k (Calls k) bs d t × (is_nothing (type_of t) ≡ true) × (f ≡ fault MISMATCH (place_of d))
 
     postfix-part : (x : Form-F Form Item Branch Generator TypeBranch) → out-Form d ≡ x → (f : Fault) → PostfixBreaks k bs x f → PartBreaks f
@@ -57,7 +57,7 @@ module _ (k : Knows) (A : IsAccepted k) (bs : List Binding) (B : AreBound k bs) 
     form-part f (inl b) = breaking.in_atom b
     form-part f (inr b) = postfix-part (out-Form d) refl f b
 
-    part-form : (f : Fault) → PartBreaks f → FormBreaks k bs d f ⊎ IsNothing f
+    pub part-form : (f : Fault) → PartBreaks f → FormBreaks k bs d f ⊎ IsNothing f
     part-form f (breaking.in_atom b) = inl (inl b)
     part-form f (breaking.a_nothing t h n x) = inr (t, h, n, x)
     part-form f (breaking.in_index p i is b) = inl (inr (subst (λ z. PostfixBreaks k bs z f) (sym is) b))

@@ -26,3 +26,8 @@ pub mod Exactly
 pub mod Elements
 pub mod Rewriting
 pub mod Runs
+pub mod Pairs
+pub mod Stepping
+pub mod Becoming
+pub mod Asked
+pub mod Tight

@@ -38,7 +38,7 @@ pub fn has_is_answered()
     ensures one { OneTypedForm }
 {}
 
-/// A law, of an accepted component: a form that is neither a run nor a juxtaposition answers exactly where its parts do: with a type that it has, as
+/// A law, of an accepted component: a form that is no juxtaposition answers exactly where its parts do: with a type that it has, as
 /// the function set's name that it is, or with none where it breaks a rule; and what is found is the first of the rules that it breaks. An exact
 /// expression has a type, is such a name, or breaks a rule; and what has a type breaks none.
 pub fn forms_are_exact()
