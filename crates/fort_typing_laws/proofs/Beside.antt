@@ -66,7 +66,7 @@ module _ (k : Knows) (A : IsAccepted k) where
     unfolding grows
     grows-out g = fold_out-Grouping Grows (grows_at k.facts ps) g
 
-    from : (g : Grouping) {x : Grouping-F Grouping} (found : Option Fault) → out-Grouping g ≡ x → grows k.facts ps g found ≡ grows_at k.facts ps (map-Grouping Grouping Grows (grows k.facts ps) x) found
+    pub from : (g : Grouping) {x : Grouping-F Grouping} (found : Option Fault) → out-Grouping g ≡ x → grows k.facts ps g found ≡ grows_at k.facts ps (map-Grouping Grouping Grows (grows k.facts ps) x) found
     from g found is = ap (λ (f : Grows). f found) (grows-out g ∙ ap (λ y. grows_at k.facts ps (map-Grouping Grouping Grows (grows k.facts ps) y)) is)
 
     -- what two parts give is the element that it is said to be

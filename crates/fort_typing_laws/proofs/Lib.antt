@@ -31,3 +31,5 @@ pub mod Stepping
 pub mod Becoming
 pub mod Asked
 pub mod Tight
+pub mod Growing
+pub mod Chunks

@@ -27,7 +27,7 @@ abbrev list_of : Option (ℕ × List Element) → List Element
 list_of (Some (n, es)) = es
 list_of None = []
 
-abbrev Met : (List Element → Bool) → ℕ → List Element → ℕ → List Element → Type 0
+abbrev pub Met : (List Element → Bool) → ℕ → List Element → ℕ → List Element → Type 0
 Met test n es m rest = (before : List Element) × (m ≡ n + length before) × IsFirst test es before rest
 
 met-here : (test : List Element → Bool) (n m : ℕ) (es rest : List Element) → test es ≡ true → a_place n es ≡ a_place m rest → Met test n es m rest
@@ -44,7 +44,7 @@ met-behind : (test : List Element → Bool) (n m : ℕ) (e : Element) (es rest :
 met-behind test n m e es rest f (before, q, first) =
     (e ∷ before, omega arith, record { divided = ap (λ xs. e ∷ xs) first.divided; met = first.met; least = least-behind test e es before rest f first })
 
-first-told : (test : List Element → Bool) (n m : ℕ) (es rest : List Element) → first_place test n es ≡ Some (m, rest) → Met test n es m rest
+pub first-told : (test : List Element → Bool) (n m : ℕ) (es rest : List Element) → first_place test n es ≡ Some (m, rest) → Met test n es m rest
 first-told test n m [] rest e = by (test []) refl e
   where
     by : (c : Bool) → test [] ≡ c → cond c (a_place n []) no_place ≡ a_place m rest → Met test n [] m rest
@@ -64,7 +64,7 @@ none-of-none : (test : List Element → Bool) → test [] ≡ false → (b r : L
 none-of-none test f [] r d = ap test (sym d) ∙ f
 none-of-none test f (x ∷ b) r d = absurd cc
 
-nowhere-told : (test : List Element → Bool) (n : ℕ) (es : List Element) → first_place test n es ≡ None → IsNowhere test es
+pub nowhere-told : (test : List Element → Bool) (n : ℕ) (es : List Element) → first_place test n es ≡ None → IsNowhere test es
 nowhere-told test n [] e = by (test []) refl e
   where
     by : (c : Bool) → test [] ≡ c → cond c (a_place n []) no_place ≡ no_place → IsNowhere test []
