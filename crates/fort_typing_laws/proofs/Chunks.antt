@@ -81,9 +81,10 @@ module _ (k : Knows) (A : IsAccepted k) (ps : List Part) (T : AreTyped k ps) whe
 
   slots-of : (qs : List Part) (j : ℕ) → AllFit qs → NoPostfix qs → ((m : ℕ) → slice_get ps (j + m) ≡ slice_get qs m) → Slots j (rule.elements qs)
   slots-of [] j F N get = tt
-  slots-of (q ∷ qs) j F N get =
-      ((q, ap (slice_get ps) (let z : j ≡ j + 0 = omega arith in z) ∙ get 0, refl, F.0, N.0),
-      slots-of qs (j + 1) F.1 N.1 (λ m. ap (slice_get ps) (let z : (j + 1) + m ≡ j + suc m = omega arith in z) ∙ get (suc m)))
+  slots-of (q ∷ qs) j F N get = (
+    (q, ap (slice_get ps) (let z : j ≡ j + 0 = omega arith in z) ∙ get 0, refl, F.0, N.0),
+    slots-of qs (j + 1) F.1 N.1 (λ m. ap (slice_get ps) (let z : (j + 1) + m ≡ j + suc m = omega arith in z) ∙ get (suc m)),
+  )
 
   slots-left : (xs ys : List Element) (j : ℕ) → Slots j (xs ++ ys) → Slots j xs
   slots-left [] ys j S = tt
@@ -118,9 +119,11 @@ module _ (k : Knows) (A : IsAccepted k) (ps : List Part) (T : AreTyped k ps) whe
   applied-step : (j : ℕ) (f : Element) (gs : List Grouping) → Slot j f → f.function ≡ true → Single (applied gs) → Single (applied (a_grouping.One j ∷ gs))
   applied-step j f [] S n (h, e, G) = absurd cc
   applied-step j f (x ∷ xs) (p, at, is, F, z) n (h, e, G) =
-      let q : applied_to x xs ≡ h = cc in
-      (a_grouping.Apply (a_grouping.One j) (applied_to x xs), refl,
-      good_apply (a_grouping.One j) (applied_to x xs) j p (out_apply (a_grouping.One j) (applied_to x xs)) (out_one j) at (ap (λ (y : Element). y.function) is ∙ n) (subst (Good k A ps T) (sym q) G))
+      let q : applied_to x xs ≡ h = cc in (
+        a_grouping.Apply (a_grouping.One j) (applied_to x xs),
+        refl,
+        good_apply (a_grouping.One j) (applied_to x xs) j p (out_apply (a_grouping.One j) (applied_to x xs)) (out_one j) at (ap (λ (y : Element). y.function) is ∙ n) (subst (Good k A ps T) (sym q) G),
+      )
 
   applied-good : (fs : List Element) (j : ℕ) (g : Grouping) → Slots j fs → AreFunctions true fs → Good k A ps T g → Single (applied (units j (length fs) ++ g ∷ []))
   applied-good [] j g S O G = (g, refl, G)
@@ -137,7 +140,7 @@ module _ (k : Knows) (A : IsAccepted k) (ps : List Part) (T : AreTyped k ps) whe
   lists-good fs (o ∷ os) j S filled F O L =
       let R = slots-right fs (o ∷ os) j S in
       applied-good fs j (joined_to (a_grouping.One (j + length fs)) (units ((j + length fs) + 1) (length os))) (slots-left fs (o ∷ os) j S) F
-          (joined-to-good (a_grouping.One (j + length fs)) (units ((j + length fs) + 1) (length os)) (other-value (j + length fs) o R.0 O.0) (others-good os ((j + length fs) + 1) R.1 O.1))
+      (joined-to-good (a_grouping.One (j + length fs)) (units ((j + length fs) + 1) (length os)) (other-value (j + length fs) o R.0 O.0) (others-good os ((j + length fs) + 1) R.1 O.1))
 
   -- where a chunk has no others, it is the last one
   last-of : (c : Chunk) (cs : List Chunk) → AreApart (c ∷ cs) → Unended (all_elements (c ∷ cs)) → c.others ≡ [] → LastUnnamed c.functions
@@ -153,7 +156,7 @@ module _ (k : Knows) (A : IsAccepted k) (ps : List Part) (T : AreTyped k ps) whe
   chunks-good (c ∷ cs) j S C P never =
       let r = lists-good c.functions c.others j (slots-left (chunk_elements c) (all_elements cs) j S) C.0.filled C.0.functions C.0.others (last-of c cs P never) in
       subst (λ (gs : List Grouping). AllGood (gs ++ chunk_groups (j + length (chunk_elements c)) cs)) (sym r.1)
-          (r.2, chunks-good cs (j + length (chunk_elements c)) (slots-right (chunk_elements c) (all_elements cs) j S) C.1 (apart-rest c cs P) (unended-right (chunk_elements c) (all_elements cs) never))
+      (r.2, chunks-good cs (j + length (chunk_elements c)) (slots-right (chunk_elements c) (all_elements cs) j S) C.1 (apart-rest c cs P) (unended-right (chunk_elements c) (all_elements cs) never))
 
   -- The grouping of elements none of which is a postfix, where there are some.
   pub grouping-good : AllFit ps → NoPostfix ps → IsNowhere name_ends (rule.elements ps) → (rule.elements ps ≡ [] → ⊥) → (chunks : List Chunk) → IsDivision (rule.elements ps) chunks
@@ -163,7 +166,8 @@ module _ (k : Knows) (A : IsAccepted k) (ps : List Part) (T : AreTyped k ps) whe
       let S : Slots 0 (all_elements (c ∷ cs)) = subst (Slots 0) (sym D.whole) (slots-of ps 0 F N (λ m. ap (slice_get ps) (let z : 0 + m ≡ m = omega arith in z))) in
       let U : Unended (all_elements (c ∷ cs)) = subst Unended (sym D.whole) (λ b r d. never.unmet b r d) in
       let first = lists-good c.functions c.others 0 (slots-left (chunk_elements c) (all_elements cs) 0 S) D.each.0.filled D.each.0.functions D.each.0.others (last-of c cs D.apart U) in
-      let rest = chunks-good cs (0 + length (chunk_elements c)) (slots-right (chunk_elements c) (all_elements cs) 0 S) D.each.1 (apart-rest c cs D.apart) (unended-right (chunk_elements c) (all_elements cs) U) in
-      (joined_to first.0 (chunk_groups (0 + length (chunk_elements c)) cs),
-      ap (λ (gs : List Grouping). joined (gs ++ chunk_groups (0 + length (chunk_elements c)) cs)) first.1,
-      joined-to-good first.0 (chunk_groups (0 + length (chunk_elements c)) cs) first.2 rest)
+      let rest = chunks-good cs (0 + length (chunk_elements c)) (slots-right (chunk_elements c) (all_elements cs) 0 S) D.each.1 (apart-rest c cs D.apart) (unended-right (chunk_elements c) (all_elements cs) U) in (
+        joined_to first.0 (chunk_groups (0 + length (chunk_elements c)) cs),
+        ap (λ (gs : List Grouping). joined (gs ++ chunk_groups (0 + length (chunk_elements c)) cs)) first.1,
+        joined-to-good first.0 (chunk_groups (0 + length (chunk_elements c)) cs) first.2 rest,
+      )

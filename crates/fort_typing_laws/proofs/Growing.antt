@@ -274,18 +274,21 @@ module _ (k : Knows) (A : IsAccepted k) (ps : List Part) (T : AreTyped k ps) whe
   Sum a b Way f = (SideBreaks a f ⊎ SideBreaks b f) ⊎ Own a b Way f
 
   module _ (g a b : Grouping) (Way : Part → Part → rule.Made → Type 0) (way : Part → Part → Made)
-    (does_so : (p r : Part) (m : rule.Made) → Grouped a p → Grouped b r → Way (rule.as_part p) (rule.as_part r) m → Grouped g (rule.made p.place (rule.meaning_of true m)))
-    (stops_so : (p r : Part) → Grouped a p → Grouped b r → rule.is_unknown (rule.as_part p) || rule.is_unknown (rule.as_part r) ≡ true → Grouped g (rule.made p.place a_meaning.Unknown))
-    (is_so : (p r : Part) (m : rule.Made) → Grouped a p → Grouped b r → Way (rule.as_part p) (rule.as_part r) m → way (rule.as_part p) (rule.as_part r) ≡ to m)
-    (grows_so : (found : Option Fault) → grows k.facts ps g found ≡ grows_two way (grows k.facts ps a) (grows k.facts ps b) found)
-    (split : (f : Fault) → GroupBreaks g f → Sum a b Way f) (join : (f : Fault) → Sum a b Way f → GroupBreaks g f) where
-
+      (does_so : (p r : Part) (m : rule.Made) → Grouped a p → Grouped b r → Way (rule.as_part p) (rule.as_part r) m → Grouped g (rule.made p.place (rule.meaning_of true m)))
+      (stops_so : (p r : Part) → Grouped a p → Grouped b r → rule.is_unknown (rule.as_part p) || rule.is_unknown (rule.as_part r) ≡ true → Grouped g (rule.made p.place a_meaning.Unknown))
+      (is_so : (p r : Part) (m : rule.Made) → Grouped a p → Grouped b r → Way (rule.as_part p) (rule.as_part r) m → way (rule.as_part p) (rule.as_part r) ≡ to m)
+      (grows_so : (found : Option Fault) → grows k.facts ps g found ≡ grows_two way (grows k.facts ps a) (grows k.facts ps b) found)
+      (split : (f : Fault) → GroupBreaks g f → Sum a b Way f) (join : (f : Fault) → Sum a b Way f → GroupBreaks g f) where
     module _ (p r : Part) (G : Grouped a p) (H : Grouped b r) where
       -- what two break by themselves is what is computed of them
       own-made : (f : Fault) → Own a b Way f → (l : Rule) × (at : Place) × (way (rule.as_part p) (rule.as_part r) ≡ to (rule.breaks l at)) × (f ≡ fault l at)
-      own-made f (p2, r2, l, at, G2, H2, w, x) =
-          (l, at, ap (λ (z : Part). way (rule.as_part z) (rule.as_part r)) (one-grouped a p p2 G G2) ∙ ap (λ (z : Part). way (rule.as_part p2) (rule.as_part z)) (one-grouped b r r2 H H2)
-          ∙ is_so p2 r2 (rule.breaks l at) G2 H2 w, x)
+      own-made f (p2, r2, l, at, G2, H2, w, x) = (
+        l,
+        at,
+        ap (λ (z : Part). way (rule.as_part z) (rule.as_part r)) (one-grouped a p p2 G G2) ∙ ap (λ (z : Part). way (rule.as_part p2) (rule.as_part z)) (one-grouped b r r2 H H2)
+            ∙ is_so p2 r2 (rule.breaks l at) G2 H2 w,
+        x,
+      )
 
       none-own : (c : Made) → way (rule.as_part p) (rule.as_part r) ≡ c → ((x : Fault) → c ≡ a_made.Breaks x → ⊥) → (f : Fault) → Own a b Way f → ⊥
       none-own c e not f o = let z = own-made f o in not (fault z.0 z.1) (sym e ∙ z.2)
