@@ -1,8 +1,15 @@
 -- Chapter "Store and effects": what calls on layers do.
-use Rattle.std.specs.Prelude.{◌≡◌, ℕ, Bool, true, false, Option, Some, None}
+use Rattle.std.specs.Prelude.{◌≡◌, ℕ, ◌+◌, ◌<◌, Bool, true, false, List, [], ◌∷◌, ◌++◌, Option, Some, None}
 use Rattle.fort_core.specs.declared.value.Value.{Value}
-use Rattle.fort_machine.specs.Effects.{Effect, FitsAll, reading, writing}
+use Rattle.fort_machine.specs.Cells as machine
+use Rattle.fort_machine.specs.Cells.{found, made, joined}
+use Rattle.fort_machine.specs.Effects.{Store, Effect, FitsAll, only_at, reading, writing}
+use Rattle.fort_machine.specs.Marked.{Marks}
+use Rattle.fort_machine.specs.Plain.{put}
+use Rattle.fort_machine.specs.Attempts.{AreRead, Rising}
+use Rattle.fort_effects.specs.Cells.{cell}
 use Rattle.fort_effects.specs.Levels.{Levels, seen, added}
+use Rattle.fort_effects.specs.declared.cell.Cell.{Cell}
 
 -- The innermost machine does something on the store that it sees: the store suits it, and nothing else is done.
 pub record Adds (d : Effect) (old new : Levels) : Type 0 where
@@ -18,3 +25,41 @@ Reads l old new (Some v) = (seen old l ≡ Some v) × Adds (reading l v) old new
 abbrev pub Writes : ℕ → Value → Levels → Levels → Bool → Type 0
 Writes l v old new true = Adds (writing l v) old new
 Writes l v old new false = (seen old l ≡ None) × (new ≡ old)
+
+-- A store has none of so many consecutive locations, the first of a number.
+abbrev pub AreFree : ℕ → ℕ → Store → Type 0
+AreFree l count s = (n : ℕ) → n < count → s (l + n) ≡ None
+
+-- A value is put at a location of a store, where there is one to put.
+abbrev pub PutAt : ℕ → Option Value → Store → Store → Type 0
+PutAt l None old new = new ≡ old
+PutAt l (Some v) old new = new ≡ put l v old
+
+-- A location of an attempt is made with a value, where there is one.
+abbrev pub MadeAt : ℕ → Option Value → (ℕ → machine.Cell) → (ℕ → machine.Cell) → Type 0
+MadeAt l None old new = new ≡ old
+MadeAt l (Some v) old new = new ≡ (λ k. joined (old k) (only_at l (made (Some v)) k))
+
+-- The mark of a location by its cell: with the value that was read, if one was.
+abbrev pub mark_of : ℕ → machine.Cell → Marks
+mark_of l (found (Some v) now) = (record { 0 = l }, v) ∷ []
+mark_of l _ = []
+
+-- The marks of cells, in their order.
+abbrev pub reads_of : List (ℕ × Cell) → Marks
+reads_of [] = []
+reads_of (e ∷ es) = mark_of e.0 (cell e.1) ++ reads_of es
+
+-- Marks with that of one location more.
+abbrev pub MarksAdded : Marks → ℕ → Cell → Marks → Type 0
+MarksAdded old l c new = new ≡ old ++ mark_of l (cell c)
+
+-- Marks with that of one of several cells more, where there is one.
+abbrev pub MarksNoted : Marks → Option (ℕ × Cell) → Marks → Type 0
+MarksNoted old None new = new ≡ old
+MarksNoted old (Some e) new = MarksAdded old e.0 e.1 new
+
+-- Marks are what the innermost of attempts read, in rising order.
+abbrev pub AreMarks : Marks → List Effect → Type 0
+AreMarks marks [] = ⊥
+AreMarks marks (e ∷ es) = AreRead marks e × Rising marks

@@ -102,6 +102,11 @@ abbrev pub IsOpen : Store → List Effect → Type 0
 IsOpen s [] = ⊥
 IsOpen s (e ∷ es) = FitsAll e (through s es)
 
+-- An attempt is open.
+abbrev pub HasAttempt : List Effect → Type 0
+HasAttempt [] = ⊥
+HasAttempt (e ∷ es) = Unit {0}
+
 -- The sum of what attempts cost, each 1 for itself.
 abbrev pub attempts_cost : List Effect → ℕ
 attempts_cost [] = 0

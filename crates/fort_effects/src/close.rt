@@ -146,14 +146,13 @@ impl Layers {
             cost,
             top,
             mut below,
-            next,
         } = self;
         let layer = match top {
             None => return Err(Memory),
             Some(layer) => layer,
         };
         match below.pop() {
-            None => close_root(store, output, cost, layer, closing, next),
+            None => close_root(store, output, cost, layer, closing),
             Some(parent) => {
                 let whole = merged(parent, layer, closing)?;
                 Ok(Layers {
@@ -162,7 +161,6 @@ impl Layers {
                     cost,
                     top: Some(whole),
                     below,
-                    next,
                 })
             }
         }
@@ -177,7 +175,6 @@ fn close_root(
     cost: u64,
     layer: Layer,
     closing: Closing,
-    next: u64,
 ) -> Result<Layers, Memory>
     requires fits { FitsAll (effect_of layer) (held store) }
     requires room { cost + 1 + layer.cost < 2 ^ 64 }
@@ -195,6 +192,5 @@ fn close_root(
         cost: cost + 1 + paid,
         top: None,
         below,
-        next,
     })
 }

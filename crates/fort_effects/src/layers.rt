@@ -25,8 +25,13 @@ pub struct Layers {
     // The innermost attempt, and those round it, the outermost one first; without the innermost one they don't count.
     pub(crate) top: Option<Layer>,
     pub(crate) below: List<Layer>,
-    // No location was made from this number on.
-    pub(crate) next: u64,
+}
+
+/// What the root's run printed, in UTF-8, and what it cost.
+#[derive(Drop)]
+pub struct Account {
+    pub output: Bytes,
+    pub cost: u64,
 }
 
 impl Layers {
@@ -44,7 +49,6 @@ impl Layers {
             cost: 0,
             top: None,
             below: List::new(alloc),
-            next: behind(program),
         })
     }
 
@@ -138,7 +142,6 @@ impl Layers {
             cost,
             top,
             below,
-            next,
         } = self;
         Ok(Layers {
             store,
@@ -146,8 +149,22 @@ impl Layers {
             cost,
             top: Some(Layer::new(alloc)),
             below: put_below(alloc, top, below)?,
-            next,
         })
+    }
+
+    /// What the root's run printed and cost, without the attempts that are open; it takes no memory.
+    pub fn account(self) -> Account
+        ensures output { result.output ≡ (levels_of self).output }
+        ensures cost { result.cost ≡ (levels_of self).cost }
+    {
+        let Layers {
+            store: _store,
+            output,
+            cost,
+            top: _top,
+            below: _below,
+        } = self;
+        Account { output, cost }
     }
 
     // A value that stands at a location was read.
@@ -209,17 +226,6 @@ fn put_below(alloc: Global, top: Option<Layer>, below: List<Layer>) -> Result<Li
             Ok(all)
         }
     }
-}
-
-// The first number behind all locations of the opening store, or the last number of all.
-fn behind(program: &Program) -> u64 {
-    let mut next = 0;
-    for (loc, _) in program.opening.as_slice() {
-        if loc.0 >= next {
-            next = loc.0.saturating_add(1);
-        }
-    }
-    next
 }
 
 // The value at a location as attempts leave it, the outermost one first.

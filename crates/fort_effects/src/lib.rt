@@ -6,7 +6,9 @@ mod cell;
 mod close;
 mod layer;
 mod layers;
+mod make;
+mod marks;
 
 pub use cell::{Cell, Closing, Left};
 pub use layer::Layer;
-pub use layers::Layers;
+pub use layers::{Account, Layers};
