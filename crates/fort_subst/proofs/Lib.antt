@@ -1,0 +1,4 @@
+pub mod Equations
+pub mod HeldSteps
+pub mod SameBody
+pub mod Tries
