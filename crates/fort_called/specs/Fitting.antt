@@ -3,6 +3,7 @@ use Rattle.std.specs.Prelude.{◌≡◌, ℕ, nat_eq, Bool, true, false, cond, n
 use Rattle.fort_base.specs.declared.ty.Ty.{Ty, out-Ty}
 use Rattle.fort_base.specs.declared.ty.Ty.TheVariants as a_type
 use Rattle.fort_base.specs.declared.ty.Ty.TheOpen.{Ty-F}
+use Rattle.fort_builtin.specs.declared.types.TheConstants.{ZZ32, ZZ64}
 use Rattle.fort_set.specs.declared.member.Member.{Member}
 use Rattle.fort_known.specs.Known.{Facts}
 use Rattle.fort_known.specs.Below.{is_below, are_below}
@@ -10,7 +11,7 @@ use Rattle.fort_known.specs.Below.{is_below, are_below}
 -- ---- widening
 
 abbrev pub is_widened_at : Ty-F Ty → Ty-F Ty → Bool
-is_widened_at (Ty-F.Named i) (Ty-F.Named j) = nat_eq i.0 2 && nat_eq j.0 3
+is_widened_at (Ty-F.Named i) (Ty-F.Named j) = nat_eq i.0 ZZ32.0 && nat_eq j.0 ZZ64.0
 is_widened_at _ _ = false
 
 -- a type is widened to a parameter: it is ZZ32, and the parameter is ZZ64
@@ -41,7 +42,7 @@ positions (x ∷ xs) (p ∷ ps) = is_widened x p ∷ positions xs ps
 abbrev pub widened_types : List Ty → List Ty → List Ty
 widened_types [] ps = []
 widened_types (x ∷ xs) [] = x ∷ widened_types xs []
-widened_types (x ∷ xs) (p ∷ ps) = cond (is_widened x p) (a_type.Named (record { 0 = 3 })) x ∷ widened_types xs ps
+widened_types (x ∷ xs) (p ∷ ps) = cond (is_widened x p) (a_type.Named ZZ64) x ∷ widened_types xs ps
 
 -- ---- the first that goes before all that fit, of declarations that are asked with widening or without
 

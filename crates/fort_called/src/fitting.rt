@@ -2,10 +2,12 @@
 ghost use Rattle.std.specs.Prelude.{◌≡◌, IfOk, cond};
 ghost use Rattle.fort_base.specs.declared.ty.Ty.TheVariants as a_type;
 ghost use Rattle.std.specs.Option.{option_copied};
+ghost use Rattle.fort_builtin.specs.declared.types.TheConstants.{ZZ64};
 ghost use Rattle.fort_known.specs.Read.{facts};
 ghost use Rattle.fort_called.specs.Fitting.{is_widened, all_suit, contained, positions, widened_types, fits, goes_before, is_over, first_best, any_fits};
 
-use fort_base::{List, Memory, Ty, TypeId};
+use fort_base::{List, Memory, Ty};
+use fort_builtin::{ZZ32, ZZ64};
 use fort_known::{Known, are_below, is_below};
 use fort_set::Member;
 use std::alloc::Global;
@@ -16,7 +18,7 @@ fn is_widened(ty: &Ty, parameter: &Ty) -> bool
     ensures { result ≡ is_widened ty.now parameter.now }
 {
     match (ty, parameter) {
-        (Ty::Named(from), Ty::Named(to)) => from.0 == 2 && to.0 == 3,
+        (Ty::Named(from), Ty::Named(to)) => from.0 == ZZ32.0 && to.0 == ZZ64.0,
         _ => false,
     }
 }
@@ -171,10 +173,10 @@ pub fn positions(alloc: Global, types: &[Ty], parameters: &[Ty]) -> Result<List<
 
 /// What a type is in a call where it is widened, or isn't.
 fn widened_type(alloc: Global, widened: bool, ty: &Ty) -> Result<Ty, Memory>
-    ensures { IfOk result (λ wide. wide ≡ cond widened (a_type.Named (record { 0 = 3 })) ty.now) }
+    ensures { IfOk result (λ wide. wide ≡ cond widened (a_type.Named ZZ64) ty.now) }
 {
     if widened {
-        return Ok(Ty::Named(TypeId(3)));
+        return Ok(Ty::Named(ZZ64));
     }
     ty.copy(alloc)
 }

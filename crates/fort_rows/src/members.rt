@@ -1,5 +1,6 @@
 //! The members of components, by examples of the chapter "Members".
 use fort_base::{CheckFault, Place};
+use fort_builtin::{DECLARATION_COUNT, TYPE_COUNT};
 use fort_hier::hierarchy;
 use fort_lex::tokens;
 use fort_member::members;
@@ -81,7 +82,7 @@ fn a_rule_on_fields_is_broken(rt: HostRuntime) -> Result<(), Fail> {
 const INHERITED: &str =
     "component T\ntrait D extends { B, C } end\ntrait B extends A end\ntrait C extends A end\ntrait A\nf: Any; g: Object\nend\ntrait E extends B\nh: ZZ32\nf: String\nend\nend";
 
-/// The fields of the type of that number; the component's types are numbered from 17 on.
+/// The fields of the type of that number; the component's types are numbered behind the built-in ones.
 fn fields_of(all: &Members, number: usize) -> &[Field] {
     match all.fields.get(number) {
         Some(fields) => fields.as_slice(),
@@ -97,9 +98,9 @@ fn field_at(all: &Members, number: usize, at: usize) -> Option<Place> {
 #[test]
 fn a_trait_inherits_what_it_does_not_declare(rt: HostRuntime) -> Result<(), Fail> {
     let all = members_of(&rt, rt.alloc(), INHERITED)?;
-    let rows: [(usize, usize); 5] = [(17, 2), (18, 2), (19, 2), (20, 2), (21, 3)];
-    for (number, count) in rows {
-        assert_eq!(rt; fields_of(&all, number).len(), count);
+    let counts: [usize; 5] = [2, 2, 2, 2, 3];
+    for (at, count) in counts.iter().enumerate() {
+        assert_eq!(rt; fields_of(&all, TYPE_COUNT.saturating_add(at)).len(), *count);
     }
     Ok(())
 }
@@ -176,8 +177,8 @@ fn built_in(all: &Members) -> usize {
 }
 
 #[test]
-fn there_are_sixty_nine_built_in_declarations(rt: HostRuntime) -> Result<(), Fail> {
+fn each_built_in_declaration_is_a_member(rt: HostRuntime) -> Result<(), Fail> {
     let all = members_of(&rt, rt.alloc(), "component T end")?;
-    assert_eq!(rt; built_in(&all), 69);
+    assert_eq!(rt; built_in(&all), DECLARATION_COUNT);
     Ok(())
 }
