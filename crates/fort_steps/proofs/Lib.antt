@@ -1,0 +1,4 @@
+pub mod AtParts
+pub mod AtFrames
+pub mod InOrder
+pub mod Groups
