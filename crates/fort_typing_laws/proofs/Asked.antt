@@ -1,5 +1,5 @@
 -- The elements of a run or of a juxtaposition as they are asked: what each is goes with its kind, and they are asked in one way.
-use Rattle.std.proofs.Common.{◌≡◌, ◌⊎◌, inl, inr, Bool, true, false, cond, List, [], ◌∷◌, Option, Some, None, refl, ap, ◌∙◌, sym, subst}
+use Rattle.std.proofs.Common.{◌≡◌, ◌⊎◌, inl, inr, false, cond, List, [], ◌∷◌, None, refl, ap, ◌∙◌, sym, subst}
 use Rattle.std.specs.List.{AllByRecursion}
 use Rattle.fort_scope.specs.declared.binding.Binding.{Binding}
 use Rattle.fort_form.specs.declared.form.Form.{Form, out-Form}
@@ -10,7 +10,7 @@ use Rattle.fort_typing_rules.specs.declared.part.Part.{Part}
 use Rattle.fort_typing_rules.specs.declared.part.Meaning.{Meaning}
 use Rattle.fort_typing_rules.specs.declared.part.Meaning.TheVariants as a_meaning
 use Rattle.fort_typing_rules.specs.Calls.{Calls}
-use Rattle.fort_typing_rules.specs.Types.{is_nothing, type_of}
+use Rattle.fort_typing_rules.specs.Elements as element
 use Rattle.fort_typing_rules.specs.Typing as rule
 use Rattle.fort_typing_rules.specs.Breaking as breaking
 use Rattle.fort_judge.specs.declared.frame.Outcome.{Outcome}
@@ -26,6 +26,7 @@ use Rattle.fort_typing_laws.proofs.Elements.{IsNothing, part-form, EachExact}
 use Rattle.fort_typing_laws.proofs.Pairs.{FitAt, Fit}
 use Rattle.fort_typing_laws.proofs.Stepping.{AllFit, HasUnknown}
 use Rattle.fort_typing_laws.proofs.Becoming.{Begins, known}
+use Rattle.fort_typing_laws.proofs.Chunks.{NoPostfix}
 
 module _ (k : Knows) where
   -- ---- what has a type is no postfix
@@ -123,6 +124,15 @@ module _ (k : Knows) where
       by : (m : Meaning) → AskedAs bs d m → Fit (rule.part d m)
       by m (inl g) = means-fit bs d m g
       by m (inr (x, e, b)) = fit-as d m a_meaning.Unknown e tt
+
+  -- none of the forms is a postfix
+  pub asked-plain : (bs : List Binding) (es : List Form) (ps : List Part) → AllByRecursion (λ (d : Form). rule.postfix_at (out-Form d) ≡ false) es → breaking.AsksParts k bs es ps → NoPostfix ps
+  asked-plain bs [] ps N h = subst NoPostfix (sym (none-asked bs ps h)) tt
+  asked-plain bs (d ∷ ds) ps N h = let r = first-of bs d ds ps h in subst NoPostfix (sym r.2) (N.0, asked-plain bs ds r.1 N.1 r.4)
+
+  -- there is a form
+  pub asked-filled : (bs : List Binding) (d : Form) (ds : List Form) (ps : List Part) → breaking.AsksParts k bs (d ∷ ds) ps → element.elements ps ≡ [] → ⊥
+  asked-filled bs d ds ps h e = let r = first-of bs d ds ps h in let z : element.element (rule.part d r.0) ∷ element.elements r.1 ≡ [] = ap element.elements (sym r.2) ∙ e in absurd cc
 
   -- two elements or more, the first of which is no postfix
   pub asked-begins : (bs : List Binding) (d c : Form) (ds : List Form) (ps : List Part) → rule.postfix_at (out-Form d) ≡ false → breaking.AsksParts k bs (d ∷ c ∷ ds) ps → Begins ps

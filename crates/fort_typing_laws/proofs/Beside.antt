@@ -25,7 +25,7 @@ use Rattle.fort_typing_laws.proofs.Running.{to, applies-is, joins-is, value-once
 
 -- ---- parts that are known
 
-not_both : {c : Bool} → c ≡ true → c ≡ false → ⊥
+pub not_both : {c : Bool} → c ≡ true → c ≡ false → ⊥
 not_both h i = absurd cc
 
 value_known : (p : Part) (t : TypedForm) (c : Bool) (found : Option Fault) → rule.is_unknown_by (cond c a_meaning.Unknown (a_meaning.Value t)) ≡ false → cond c (breaks MISMATCH p.place found) found ≡ found
@@ -41,7 +41,7 @@ meaning_known p (a_meaning.Exponent t) found h = refl
 meaning_known p (a_meaning.Field at name) found h = refl
 meaning_known p (a_meaning.Method at name ts) found h = refl
 
-known_first : (m : Meaning) → rule.is_unknown_by (rule.barred_by m) ≡ false → rule.is_unknown_by m ≡ false
+pub known_first : (m : Meaning) → rule.is_unknown_by (rule.barred_by m) ≡ false → rule.is_unknown_by m ≡ false
 known_first a_meaning.Unknown h = h
 known_first (a_meaning.Value t) h = refl
 known_first (a_meaning.Functions name) h = refl
@@ -51,13 +51,13 @@ known_first (a_meaning.Field at name) h = refl
 known_first (a_meaning.Method at name ts) h = refl
 
 module _ (k : Knows) (A : IsAccepted k) where
-  applied_known : (f a : Part) (m : rule.Made) → rule.Applies k (Calls k) f a m → (rule.is_unknown f ≡ false) × (rule.is_unknown a ≡ false)
+  pub applied_known : (f a : Part) (m : rule.Made) → rule.Applies k (Calls k) f a m → (rule.is_unknown f ≡ false) × (rule.is_unknown a ≡ false)
   applied_known f a m (rule.call name u result widened fm am c me) = (ap rule.is_unknown_by fm, ap rule.is_unknown_by am)
   applied_known f a m (rule.no_call name u r fm am c me) = (ap rule.is_unknown_by fm, ap rule.is_unknown_by am)
   applied_known f a m (rule.value g u domain result fm arrow am b me) = (ap rule.is_unknown_by fm, ap rule.is_unknown_by am)
   applied_known f a m (rule.no_argument g u domain result fm arrow am b me) = (ap rule.is_unknown_by fm, ap rule.is_unknown_by am)
 
-  joined_known : (a b : Part) (m : rule.Made) → rule.Joins k (Calls k) a b m → (rule.is_unknown a ≡ false) × (rule.is_unknown b ≡ false)
+  pub joined_known : (a b : Part) (m : rule.Made) → rule.Joins k (Calls k) a b m → (rule.is_unknown a ≡ false) × (rule.is_unknown b ≡ false)
   joined_known a b m (rule.joining u v result widened am bm c me) = (ap rule.is_unknown_by am, ap rule.is_unknown_by bm)
   joined_known a b m (rule.no_joining u v r am bm c me) = (ap rule.is_unknown_by am, ap rule.is_unknown_by bm)
 

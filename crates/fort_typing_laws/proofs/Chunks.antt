@@ -1,12 +1,12 @@
 -- The grouping of a juxtaposition: functions are only what is applied, and the last element of each chunk is a value.
-use Rattle.std.proofs.Common.{◌≡◌, ℕ, zero, suc, ◌+◌, Bool, true, false, ◌&&◌, List, [], ◌∷◌, ◌++◌, length, slice_get, Some, refl, arith, rules, ap, ◌∙◌, sym, subst}
+use Rattle.std.proofs.Common.{◌≡◌, ℕ, suc, ◌+◌, Bool, true, false, ◌&&◌, List, [], ◌∷◌, ◌++◌, length, slice_get, Some, refl, arith, rules, ap, ◌∙◌, sym, subst}
 use Rattle.std.specs.List.{AllByRecursion}
 use Rattle.fort_juxt.specs.declared.elements.Element.{Element}
 use Rattle.fort_juxt.specs.declared.elements.Grouping.{Grouping, out-Grouping, the_lemmas}
 use Rattle.fort_juxt.specs.declared.elements.Grouping.TheOpen.{Grouping-F}
 use Rattle.fort_juxt.specs.declared.elements.Grouping.TheVariants as a_grouping
 use Rattle.fort_juxt.specs.First.{IsNowhere}
-use Rattle.fort_juxt.specs.Loose.{Chunk, elements as chunk_elements, all_elements, AreFunctions, IsChunk, AreChunks, AreApart, IsDivision, ends_chunk, name_ends, units, joined_to, joined, applied_to, applied, chunk_group, chunk_groups, IsGroupingOf}
+use Rattle.fort_juxt.specs.Loose.{Chunk, elements as chunk_elements, all_elements, AreFunctions, AreChunks, AreApart, IsDivision, name_ends, units, joined_to, joined, applied_to, applied, chunk_groups, IsGroupingOf}
 use Rattle.fort_known.specs.Known.{Knows}
 use Rattle.fort_typing_rules.specs.declared.part.Part.{Part}
 use Rattle.fort_typing_rules.specs.declared.part.Meaning.{Meaning}
@@ -18,13 +18,13 @@ use Rattle.fort_typing_laws.proofs.Pairs.{Fit, plain}
 use Rattle.fort_typing_laws.proofs.Stepping.{AllFit}
 use Rattle.fort_typing_laws.proofs.Growing.{Good, good_one, good_apply, good_pair}
 
-out_one : (i : ℕ) → out-Grouping (a_grouping.One i) ≡ Grouping-F.One i
+pub out_one : (i : ℕ) → out-Grouping (a_grouping.One i) ≡ Grouping-F.One i
 out_one i = search (rules, the_lemmas)
 
-out_apply : (a b : Grouping) → out-Grouping (a_grouping.Apply a b) ≡ Grouping-F.Apply a b
+pub out_apply : (a b : Grouping) → out-Grouping (a_grouping.Apply a b) ≡ Grouping-F.Apply a b
 out_apply a b = search (rules, the_lemmas)
 
-out_pair : (a b : Grouping) → out-Grouping (a_grouping.Pair a b) ≡ Grouping-F.Pair a b
+pub out_pair : (a b : Grouping) → out-Grouping (a_grouping.Pair a b) ≡ Grouping-F.Pair a b
 out_pair a b = search (rules, the_lemmas)
 
 -- an element that is no function is no name

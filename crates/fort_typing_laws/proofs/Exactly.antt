@@ -1,4 +1,4 @@
--- A form that is no juxtaposition answers exactly where its parts do.
+-- A form answers exactly where its parts do.
 use Rattle.std.proofs.Common.{◌≡◌, inl, inr, true, false, List, [], ◌∷◌, Option, Some, None, refl, ◌∙◌, sym}
 use Rattle.fort_scope.specs.declared.binding.Binding.{Binding}
 use Rattle.fort_form.specs.declared.form.Form.{Form, out-Form}
@@ -27,6 +27,7 @@ use Rattle.fort_typing_laws.proofs.Comparing.{case-exact}
 use Rattle.fort_typing_laws.proofs.Chaining.{chain-exact}
 use Rattle.fort_typing_laws.proofs.Assigning.{assign-exact}
 use Rattle.fort_typing_laws.proofs.Tight.{run-exact}
+use Rattle.fort_typing_laws.proofs.Loose.{beside-exact}
 
 module _ (k : Knows) (A : IsAccepted k) (e : Form) (W : IsWritten k e) (bs : List Binding) (B : AreBound k bs) (found : Option Fault) where
   abbrev Goal : Type 0
@@ -43,7 +44,8 @@ module _ (k : Knows) (A : IsAccepted k) (e : Form) (W : IsWritten k e) (bs : Lis
   form-exact (Form-F.Operator p op es) is X = step.operator-exact k A bs B e found es (of-parts k e is W) X p op is
   form-exact (Form-F.Chain p ops []) is X = absurd X
   form-exact (Form-F.Chain p ops (c ∷ ds)) is X = let F = of-parts k e is W in chain-exact k A bs B e found p ops c ds X.0 F.0 F.1 X.1 X.2 is
-  form-exact (Form-F.Beside p es) is X = absurd X
+  form-exact (Form-F.Beside p []) is X = absurd X
+  form-exact (Form-F.Beside p (c ∷ ds)) is X = beside-exact k A bs B e found p c ds is (of-parts k e is W) X
   form-exact (Form-F.Run p []) is X = absurd X
   form-exact (Form-F.Run p (c ∷ [])) is X = absurd X
   form-exact (Form-F.Run p (c ∷ d ∷ ds)) is X = run-exact k A bs B e found p c d ds is (of-parts k e is W) (X.0.1, X.1) X.0.0

@@ -28,7 +28,7 @@ use Rattle.fort_typing_laws.proofs.Running.{to, applies-is, joins-is}
 use Rattle.fort_typing_laws.proofs.Beside.{from}
 use Rattle.fort_typing_laws.proofs.Firsts.{no_more, alike, one_more, both}
 use Rattle.fort_typing_laws.proofs.Scopes.{not-both}
-use Rattle.fort_typing_laws.proofs.Pairs.{Pair, does, stops, Plain, a_value, no_type, Applied, applied-told, Joined, joined-told}
+use Rattle.fort_typing_laws.proofs.Pairs.{Pair, does, stops, Plain, a_value, no_type, applied-told, joined-told}
 use Rattle.fort_typing_laws.proofs.Stepping.{HasUnknown}
 
 -- ---- an element without a type gives nothing with another one

@@ -33,3 +33,6 @@ pub mod Asked
 pub mod Tight
 pub mod Growing
 pub mod Chunks
+pub mod Occurring
+pub mod Loose
+pub mod Shaped

@@ -1,5 +1,5 @@
 -- The next rewriting of a run of two elements or more: it is refused, or done, or an element in it has no type.
-use Rattle.std.proofs.Common.{◌≡◌, ◌⊎◌, inl, inr, ℕ, zero, suc, Bool, true, false, not, ◌&&◌, List, [], ◌∷◌, ◌++◌, length, Option, Some, None, Result, Ok, Err, refl, arith, ap, ◌∙◌, sym, subst}
+use Rattle.std.proofs.Common.{◌≡◌, ◌⊎◌, inl, inr, ℕ, suc, Bool, true, false, not, ◌&&◌, List, [], ◌∷◌, ◌++◌, length, Option, Some, Result, Ok, Err, refl, arith, ap, ◌∙◌, sym, subst}
 use Rattle.std.specs.List.{AllByRecursion}
 use Rattle.fort_base.specs.declared.refusal.CheckFault.{CheckFault}
 use Rattle.fort_base.specs.declared.refusal.CheckFault.TheVariants as a_fault
@@ -9,8 +9,8 @@ use Rattle.fort_base.specs.declared.rules.TheConstants.{FUNCTION_AS_VALUE, TIGHT
 use Rattle.fort_juxt.specs.declared.elements.Element.{Element}
 use Rattle.fort_juxt.specs.declared.elements.Tight.{Tight}
 use Rattle.fort_juxt.specs.declared.elements.Tight.TheVariants as a_rewriting
-use Rattle.fort_juxt.specs.First.{IsFirst, IsNowhere}
-use Rattle.fort_juxt.specs.Tight.{takes, postfix_first, is_argument, Rewrites, applies, no_argument, applies_postfix, postfix_of_name, joins, first_is_name, second_is_name, whole}
+use Rattle.fort_juxt.specs.First.{IsFirst}
+use Rattle.fort_juxt.specs.Tight.{postfix_first, Rewrites, applies, no_argument, applies_postfix, postfix_of_name, joins, first_is_name, second_is_name, whole}
 use Rattle.fort_known.specs.declared.fault.Fault.{Fault}
 use Rattle.fort_known.specs.Known.{Knows}
 use Rattle.fort_typing_rules.specs.declared.part.Part.{Part}
@@ -20,7 +20,7 @@ use Rattle.fort_typing_rules.specs.Elements as rule
 use Rattle.fort_judge.specs.declared.frame.Made.{Made}
 use Rattle.fort_judge.specs.declared.frame.Made.TheVariants as a_made
 use Rattle.fort_judge.specs.Juxtaposing.{next_rewriting}
-use Rattle.fort_judge.specs.Joining.{applied, joined, followed, Around, around, more_before, Further, stop, replaced, replaced_in, rewritten_by, rewritten}
+use Rattle.fort_judge.specs.Joining.{applied, joined, followed, Around, around, more_before, stop, replaced, replaced_in, rewritten_by, rewritten}
 use Rattle.fort_typing_laws.specs.Deciding.{IsAccepted}
 use Rattle.fort_typing_laws.specs.Typed.{AreTyped}
 use Rattle.fort_typing_laws.proofs.Types.{all_first, all_rest, all_right}
@@ -28,7 +28,7 @@ use Rattle.fort_typing_laws.proofs.Typed.{PartTyped}
 use Rattle.fort_typing_laws.proofs.Running.{first-typed, second-typed}
 use Rattle.fort_typing_laws.proofs.Juxtaposing.{rewriting_is_computed, one_longer, behind_one}
 use Rattle.fort_typing_laws.proofs.Rewriting.{rewriting_told}
-use Rattle.fort_typing_laws.proofs.Pairs.{Fit, Pair, does, stops, plain, argument, Applied, applied-told, Joined, joined-told, Followed, followed-told}
+use Rattle.fort_typing_laws.proofs.Pairs.{Fit, does, stops, plain, argument, Applied, applied-told, Joined, joined-told, Followed, followed-told}
 
 -- ---- lists of elements
 

@@ -1,5 +1,5 @@
 -- A run of two elements or more, the first of which is no postfix, answers exactly where its elements do.
-use Rattle.std.proofs.Common.{◌≡◌, ◌⊎◌, inl, inr, false, List, [], ◌∷◌, map, Option, refl, ◌∙◌, sym, subst}
+use Rattle.std.proofs.Common.{◌≡◌, ◌⊎◌, inl, inr, false, List, ◌∷◌, map, Option, subst}
 use Rattle.fort_base.specs.declared.refusal.Place.{Place}
 use Rattle.fort_scope.specs.declared.binding.Binding.{Binding}
 use Rattle.fort_form.specs.declared.form.Form.{Form, out-Form}

@@ -165,13 +165,13 @@ module _ (k : Knows) (A : IsAccepted k) where
       let g : IsType k (type_of t) = subst (λ y. IsType k (type_at y)) (sym is) h in
       (g, subst (λ y. AreTypes k (types_of (element.parts_at t y))) (sym is) (parts-typed t x g w))
 
-  typed-Number : (ty : Ty) (n : ℕ) → IsType k ty → Typed (a_typed.Number ty n)
+  pub typed-Number : (ty : Ty) (n : ℕ) → IsType k ty → Typed (a_typed.Number ty n)
   typed-Number ty n h = let is : out-TypedForm (a_typed.Number ty n) ≡ TypedForm-F.Number ty n = search (rules, typed_lemmas) in made (a_typed.Number ty n) is h tt
 
-  typed-Text : (ty : Ty) (n : ℕ) → IsType k ty → Typed (a_typed.Text ty n)
+  pub typed-Text : (ty : Ty) (n : ℕ) → IsType k ty → Typed (a_typed.Text ty n)
   typed-Text ty n h = let is : out-TypedForm (a_typed.Text ty n) ≡ TypedForm-F.Text ty n = search (rules, typed_lemmas) in made (a_typed.Text ty n) is h tt
 
-  typed-Truth : (ty : Ty) (b : Bool) → IsType k ty → Typed (a_typed.Truth ty b)
+  pub typed-Truth : (ty : Ty) (b : Bool) → IsType k ty → Typed (a_typed.Truth ty b)
   typed-Truth ty b h = let is : out-TypedForm (a_typed.Truth ty b) ≡ TypedForm-F.Truth ty b = search (rules, typed_lemmas) in made (a_typed.Truth ty b) is h tt
 
   typed-Local : (ty : Ty) (name : NameId) (mutable : Bool) → IsType k ty → Typed (a_typed.Local ty name mutable)
@@ -201,7 +201,7 @@ module _ (k : Knows) (A : IsAccepted k) where
   typed-Call : (ty : Ty) (c : Chosen) (ts : List TypedForm) → IsType k ty → Typed (a_typed.Call ty c ts)
   typed-Call ty c ts h = let is : out-TypedForm (a_typed.Call ty c ts) ≡ TypedForm-F.Call ty c ts = search (rules, typed_lemmas) in made (a_typed.Call ty c ts) is h tt
 
-  typed-Operation : (ty : Ty) (c : Chosen) (ts : List TypedForm) → IsType k ty → Typed (a_typed.Operation ty c ts)
+  pub typed-Operation : (ty : Ty) (c : Chosen) (ts : List TypedForm) → IsType k ty → Typed (a_typed.Operation ty c ts)
   typed-Operation ty c ts h = let is : out-TypedForm (a_typed.Operation ty c ts) ≡ TypedForm-F.Operation ty c ts = search (rules, typed_lemmas) in made (a_typed.Operation ty c ts) is h tt
 
   typed-Chain : (ty : Ty) (set : SetId) (cs : List Chosen) (ts : List TypedForm) → IsType k ty → Typed (a_typed.Chain ty set cs ts)
@@ -255,7 +255,7 @@ module _ (k : Knows) (A : IsAccepted k) where
   typed-Update : (ty : Ty) (u : TypedForm) (c : Chosen) (v : TypedForm) → IsType k ty → Typed (a_typed.Update ty u c v)
   typed-Update ty u c v h = let is : out-TypedForm (a_typed.Update ty u c v) ≡ TypedForm-F.Update ty u c v = search (rules, typed_lemmas) in made (a_typed.Update ty u c v) is h tt
 
-  typed-Tuple : (ts : List TypedForm) → AreTypes k (types_of ts) → Typed (a_typed.Tuple (a_type.Tuple (types_of ts)) ts)
+  pub typed-Tuple : (ts : List TypedForm) → AreTypes k (types_of ts) → Typed (a_typed.Tuple (a_type.Tuple (types_of ts)) ts)
   typed-Tuple ts h = let is : out-TypedForm (a_typed.Tuple (a_type.Tuple (types_of ts)) ts) ≡ TypedForm-F.Tuple (a_type.Tuple (types_of ts)) ts = search (rules, typed_lemmas) in
       made (a_typed.Tuple (a_type.Tuple (types_of ts)) ts) is (tuple_type (length k.declared) (types_of ts) h) h
 

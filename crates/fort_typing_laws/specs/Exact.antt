@@ -82,8 +82,8 @@ SourceExact k g = IsExactExpression k (out-Generator g).source
 abbrev pub ClauseExact : Knows → TypeBranch → Type 0
 ClauseExact k b = IsExactExpression k (out-TypeBranch b).value
 
--- A form is no juxtaposition, its parts are exact expressions, and there are as many as the grammar gives it: a `do` has a block, a chain has one side
--- more than relations, and a run has two elements or more, of which all but the first may be postfixes.
+-- A form's parts are exact expressions, and there are as many as the grammar gives it: a `do` has a block, a juxtaposition an element, a chain one side
+-- more than relations, and a run two elements or more, of which all but the first may be postfixes.
 abbrev pub PartsExact : Knows → Form-F Form Item Branch Generator TypeBranch → Type 0
 PartsExact k (Form-F.Number p n) = Unit {0}
 PartsExact k (Form-F.Text p n) = Unit {0}
@@ -95,7 +95,8 @@ PartsExact k (Form-F.Tuple p es) = AreExact k es
 PartsExact k (Form-F.Operator p op es) = AreExact k es
 PartsExact k (Form-F.Chain p ops []) = ⊥
 PartsExact k (Form-F.Chain p ops (e ∷ es)) = (length es ≡ length ops) × IsExactExpression k e × AreExact k es
-PartsExact k (Form-F.Beside p es) = ⊥
+PartsExact k (Form-F.Beside p []) = ⊥
+PartsExact k (Form-F.Beside p (d ∷ ds)) = AreExact k (d ∷ ds)
 PartsExact k (Form-F.Run p []) = ⊥
 PartsExact k (Form-F.Run p (d ∷ [])) = ⊥
 PartsExact k (Form-F.Run p (d ∷ e ∷ es)) = IsExactExpression k d × AllByRecursion (IsExact k) (e ∷ es)
@@ -120,7 +121,7 @@ PartsExact k (Form-F.Fn p ps e) = IsExactExpression k e
 PartsExact k (Form-F.Reduce p r g e) = SourceExact k g × IsExactExpression k e
 PartsExact k (Form-F.Assign p t sign e) = IsExactExpression k t × IsExactExpression k e
 
--- Of an accepted component: a form that is no juxtaposition answers exactly where its parts do.
+-- Of an accepted component: a form answers exactly where its parts do.
 abbrev pub FormsAreExact : Type 0
 FormsAreExact = (k : Knows) → IsAccepted k → (e : Form) → IsWritten k e → PartsExact k (out-Form e) → IsExact k e
 

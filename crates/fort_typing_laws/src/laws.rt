@@ -1,6 +1,7 @@
 //! Laws of typing.
 ghost use Rattle.fort_typing_laws.specs.Deciding.{IsDecided};
 ghost use Rattle.fort_typing_laws.specs.Exact.{ExactIsOne, FormsAreExact};
+ghost use Rattle.fort_typing_laws.specs.Shaped.{ShapedAreExact};
 ghost use Rattle.fort_typing_laws.specs.Laws.{BesideIsComputed, GroupingIsComputed, HasIsAnswered, OneBeside, OneRun, OneTypedForm, RewritingIsComputed, RunIsComputed, WidestIsComputed};
 
 /// A law: the next rewriting of a run, the grouping of elements, and the refusals of both are those that the judge computes.
@@ -38,10 +39,16 @@ pub fn has_is_answered()
     ensures one { OneTypedForm }
 {}
 
-/// A law, of an accepted component: a form that is no juxtaposition answers exactly where its parts do: with a type that it has, as
-/// the function set's name that it is, or with none where it breaks a rule; and what is found is the first of the rules that it breaks. An exact
-/// expression has a type, is such a name, or breaks a rule; and what has a type breaks none.
+/// A law, of an accepted component: a form answers exactly where its parts do: with a type that it has, as the function
+/// set's name that it is, or with none where it breaks a rule; and what is found is the first of the rules that it
+/// breaks. An exact expression has a type, is such a name, or breaks a rule; and what has a type breaks none.
 pub fn forms_are_exact()
     ensures steps { FormsAreExact }
     ensures one { ExactIsOne }
+{}
+
+/// A law, of an accepted component: so each expression of a shape that the grammar gives answers exactly, where the
+/// types that are written in it are the component's.
+pub fn shaped_are_exact()
+    ensures { ShapedAreExact }
 {}

@@ -1,0 +1,2 @@
+//! The shapes of forms that the grammar gives: definitions.
+#![tactic(auto)]

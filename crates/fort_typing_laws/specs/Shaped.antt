@@ -1,0 +1,11 @@
+-- The chapter "Typing", which refusal comes: all expressions of the shapes that the grammar gives.
+use Rattle.fort_form.specs.declared.form.Form.{Form}
+use Rattle.fort_form_shape.specs.Shapes.{IsShaped}
+use Rattle.fort_known.specs.Known.{Knows}
+use Rattle.fort_typing_laws.specs.Deciding.{IsAccepted}
+use Rattle.fort_typing_laws.specs.Written.{IsWritten}
+use Rattle.fort_typing_laws.specs.Exact.{IsExactExpression}
+
+-- Of an accepted component: an expression of a shape that the grammar gives answers exactly, where the types that are written in it are the component's.
+abbrev pub ShapedAreExact : Type 0
+ShapedAreExact = (k : Knows) → IsAccepted k → (e : Form) → IsWritten k e → IsShaped e → IsExactExpression k e
