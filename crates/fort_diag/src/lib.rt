@@ -1,0 +1,9 @@
+//! The notes of a call: what it says on standard error.
+#![tactic(auto)]
+
+mod note;
+
+pub use note::{NOT_BUILT, fixed, refused, uncaught};
+
+#[cfg(test)]
+mod tests;
