@@ -1,0 +1,4 @@
+pub mod Places
+pub mod Juxtaposing
+pub mod Atoms
+pub mod Ordered
