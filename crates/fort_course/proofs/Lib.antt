@@ -1,0 +1,5 @@
+pub mod Bounds
+pub mod Store
+pub mod Keeps
+pub mod Passes
+pub mod Reaches
