@@ -100,7 +100,10 @@ fn a_trait_inherits_what_it_does_not_declare(rt: HostRuntime) -> Result<(), Fail
     let all = members_of(&rt, rt.alloc(), INHERITED)?;
     let counts: [usize; 5] = [2, 2, 2, 2, 3];
     for (at, count) in counts.iter().enumerate() {
-        assert_eq!(rt; fields_of(&all, TYPE_COUNT.saturating_add(at)).len(), *count);
+        assert_eq!(rt;
+            fields_of(&all, TYPE_COUNT.saturating_add(at)).len(),
+            *count
+        );
     }
     Ok(())
 }
