@@ -1,0 +1,13 @@
+pub mod Numbers
+pub mod Fine
+pub mod Makers
+pub mod Forms
+pub mod Values
+pub mod Parts
+pub mod Groups
+pub mod Clauses
+pub mod Calls
+pub mod Translated
+pub mod Bodies
+pub mod Declarations
+pub mod Program

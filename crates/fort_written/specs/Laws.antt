@@ -1,0 +1,13 @@
+-- The program of a component is as it is written.
+use Rattle.std.specs.Prelude.{ℕ, List}
+use Rattle.fort_core.specs.declared.program.Program.{Program}
+use Rattle.fort_machine.specs.Written.{WrittenProgram}
+use Rattle.fort_hier.specs.declared.accepted.Hierarchy.{Hierarchy}
+use Rattle.fort_set.specs.declared.member.Members.{Members}
+use Rattle.fort_typed_form.specs.declared.component.Typed.{Typed}
+use Rattle.fort_translation.specs.Programs.{IsProgramOf}
+use Rattle.fort_written.specs.Matching.{Matches}
+
+-- The program of a typed component that matches its members is as it is written.
+abbrev pub ProgramIsWritten : Type 0
+ProgramIsWritten = (h : Hierarchy) (m : Members) (texts : List (List ℕ)) (typed : Typed) (p : Program) → IsProgramOf h m texts typed p → Matches m texts typed → WrittenProgram p
