@@ -9,7 +9,7 @@ use Rattle.fort_base.specs.declared.ids.NameId.{NameId}
 use Rattle.indexmap.specs.IndexMap.{get}
 use Rattle.fort_set.specs.declared.field.Field.{Field}
 use Rattle.fort_field.specs.declared.gathering.Gathering.{Gathering}
-use Rattle.fort_field.specs.Walks.{SomeIn, HasFieldNamed, IsLike, LikeAt, KnowsNames, Gathers, fields_of}
+use Rattle.fort_field.specs.Walks.{SomeIn, HasFieldNamed, IsLike, LikeAt, KnowsNames, Gathers, begins, passes, adds, fields_of}
 use Rattle.fort_field.proofs.Items.{of_get, in_none, get_left, get_end, get_cases, taken_more}
 
 -- the fields that a trait declares, and no further ones
@@ -19,6 +19,7 @@ gathers_own own = record {
   from = λ f w. inl w;
   all = λ f w n. absurd (in_none f w);
   differ = λ i j f g p q l n. absurd (n (i, f, p, refl));
+  order = begins refl refl;
 }
 
 -- a further field of a name that is declared
@@ -34,6 +35,7 @@ gathers_declared own further fs x d g = record {
     | inr e ↦ absurd (n (subst (λ (z : Field). HasFieldNamed own z.name) e d))
   ];
   differ = g.differ;
+  order = passes x refl (inl d) g.order;
 }
 
 -- a further field that is there by name and type
@@ -49,6 +51,7 @@ gathers_known own further fs x k g = record {
     | inr e ↦ subst (λ (z : Field). SomeIn (IsLike z) fs) e k
   ];
   differ = g.differ;
+  order = passes x refl (inr k) g.order;
 }
 
 -- a further field that is put at the end
@@ -83,6 +86,7 @@ gathers_new own further fs x d k g = record {
       | inr b ↦ a.0 ∙ sym b.0
     ])
   ];
+  order = adds x refl refl (λ w. elim w as (λ _. ⊥) [ inl m ↦ d m | inr m ↦ k m ]) g.order;
 }
 
 -- ---- the first further fields, and one more

@@ -8,7 +8,7 @@ use Rattle.fort_types.specs.declared.hierarchy.DeclaredType.{DeclaredType}
 use Rattle.fort_types.specs.declared.hierarchy.TypeKind.TheVariants as a_kind
 use Rattle.fort_types.specs.Hierarchy.{DeclaredTypes, Extends, Leaf}
 use Rattle.fort_set.specs.declared.field.Field.{Field}
-use Rattle.fort_field.specs.Inherited.{Declares, DeclaresNone, Has, declared, inherited}
+use Rattle.fort_field.specs.Inherited.{Declares, DeclaresNone, Has, declared, inherited, IsListed, of_leaf, of_trait, AreFurther, no_more, of_type, of_any}
 use Rattle.fort_field.specs.Gathering.{HasGathered, HasTo, HasAll}
 use Rattle.fort_field.specs.Walks.{HasFieldNamed, Gathers, AreHeights, fields_of}
 use Rattle.fort_field.proofs.Items.{get_of, of_get, in_none, one}
@@ -43,6 +43,28 @@ of_joined f (z ∷ xs) y w = elim (Contains-append_cases (f z) (flat_map f xs) y
   | inr v ↦ (let r = of_joined f xs y v in (r.0, (suc r.1.0, let l = r.1.1 in omega arith, r.1.2), r.2))
 ]
 
+-- ---- the lists of the types that a trait extends
+
+inside_or : (b n : ℕ) → (b < n) ⊎ (n ≤ b)
+inside_or b n = grind arith
+
+none_past : (all : List (List Field)) (b : ℕ) → length all ≤ b → fields_of all b ≡ []
+none_past [] zero l = refl
+none_past [] (suc b) l = refl
+none_past (x ∷ all) zero l = absurd (omega arith)
+none_past (x ∷ all) (suc b) l = none_past all b (omega arith)
+
+-- one after another
+are_further : (h : DeclaredTypes) (own all : List (List Field)) → length all ≡ length h → (bs : List ℕ) → ((b : ℕ) → Contains bs b → b < length h → IsListed h own b (fields_of all b))
+    → AreFurther h own bs (flat_map (fields_of all) bs)
+are_further h own all la [] each = no_more
+are_further h own all la (b ∷ bs) each =
+    let others = are_further h own all la bs (λ c w l. each c (suc w.0, (let k = w.1 in omega arith), w.2) l) in
+    elim (inside_or b (length h)) as (λ _. AreFurther h own (b ∷ bs) (fields_of all b ++ flat_map (fields_of all) bs)) [
+      | inl l ↦ of_type refl (each b (0, omega arith, refl) l) others
+      | inr l ↦ subst (λ z. AreFurther h own (b ∷ bs) (z ++ flat_map (fields_of all) bs)) (sym (none_past all b (omega arith))) (of_any l others)
+    ]
+
 -- ---- one trait
 
 one_declared : (h : DeclaredTypes) (a : ℕ) (d e : DeclaredType) → slice_get h a ≡ Some d → slice_get h a ≡ Some e → d ≡ e
@@ -58,6 +80,8 @@ gathered_has h own all a d fs e k lo la done g = record {
   ];
   all = every;
   differ = λ i j f q p r n t m. g.differ i j f q p r (sym n, sym t) (none_named own a f.name m);
+  listed = of_trait d (fields_of own a) (flat_map (fields_of all) d.extends) e k (slice_get-get_or own a [] (let l = slice_get_within h a d e in omega arith))
+      (are_further h own all la d.extends (λ b w l. (done b (fields_of all b) (d, e, w, l) (list_of b l)).listed)) g.order;
 }
   where
     list_of : (b : ℕ) → b < length h → slice_get all b ≡ Some (fields_of all b)
@@ -81,6 +105,7 @@ leaf_has h own a fs e l = record {
   has = λ f w. declared (fs, e, w);
   all = every;
   differ = λ i j f g p q n t m. absurd (m f (fs, e, of_get fs i f p) refl);
+  listed = of_leaf l e;
 }
   where
     nil : (ds : List Field) → ds ≡ ds ++ []

@@ -88,5 +88,6 @@ module _ (h : DeclaredTypes) (own : List (List Field)) (places : List Place) (fe
       has = g.has;
       all = g.all;
       once = once a fs (let l = slice_get_within all a fs p in let n = t.number in omega arith) g;
+      listed = g.listed;
     };
   }

@@ -15,10 +15,9 @@ use Rattle.fort_cmd.specs.declared.command.Command.{Command}
 use Rattle.fort_cmd.specs.declared.command.Command.TheVariants.{Run, Show}
 use Rattle.fort_run.specs.declared.top.Finish.{Finish}
 use Rattle.fort_cmd.specs.Words.{IsCommand, IsNoCommand, file_of}
-use Rattle.fort_run.specs.Notes.{line}
 use Rattle.fort_run.specs.Reply.{Reply, IsFile, Prints, IsProgramOf, IsRefused, TellsEnding, TellsRun, RunSays, Runs, Refuses, IsShownAs, IsNoComponent, ShowSays, Shows, ShowsNone, CommandSays, Judged, NoCommand, Unread, TooLarge, file_limit}
 use Rattle.fort_run.specs.Delivery.{Takes, Whole, OutFailed, NotesFailed}
-use Rattle.fort_run.specs.Outcome.{Outside, MeansToSay, Ends, Said, WantsMemory, IsCalm, Asks, Answers}
+use Rattle.fort_run.specs.Outcome.{line, Outside, MeansToSay, Ends, Said, WantsMemory, IsCalm, Asks, Answers}
 use Rattle.fort_run.proofs.Apart.{IsFormedGreeting, prints_apart, shown_apart}
 use Rattle.fort_cmd.proofs.Commands.{one_command}
 

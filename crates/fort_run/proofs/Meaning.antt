@@ -6,7 +6,7 @@ use Rattle.fort_cmd.specs.declared.command.Command.{Command}
 use Rattle.fort_cmd.specs.Words.{IsCommand, file_of}
 use Rattle.fort_run.specs.Reply.{IsFile, CommandSays, Means, Judged, file_limit, no_run}
 use Rattle.fort_run.specs.Said.{said}
-use Rattle.fort_run.specs.Notes.{want_of_memory}
+use Rattle.fort_diag.specs.Notes.{want_of_memory}
 use Rattle.fort_run.specs.Delivery.{Delivers, TakesOrFails}
 use Rattle.fort_run.specs.Outcome.{Outside, MeansToSay, Said, WantsMemory, Answers}
 use Rattle.fort_run.specs.declared.answer.Answer.{Answer}

@@ -1,7 +1,7 @@
 -- What came out of a sink. It restates the chapter "Statuses and notes" of docs/LANGUAGE.md.
 use Rattle.std.specs.Prelude.{◌≡◌, ◌≢◌, ℕ, List, [], ◌++◌, Option, ◌⊎◌}
 use Rattle.fort_port.specs.Outside.{Rose, adds}
-use Rattle.fort_run.specs.Notes.{write_fault}
+use Rattle.fort_diag.specs.Notes.{write_fault}
 
 -- What was written to a sink, where it tells it, and its count of faults, before a call and after it.
 pub record Change : Type 0 where

@@ -1,4 +1,3 @@
-pub mod Notes
 pub mod Reply
 pub mod Said
 pub mod Fronts

@@ -1,5 +1,5 @@
 -- How a call ends: its status, and what stands on both outputs. It restates the chapter "Statuses and notes" of docs/LANGUAGE.md.
-use Rattle.std.specs.Prelude.{◌≡◌, ℕ, ◌<◌, ◌≤◌, List, [], ◌⊎◌, length}
+use Rattle.std.specs.Prelude.{◌≡◌, ℕ, ◌<◌, ◌≤◌, List, [], ◌∷◌, ◌++◌, ◌⊎◌, length}
 use Rattle.fort_base.specs.declared.refusal.Rule.{Rule}
 use Rattle.fort_base.specs.declared.refusal.Place.{Place}
 use Rattle.fort_port.specs.Outside.{Holding, Held, Rose}
@@ -7,10 +7,14 @@ use Rattle.fort_cmd.specs.declared.command.Command.{Command}
 use Rattle.fort_cmd.specs.declared.command.Command.TheVariants.{Run, Show}
 use Rattle.fort_cmd.specs.Words.{IsCommand, IsNoCommand, file_of}
 use Rattle.fort_greet.specs.Runs.{cost}
-use Rattle.fort_run.specs.Notes.{line, want_of_memory}
+use Rattle.fort_diag.specs.Notes.{want_of_memory}
 use Rattle.fort_run.specs.Reply.{Reply, Means, Prints, IsRefused, IsShownAs, IsNoComponent, file_limit, no_run}
 use Rattle.fort_run.specs.Delivery.{Change, Delivers, Takes, TakesOrFails}
 use Rattle.fort_run.specs.declared.top.Finish.{Finish}
+
+-- a text as a line
+abbrev pub line : List ℕ → List ℕ
+line text = text ++ 10 ∷ []
 
 -- The outside of a call: its words, what the shelf tells and its counts of faults, and both sinks.
 pub record Outside : Type 0 where

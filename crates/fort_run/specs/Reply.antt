@@ -19,9 +19,8 @@ use Rattle.fort_core.specs.declared.program.Program.{Program}
 use Rattle.fort_core.specs.declared.term.Term.{Term}
 use Rattle.fort_machine.specs.Effects.{Effect}
 use Rattle.fort_machine.specs.Journals.{Records}
-use Rattle.fort_machine.specs.Texts.{text as text_of}
 use Rattle.fort_greet.specs.Program.{IsProgram}
-use Rattle.fort_run.specs.Notes.{usage, read_fault, too_large, out_of_fuel, uncaught, refusal}
+use Rattle.fort_diag.specs.Notes.{usage, read_fault, too_large, out_of_fuel, uncaught, refusal}
 
 -- A status, what is for standard output, what is for standard error, and the journal of a run.
 pub record Reply : Type 0 where
@@ -81,7 +80,7 @@ pub data IsRefused (file : List ℕ) (rule : Rule) (place : Place) : Type 0 wher
 abbrev pub TellsEnding : Program → Ending → Reply → Type 0
 TellsEnding p NotRun reply = ⊥
 TellsEnding p Completed reply = (reply.status ≡ 0) × (reply.note ≡ [])
-TellsEnding p (Uncaught v) reply = (reply.status ≡ 5) × (reply.note ≡ uncaught (text_of p v))
+TellsEnding p (Uncaught v) reply = (reply.status ≡ 5) × (reply.note ≡ uncaught p v)
 TellsEnding p (OutOfFuel pick) reply = (reply.status ≡ 6) × (reply.note ≡ out_of_fuel)
 
 -- The reply tells a run of a program with this fuel: its journal is the run's, its output what the run printed, and status and note tell how the run ended.

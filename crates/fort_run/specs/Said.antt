@@ -2,7 +2,7 @@
 use Rattle.std.specs.Prelude.{◌≡◌, ℕ, List, []}
 use Rattle.fort_base.specs.declared.refusal.CheckFault.{CheckFault}
 use Rattle.fort_base.specs.declared.refusal.CheckFault.TheVariants as a_fault
-use Rattle.fort_run.specs.Notes.{usage, read_fault, too_large, out_of_fuel, refusal}
+use Rattle.fort_diag.specs.Notes.{usage, read_fault, too_large, out_of_fuel, refusal}
 use Rattle.fort_run.specs.Reply.{Reply, no_run}
 use Rattle.fort_run.specs.declared.answer.Answer.{Answer}
 use Rattle.fort_run.specs.declared.answer.Answer.TheVariants.{Ended, RanOut, Shown, Refused, NoCommand, Unread, TooLarge}

@@ -1,23 +1,14 @@
 //! What a call means to say.
 ghost use Rattle.std.specs.Prelude.{◌≡◌, IfOk};
-ghost use Rattle.fort_run.specs.Notes.{refusal};
+ghost use Rattle.fort_diag.specs.Notes.{refusal};
 ghost use Rattle.fort_run.specs.Reply as reply;
 ghost use Rattle.fort_run.specs.declared.answer.Answer.TheVariants as Answer;
 ghost use Rattle.fort_run.specs.Said.{said, RefusedBy};
 
-use crate::note::refusal_note;
 use fort_base::{Bytes, CheckFault, List, Memory, Place, Rule};
 use fort_core::{Ending, Journal};
+use fort_diag::fixed;
 use std::alloc::Global;
-
-const USAGE: &[u8] =
-    b"usage: fortress check FILE | show FILE | run FILE [--workers N] [--fuel N] | bench N\n";
-
-const READ_FAULT: &[u8] = b"read fault\n";
-
-const TOO_LARGE: &[u8] = b"file too large\n";
-
-const OUT_OF_FUEL: &[u8] = b"out of fuel\n";
 
 /// What a call means to say.
 #[derive(Drop)]
@@ -68,12 +59,12 @@ impl Answer {
     {
         match self {
             Answer::Ended(_, _) => &[],
-            Answer::RanOut(_, _) => OUT_OF_FUEL,
+            Answer::RanOut(_, _) => fixed(6).as_bytes(),
             Answer::Shown(_) => &[],
             Answer::Refused(note) => note.as_slice(),
-            Answer::NoCommand => USAGE,
-            Answer::Unread => READ_FAULT,
-            Answer::TooLarge => TOO_LARGE,
+            Answer::NoCommand => fixed(2).as_bytes(),
+            Answer::Unread => fixed(3).as_bytes(),
+            Answer::TooLarge => fixed(8).as_bytes(),
         }
     }
 
@@ -118,5 +109,5 @@ pub(crate) fn refused_by(name: Bytes, fault: CheckFault) -> Result<Answer, Memor
 pub(crate) fn refused(name: Bytes, rule: Rule, place: Place) -> Result<Answer, Memory>
     ensures { IfOk result (λ a. a ≡ Answer.Refused (refusal name rule place)) }
 {
-    Ok(Answer::Refused(refusal_note(name, rule, place)?))
+    Ok(Answer::Refused(fort_diag::refused(name, rule, place)?))
 }

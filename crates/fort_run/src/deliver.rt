@@ -1,9 +1,8 @@
 ghost use Rattle.std.specs.Prelude.{OnOk, OnErr};
 ghost use Rattle.fort_run.specs.Delivery.{Takes, Fails, Delivers};
 
+use fort_diag::fixed;
 use fort_port::{Failed, Sink};
-
-const WRITE_FAULT: &[u8] = b"write fault\n";
 
 /// The status of a call that could not write all that it meant to say.
 const UNWRITTEN: u8 = 4;
@@ -24,7 +23,7 @@ pub(crate) fn deliver<K: Sink, N: Sink>(
         (record { was = N.written notes.old; is = N.written notes.new; faults_were = N.faults notes.old; faults_are = N.faults notes.new }) result }
 {
     if write_all(out, text).is_err() {
-        let _ = write_all(notes, WRITE_FAULT);
+        let _ = write_all(notes, fixed(UNWRITTEN).as_bytes());
         return UNWRITTEN;
     }
     if write_all(notes, note).is_err() {

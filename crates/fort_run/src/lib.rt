@@ -4,7 +4,6 @@
 mod answer;
 mod deliver;
 mod file;
-mod note;
 mod reply;
 mod run;
 mod show;

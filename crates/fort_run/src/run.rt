@@ -8,15 +8,13 @@ ghost use Rattle.fort_run.specs.Reply.{RunSays, TellsRun, file_limit};
 ghost use Rattle.fort_run.specs.Said.{said};
 
 use crate::answer::{Answer, refused, refused_by};
-use fort_base::{Bytes, Memory, Place, Rule};
+use fort_base::{Bytes, Memory, Place};
 use fort_core::Ending;
+use fort_diag::NOT_BUILT;
 use fort_front::check_tokens;
 use fort_greet::{Greeted, greet};
 use fort_lex::{Tokens, tokens};
 use std::alloc::Global;
-
-/// The rule that refuses what isn't built yet.
-pub(crate) const NOT_BUILT: Rule = Rule(901);
 
 /// The place of a refusal of the whole file.
 const WHOLE_FILE: Place = Place { line: 1, column: 1 };

@@ -5,12 +5,11 @@ use crate::answer::no_run;
 use crate::deliver::{deliver, write_all};
 use crate::reply::reply_to;
 use fort_core::Journal;
+use fort_diag::fixed;
 use fort_port::{Gate, Shelf, Sink};
 use std::alloc::Global;
 use std::sync::Wait;
 use std::thread::Threads;
-
-const WANT_OF_MEMORY: &[u8] = b"want of memory\n";
 
 /// The status of a call that found too little memory.
 const WANTS_MEMORY: u8 = 7;
@@ -64,7 +63,7 @@ pub fn fortress<R: Threads + Wait + Sync, F: Shelf, K: Sink, N: Sink, G: Gate + 
             }
         }
         Err(_) => {
-            let _ = write_all(notes, WANT_OF_MEMORY);
+            let _ = write_all(notes, fixed(WANTS_MEMORY).as_bytes());
             Finish {
                 status: WANTS_MEMORY,
                 journal: no_run(alloc),

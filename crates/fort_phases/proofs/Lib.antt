@@ -1,0 +1,6 @@
+pub mod Groupings
+pub mod Rows
+pub mod Hierarchies
+pub mod Fields
+pub mod Memberships
+pub mod Programs
