@@ -1,3 +1,5 @@
 pub mod Splits
+pub mod Parts
 pub mod Options
+pub mod Loops
 pub mod Commands

@@ -3,17 +3,31 @@ ghost use Rattle.std.specs.Prelude.{◌≡◌, ◌∷◌, map, codes, string_byt
 ghost use Rattle.fort_cmd.specs.Words.{Explains, IsCommand, file_of};
 ghost use Rattle.fort_cmd.specs.declared.command.CmdFault.TheVariants as a_fault;
 
-use crate::words::{file_alone, file_with_fuel, is_word};
+use crate::asked::{file_alone, gathered};
+use crate::word::{is_word, number_of};
 use fort_base::{Bytes, List, Memory};
 use std::alloc::Global;
+
+/// The workers of a run where no word gives them.
+const DEFAULT_WORKERS: u32 = 4;
+
+/// The fuel of a run where no word gives it.
+const DEFAULT_FUEL: u32 = 2_000_000;
+
+/// The most accounts of the bank.
+const MOST_ACCOUNTS: u32 = 10_000;
 
 /// What the words ask for.
 #[derive(Drop)]
 pub enum Command {
-    /// `run FILE [--fuel N]`: the file, and the fuel, from 1 to 20,000,000.
-    Run(Bytes, u64),
+    /// `check FILE`
+    Check(Bytes),
     /// `show FILE`
     Show(Bytes),
+    /// `run FILE [--workers N] [--fuel N]`: the file, the workers, from 1 to 64, and the fuel, from 1 to 20,000,000.
+    Run(Bytes, u32, u64),
+    /// `bench N`: the accounts of the bank, from 1 to 10,000.
+    Bench(u32),
 }
 
 /// Why there is no command.
@@ -32,21 +46,25 @@ impl From<Memory> for CmdFault {
 }
 
 impl Command {
-    ghost use Rattle.std.specs.Prelude.{◌≡◌};
+    ghost use Rattle.std.specs.Prelude.{◌≡◌, option_map};
 
-    /// The name of the file that the command reads.
-    pub fn file(&self) -> &Bytes
-        ensures { result.now ≡ file_of self.now }
+    /// The name of the file that the command reads; `bench` reads none.
+    pub fn file(&self) -> Option<&Bytes>
+        ensures { option_map (λ f. f.now) result ≡ file_of self.now }
     {
         match self {
-            Command::Run(file, _) => file,
-            Command::Show(file) => file,
+            Command::Check(file) => Some(file),
+            Command::Show(file) => Some(file),
+            Command::Run(file, _, _) => Some(file),
+            Command::Bench(_) => None,
         }
     }
 }
 
-/// The command that the words after the program's name are: `run FILE [--fuel N]` or `show FILE`. The option stands before FILE or
-/// behind it, `--fuel N` and `--fuel=N` mean the same, and without it the fuel is 2,000,000. The chapter "The command line".
+/// The command that the words after the program's name are: `check FILE`, `show FILE`, `run FILE [--workers N] [--fuel N]` or
+/// `bench N`. Options and FILE stand in any order, each once at most; `--name N` and `--name=N` mean the same, and behind the
+/// first `--` every word is a FILE. Without the options there are 4 workers, and the fuel is 2,000,000. The chapter
+/// "The command line".
 ///
 /// # Errors
 ///
@@ -58,11 +76,18 @@ pub fn command_of(alloc: Global, words: &[String]) -> Result<Command, CmdFault>
     let [word, behind @ ..] = words else {
         return Err(CmdFault::NotACommand);
     };
-    if is_word(word.as_bytes(), b"run") {
+    let word = word.as_bytes();
+    if is_word(word, b"run") {
         return run_of(alloc, behind);
     }
-    if is_word(word.as_bytes(), b"show") {
+    if is_word(word, b"check") {
+        return check_of(alloc, behind);
+    }
+    if is_word(word, b"show") {
         return show_of(alloc, behind);
+    }
+    if is_word(word, b"bench") {
+        return bench_of(behind);
     }
     Err(CmdFault::NotACommand)
 }
@@ -72,11 +97,27 @@ fn run_of(alloc: Global, behind: &[String]) -> Result<Command, CmdFault>
     ensures ok { IfOk result (IsCommand (codes "run" ∷ map string_bytes behind.now)) }
     ensures cause { IfErr result (Explains (codes "run" ∷ map string_bytes behind.now)) }
 {
-    let Some(asked) = file_with_fuel(behind) else {
+    let Some(asked) = gathered(behind) else {
         return Err(CmdFault::NotACommand);
     };
-    let file = List::from_slice(alloc, asked.file)?;
-    Ok(Command::Run(file, asked.fuel))
+    let Some(file) = asked.file else {
+        return Err(CmdFault::NotACommand);
+    };
+    let workers = asked.workers.unwrap_or(DEFAULT_WORKERS);
+    let fuel = asked.fuel.unwrap_or(DEFAULT_FUEL);
+    let file = List::from_slice(alloc, file.as_bytes())?;
+    Ok(Command::Run(file, workers, u64::from(fuel)))
+}
+
+/// The command to check that stands behind its word.
+fn check_of(alloc: Global, behind: &[String]) -> Result<Command, CmdFault>
+    ensures ok { IfOk result (IsCommand (codes "check" ∷ map string_bytes behind.now)) }
+    ensures cause { IfErr result (Explains (codes "check" ∷ map string_bytes behind.now)) }
+{
+    let Some(file) = file_alone(behind) else {
+        return Err(CmdFault::NotACommand);
+    };
+    Ok(Command::Check(List::from_slice(alloc, file.as_bytes())?))
 }
 
 /// The command to show that stands behind its word.
@@ -87,6 +128,19 @@ fn show_of(alloc: Global, behind: &[String]) -> Result<Command, CmdFault>
     let Some(file) = file_alone(behind) else {
         return Err(CmdFault::NotACommand);
     };
-    let file = List::from_slice(alloc, file)?;
-    Ok(Command::Show(file))
+    Ok(Command::Show(List::from_slice(alloc, file.as_bytes())?))
+}
+
+/// The bank that stands behind its word.
+fn bench_of(behind: &[String]) -> Result<Command, CmdFault>
+    ensures ok { IfOk result (IsCommand (codes "bench" ∷ map string_bytes behind.now)) }
+    ensures cause { IfErr result (Explains (codes "bench" ∷ map string_bytes behind.now)) }
+{
+    let Some(number) = file_alone(behind) else {
+        return Err(CmdFault::NotACommand);
+    };
+    let Some(accounts) = number_of(number, MOST_ACCOUNTS) else {
+        return Err(CmdFault::NotACommand);
+    };
+    Ok(Command::Bench(accounts))
 }

@@ -1,3 +1,3 @@
 mod Known
 mod FieldLaws
-mod AcceptedLaws
+pub mod AcceptedLaws

@@ -23,7 +23,8 @@ use Rattle.fort_field.specs.Rules as fields
 use Rattle.fort_member.specs.Answers.{AreMembers}
 use Rattle.fort_over.specs.Answers as overloads
 use Rattle.fort_front.proofs.Overloaded.{none_reported}
-use Rattle.fort_front.specs.Front.{IsFormed, Breaks, in_grammar, in_grouping, in_hierarchy, in_fields, in_overloads, NeverBoth, NeverBothInGrammar}
+use Rattle.fort_front.proofs.Same.{ready, same_report, typed_once}
+use Rattle.fort_front.specs.Front.{IsFormed, Breaks, in_grammar, in_grouping, in_hierarchy, in_fields, in_overloads, in_typing, known, forms, NeverBoth, NeverBothInGrammar}
 
 -- Where no token stands too deep, no first one does.
 none_deep : (ts : List Token) (place : Place) → AllShallow ts → FirstDeep ts place → ⊥
@@ -81,8 +82,11 @@ in_overloads_never tokens rule at c members f is belong reported =
     (other.sets ∙ sym f.belong.sets) f.ruled (subst (λ (x : Component). overloads.IsReported (declares x) members rule.0 at) same reported)
 
 pub never : NeverBoth
-never tokens rule at f (in_grammar breaks) = in_grammar_never tokens rule.0 at f.component f.is breaks
-never tokens rule at f (in_grouping c is first) = in_grouping_never tokens rule at c f is first
-never tokens rule at f (in_hierarchy c groups is grouped reported) = in_hierarchy_never tokens rule at c f is reported
-never tokens rule at f (in_fields c groups types is grouped typed reported) = in_fields_never tokens rule at c f is reported
-never tokens rule at f (in_overloads c groups types members is grouped typed belong reported) = in_overloads_never tokens rule at c members f is belong reported
+never tokens program rule at a (in_grammar breaks) = in_grammar_never tokens rule.0 at a.formed.component a.formed.is breaks
+never tokens program rule at a (in_grouping c is first) = in_grouping_never tokens rule at c a.formed is first
+never tokens program rule at a (in_hierarchy c groups is grouped reported) = in_hierarchy_never tokens rule at c a.formed is reported
+never tokens program rule at a (in_fields c groups types is grouped typed reported) = in_fields_never tokens rule at c a.formed is reported
+never tokens program rule at a (in_overloads c groups types members is grouped typed belong reported) = in_overloads_never tokens rule at c members a.formed is belong reported
+never tokens program rule at a (in_typing g reported) =
+    typed_once.never_both (known tokens a.formed) (forms tokens a.formed) (ready tokens a.formed) a.typed a.has_types (record { rule = rule; place = at })
+    (same_report tokens g a.formed (record { rule = rule; place = at }) reported)

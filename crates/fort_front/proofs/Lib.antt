@@ -1,4 +1,5 @@
 pub mod Overloaded
+pub mod Same
 pub mod Apart
 pub mod Refused
 pub mod Called

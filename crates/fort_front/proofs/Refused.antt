@@ -1,4 +1,4 @@
--- A component of which a flat expression, the hierarchy, a field or an overload set is refused is refused by that; and what `overloads` asks of members.
+-- A component of which a flat expression, the hierarchy, a field, an overload set or a form is refused is refused by that; and what `overloads` asks of members.
 use Rattle.std.proofs.Common.{◌≡◌, ◌≤◌, ◌^◌, List, Err, length, sym, ap, subst}
 use Rattle.fort_base.specs.declared.refusal.CheckFault.{CheckFault}
 use Rattle.fort_base.specs.declared.refusal.CheckFault.TheVariants as a_fault
@@ -18,26 +18,38 @@ use Rattle.fort_member.proofs.WellMadeLaws.{sets_well_made}
 use Rattle.fort_over.specs.Answers.{AreOver}
 use Rattle.fort_over.specs.Answers as overloads
 use Rattle.fort_syntax.specs.Answer as grammar
-use Rattle.fort_front.specs.Front.{Answers, in_grouping, in_hierarchy, in_fields, in_overloads}
+use Rattle.fort_typing.specs.Typing as typing
+use Rattle.fort_front.proofs.Same.{exact}
+use Rattle.fort_front.specs.Front.{Answers, Checks, IsFormed, in_grouping, in_hierarchy, in_fields, in_overloads, in_typing, known, forms}
 
-pub refused : (tokens : Tokens) (c : Component) (fault : CheckFault) → grammar.IsComponent tokens c → AnswersAll c (Err fault) → Answers tokens (Err fault)
+pub refused : (tokens : Tokens) (c : Component) (fault : CheckFault) → grammar.IsComponent tokens c → AnswersAll c (Err fault) → Checks tokens (Err fault)
 refused tokens c (a_fault.Refused rule place) is first = in_grouping c is first
 refused tokens c a_fault.Memory is first = tt
 
 pub types_refused : (tokens : Tokens) (c : Component) (groups : List FlatGrouping) (fault : CheckFault) → grammar.IsComponent tokens c
-    → HasGroups (flats c) groups → IsFault c (type_names c) fault → Answers tokens (Err fault)
+    → HasGroups (flats c) groups → IsFault c (type_names c) fault → Checks tokens (Err fault)
 types_refused tokens c groups (a_fault.Refused rule place) is grouped reported = in_hierarchy c groups is grouped reported
 types_refused tokens c groups a_fault.Memory is grouped reported = tt
 
 pub fields_refused : (tokens : Tokens) (c : Component) (groups : List FlatGrouping) (types : Hierarchy) (fault : CheckFault) → grammar.IsComponent tokens c
-    → HasGroups (flats c) groups → IsHierarchy c (type_names c) types → fields.IsFault c fault → Answers tokens (Err fault)
+    → HasGroups (flats c) groups → IsHierarchy c (type_names c) types → fields.IsFault c fault → Checks tokens (Err fault)
 fields_refused tokens c groups types (a_fault.Refused rule place) is grouped typed reported = in_fields c groups types is grouped typed reported
 fields_refused tokens c groups types a_fault.Memory is grouped typed reported = tt
 
 pub overloads_refused : (tokens : Tokens) (c : Component) (groups : List FlatGrouping) (types : Hierarchy) (members : Members) (fault : CheckFault) → grammar.IsComponent tokens c
-    → HasGroups (flats c) groups → IsHierarchy c (type_names c) types → AreMembers c members → overloads.IsFault (declares c) members fault → Answers tokens (Err fault)
+    → HasGroups (flats c) groups → IsHierarchy c (type_names c) types → AreMembers c members → overloads.IsFault (declares c) members fault → Checks tokens (Err fault)
 overloads_refused tokens c groups types members (a_fault.Refused rule place) is grouped typed belong reported = in_overloads c groups types members is grouped typed belong reported
 overloads_refused tokens c groups types members a_fault.Memory is grouped typed belong reported = tt
+
+pub typing_refused : (tokens : Tokens) (f : IsFormed tokens) (fault : CheckFault) → typing.IsFault (known tokens f).facts (forms tokens f) fault
+    → Checks tokens (Err fault)
+typing_refused tokens f (a_fault.Refused rule place) is = in_typing f ((exact tokens f).reported (record { rule = rule; place = place }) is)
+typing_refused tokens f a_fault.Memory is = tt
+
+-- what is refused has the same answer where the greeting's text is asked
+pub refused_too : (tokens : Tokens) (fault : CheckFault) → Checks tokens (Err fault) → Answers tokens (Err fault)
+refused_too tokens (a_fault.Refused rule place) breaks = breaks
+refused_too tokens a_fault.Memory breaks = tt
 
 -- what `overloads` asks: an accepted component's members are over its declared types
 pub are_over : (c : Component) (types : Hierarchy) (members : Members) → IsHierarchy c (type_names c) types → AreMembers c members → AreOver (declares c) types members

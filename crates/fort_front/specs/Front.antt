@@ -1,10 +1,12 @@
--- The chapters "Grammar", "Operators", "Types", "Members" and "Overload rules", their refusals one after another, and then "What is built": what `check_grammar` and
--- `check_tokens` answer.
+-- The chapters "Grammar", "Operators", "Types", "Members", "Overload rules" and "Typing", their refusals one after another, then docs/TRANSLATION.md and "What is
+-- built": what `check_grammar`, `check` and `check_tokens` answer.
 use Rattle.std.specs.Prelude.{◌≡◌, ℕ, List, Option, MatchOption, Result, Ok, Err}
 use Rattle.fort_base.specs.declared.refusal.Place.{Place}
 use Rattle.fort_base.specs.declared.refusal.Rule.{Rule}
 use Rattle.fort_base.specs.declared.refusal.CheckFault.{CheckFault}
 use Rattle.fort_base.specs.declared.refusal.CheckFault.TheVariants.{Refused, Memory}
+use Rattle.fort_core.specs.declared.program.Program.{Program}
+use Rattle.fort_form.specs.declared.component.Forms.{Forms}
 use Rattle.fort_token.specs.declared.token.Tokens.{Tokens}
 use Rattle.fort_tree.specs.declared.declarations.Component.{Component}
 use Rattle.fort_tree.specs.declared.grouped.FlatGrouping.{FlatGrouping}
@@ -18,6 +20,13 @@ use Rattle.fort_field.specs.Rules as fields
 use Rattle.fort_member.specs.Answers.{AreMembers}
 use Rattle.fort_over.specs.Answers.{KeepAllRules}
 use Rattle.fort_over.specs.Answers as overloads
+use Rattle.fort_known.specs.Known.{Knows}
+use Rattle.fort_fit.specs.Fit.{known_of}
+use Rattle.fort_forms.specs.FormsOf.{forms_of}
+use Rattle.fort_typed_form.specs.declared.component.Typed.{Typed}
+use Rattle.fort_typing_rules.specs.Components.{HasTypes}
+use Rattle.fort_typing_rules.specs.Components as typing
+use Rattle.fort_translation.specs.Programs.{IsProgramOf}
 use Rattle.fort_syntax.specs.Answer as grammar
 use Rattle.fort_greeting.specs.Greeting.{IsGreeting}
 
@@ -49,10 +58,25 @@ pub record IsFormed (tokens : Tokens) : Type 0 where
   pub belong : AreMembers component members
   pub ruled : KeepAllRules (declares component) members
 
+-- what is known of such a component where its expressions are typed
+abbrev pub known : (tokens : Tokens) → IsFormed tokens → Knows
+known tokens f = known_of f.component f.types f.members
+
+-- the forms of its expressions
+abbrev pub forms : (tokens : Tokens) → IsFormed tokens → Forms
+forms tokens f = forms_of f.component (record { list = f.groups })
+
+-- The tokens are those of one component that keeps all the rules: those before typing, and its forms have these types; and this is its program.
+pub record IsAccepted (tokens : Tokens) (program : Program) : Type 0 where
+  pub formed : IsFormed tokens
+  pub typed : Typed
+  pub has_types : HasTypes (known tokens formed) (forms tokens formed) typed
+  pub becomes : IsProgramOf formed.types formed.members formed.component.texts typed program
+
 -- The token list breaks this rule, at this place: one of 202, 201 and 203; or, where it is a component, the first of 301 to 304
 -- that one of its flat expressions breaks; or, where each has its grouping, the lowest of 401 to 407 that its types break; or, where
 -- these are a hierarchy, the lower of 451 and 452 that its fields break; or, where it has members, the first of 501 to 507 that its
--- overload sets break.
+-- overload sets break; or, where these keep the rules, the one of 601 to 614 that is reported of its forms.
 pub data Breaks (tokens : Tokens) (rule : Rule) (at : Place) : Type 0 where
   in_grammar : BreaksGrammar tokens rule at → Breaks tokens rule at
   in_grouping : (c : Component) → grammar.IsComponent tokens c → IsFirstBreak (flats c) rule at → Breaks tokens rule at
@@ -63,15 +87,27 @@ pub data Breaks (tokens : Tokens) (rule : Rule) (at : Place) : Type 0 where
   in_overloads : (c : Component) (groups : List FlatGrouping) (types : Hierarchy) (members : Members) → grammar.IsComponent tokens c
       → HasGroups (flats c) groups → IsHierarchy c (type_names c) types → AreMembers c members → overloads.IsReported (declares c) members rule.0 at
       → Breaks tokens rule at
+  in_typing : (f : IsFormed tokens) → typing.IsReported (known tokens f) (forms tokens f) (record { rule = rule; place = at }) → Breaks tokens rule at
 
--- The rules are kept, and the component is a greeting that prints this text; or they are kept, and it is no greeting.
-pub record IsAccepted (tokens : Tokens) (found : Option (List ℕ)) : Type 0 where
-  pub formed : IsFormed tokens
-  pub prints : MatchOption found ((text : List ℕ) → IsGreeting tokens formed.component text → ⊥) (λ text. IsGreeting tokens formed.component text)
+-- The component is accepted, with this program; or this is the rule that is reported.
+abbrev pub Checks : Tokens → Result Program CheckFault → Type 0
+Checks tokens (Ok program) = IsAccepted tokens program
+Checks tokens (Err (Refused rule at)) = Breaks tokens rule at
+Checks tokens (Err Memory) = Unit {0}
 
--- The rules are kept, and this is the text that the component prints, if it is a greeting; or this is the rule that is reported.
+-- The same of the tokens of a component.
+abbrev pub ChecksTree : Component → Result Program CheckFault → Type 0
+ChecksTree c found = (tokens : Tokens) → grammar.IsComponent tokens c → Checks tokens found
+
+-- The component is accepted, and it is a greeting that prints this text; or it is accepted, and it is no greeting.
+pub record IsBuilt (tokens : Tokens) (found : Option (List ℕ)) : Type 0 where
+  pub program : Program
+  pub accepted : IsAccepted tokens program
+  pub prints : MatchOption found ((text : List ℕ) → IsGreeting tokens accepted.formed.component text → ⊥) (λ text. IsGreeting tokens accepted.formed.component text)
+
+-- The component is accepted, and this is the text that it prints, if it is a greeting; or this is the rule that is reported.
 abbrev pub Answers : Tokens → Result (Option (List ℕ)) CheckFault → Type 0
-Answers tokens (Ok found) = IsAccepted tokens found
+Answers tokens (Ok found) = IsBuilt tokens found
 Answers tokens (Err (Refused rule at)) = Breaks tokens rule at
 Answers tokens (Err Memory) = Unit {0}
 
@@ -79,10 +115,14 @@ Answers tokens (Err Memory) = Unit {0}
 abbrev pub NeverBothInGrammar : Type 0
 NeverBothInGrammar = (tokens : Tokens) (rule : Rule) (at : Place) → IsGrammatical tokens → BreaksGrammar tokens rule at → ⊥
 
--- No token list keeps the rules and breaks one.
+-- No token list is accepted and breaks a rule.
 abbrev pub NeverBoth : Type 0
-NeverBoth = (tokens : Tokens) (rule : Rule) (at : Place) → IsFormed tokens → Breaks tokens rule at → ⊥
+NeverBoth = (tokens : Tokens) (program : Program) (rule : Rule) (at : Place) → IsAccepted tokens program → Breaks tokens rule at → ⊥
 
--- Tokens that keep the rules print one text at most.
+-- Tokens that are accepted have one program.
+abbrev pub OneProgram : Type 0
+OneProgram = (tokens : Tokens) (p q : Program) → IsAccepted tokens p → IsAccepted tokens q → p ≡ q
+
+-- Tokens that keep the rules before typing print one text at most.
 abbrev pub OneGreeting : Type 0
 OneGreeting = (tokens : Tokens) (f g : IsFormed tokens) (a b : List ℕ) → IsGreeting tokens f.component a → IsGreeting tokens g.component b → a ≡ b

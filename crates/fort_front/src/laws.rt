@@ -1,7 +1,7 @@
-ghost use Rattle.fort_front.specs.Front.{NeverBoth, NeverBothInGrammar, OneGreeting};
+ghost use Rattle.fort_front.specs.Front.{NeverBoth, NeverBothInGrammar, OneGreeting, OneProgram};
 ghost use Rattle.fort_front.specs.Calls.{ExactlyOne, NeverAbstract};
 
-/// A law of token lists: none keeps the rules of the grammar, of grouping, of types, of members and of overloading, and breaks one too.
+/// A law of token lists: none is accepted and breaks a rule too.
 pub fn never_both()
     ensures { NeverBoth }
 {}
@@ -11,7 +11,12 @@ pub fn never_both_in_grammar()
     ensures { NeverBothInGrammar }
 {}
 
-/// A law of token lists that keep all these rules: such a one is a greeting of one text at most. The chapter is "What is built".
+/// A law of token lists that are accepted: such a one is one program.
+pub fn one_program()
+    ensures { OneProgram }
+{}
+
+/// A law of token lists that keep the rules before typing: such a one is a greeting of one text at most. The chapter is "What is built".
 pub fn one_greeting()
     ensures { OneGreeting }
 {}

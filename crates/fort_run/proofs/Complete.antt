@@ -12,13 +12,13 @@ use Rattle.fort_greet.specs.Program.{IsProgram}
 use Rattle.fort_greet.specs.Runs.{cost, EndsSo, completes, runs_out}
 use Rattle.fort_greet.proofs.Ended.{greetings_end_so}
 use Rattle.fort_cmd.specs.declared.command.Command.{Command}
-use Rattle.fort_cmd.specs.declared.command.Command.TheVariants.{Run, Show}
+use Rattle.fort_cmd.specs.declared.command.Command.TheVariants.{Check, Show, Run, Bench}
 use Rattle.fort_run.specs.declared.top.Finish.{Finish}
-use Rattle.fort_cmd.specs.Words.{IsCommand, IsNoCommand, file_of}
-use Rattle.fort_run.specs.Reply.{Reply, IsFile, Prints, IsProgramOf, IsRefused, TellsEnding, TellsRun, RunSays, Runs, Refuses, IsShownAs, IsNoComponent, ShowSays, Shows, ShowsNone, CommandSays, Judged, NoCommand, Unread, TooLarge, file_limit}
+use Rattle.fort_cmd.specs.Words.{IsCommand, IsNoCommand}
+use Rattle.fort_run.specs.Reply.{Reply, IsFile, IsText, IsAcceptedAs, BreaksOne, Prints, IsProgramOf, IsRefused, TellsEnding, TellsRun, RunSays, Runs, Refuses, CheckSays, Accepts, AcceptsNone, accepted, bench_name, line, IsShownAs, IsNoComponent, ShowSays, Shows, ShowsNone, CommandSays, Judged, NoCommand, Unread, TooLarge, file_limit}
 use Rattle.fort_run.specs.Delivery.{Takes, Whole, OutFailed, NotesFailed}
-use Rattle.fort_run.specs.Outcome.{line, Outside, MeansToSay, Ends, Said, WantsMemory, IsCalm, Asks, Answers}
-use Rattle.fort_run.proofs.Apart.{IsFormedGreeting, prints_apart, shown_apart}
+use Rattle.fort_run.specs.Outcome.{Outside, MeansToSay, Ends, Said, WantsMemory, IsCalm, IsAbout, Asks, RunsWith, Answers}
+use Rattle.fort_run.proofs.Apart.{IsFormedGreeting, accepted_apart, prints_apart, shown_apart}
 use Rattle.fort_cmd.proofs.Commands.{one_command}
 
 -- What was meant was said, or memory was wanting.
@@ -28,10 +28,16 @@ settled o finish calm (Said reply means (OutFailed out notes e) j) = absurd (cal
 settled o finish calm (Said reply means (NotesFailed out notes e) j) = absurd (calm.notes notes.rose)
 settled o finish calm (WantsMemory notes e j) = inr e
 
--- What was read is the file that the shelf has.
-same_file : (o : Outside) (a b : Command) (file found : List ℕ) → Asks o a file → IsCommand o.words b → IsFile (o.holding (file_of b)) found → found ≡ file
+-- What was read is the text that the command is about.
+same_text_of : (o : Outside) (command : Command) (file found : List ℕ) → IsAbout o.holding command file → IsText o.holding command found → found ≡ file
+same_text_of o (Check name) file found about is = subst (λ h. IsFile h found) about is
+same_text_of o (Show name) file found about is = subst (λ h. IsFile h found) about is
+same_text_of o (Run name workers fuel) file found about is = subst (λ h. IsFile h found) about is
+same_text_of o (Bench accounts) file found about is = is ∙ sym about
+
+same_file : (o : Outside) (a b : Command) (file found : List ℕ) → Asks o a file → IsCommand o.words b → IsText o.holding b found → found ≡ file
 same_file o a b file found asks q is =
-    let e : o.holding (file_of b) ≡ Held file = ap (λ c. o.holding (file_of c)) (one_command o.words b a q asks.is) ∙ asks.held in subst (λ h. IsFile h found) e is
+    same_text_of o a file found asks.about (subst (λ c. IsText o.holding c found) (one_command o.words b a q asks.is) is)
 
 -- What is said of a file within the limit is what its command says of it.
 judged : (o : Outside) (reply : Reply) (command : Command) (file : List ℕ) → IsCalm o → Asks o command file → length file ≤ file_limit → MeansToSay o reply
@@ -47,8 +53,9 @@ judged o reply command file c asks within (TooLarge command' file' is read long 
 -- A file prints one text.
 same_text : (file a b : List ℕ) → Prints file a → Prints file b → b ≡ a
 same_text file a b p q =
-    let r : IsFormedGreeting b p.tokens = subst (IsFormedGreeting b) (one_list_of_tokens file q.tokens p.tokens q.has p.has) (q.formed, q.greets) in
-    one_text p.tokens r.0 p.formed b a r.1 p.greets
+    let r : IsFormedGreeting b p.is.tokens =
+        subst (IsFormedGreeting b) (one_list_of_tokens file q.is.tokens p.is.tokens q.is.has p.is.has) (q.is.accepted.formed, q.greets) in
+    one_text p.is.tokens r.0 p.is.accepted.formed b a r.1 p.greets
 
 -- How the run of a greeting ends.
 ends_so : (file text : List ℕ) (fuel : ℕ) (reply : Reply) (p : Program) → Prints file text → IsProgramOf file p → TellsRun p fuel reply → EndsSo text fuel reply.out reply.journal.ending
@@ -89,6 +96,22 @@ shown : (name file text : List ℕ) (reply : Reply) → IsShownAs file text → 
 shown name file text reply s (Shows text' shown' e) = ap (λ (x : Reply). x.status) e
 shown name file text reply s (ShowsNone rule place none e) = absurd (shown_apart file text rule place s none)
 
+accepts : (name file : List ℕ) (program : Program) (reply : Reply) → IsAcceptedAs file program → CheckSays name file reply
+    → (reply.status ≡ 0) × (reply.out ≡ accepted)
+accepts name file program reply is (Accepts p a e) = (ap (λ (x : Reply). x.status) e, ap (λ (x : Reply). x.out) e)
+accepts name file program reply is (AcceptsNone rule place b e) = absurd (accepted_apart file program rule place is b)
+
+accepts_none : (name file : List ℕ) (rule : Rule) (place : Place) (reply : Reply) → BreaksOne file rule place → CheckSays name file reply → reply.status ≡ 1
+accepts_none name file rule place reply b (Accepts program a e) = absurd (accepted_apart file program rule place a b)
+accepts_none name file rule place reply b (AcceptsNone rule' place' b' e) = ap (λ (x : Reply). x.status) e
+
+-- What a command that runs its text says of it.
+runs : (command : Command) (file : List ℕ) (fuel : ℕ) (reply : Reply) → RunsWith command fuel → CommandSays command file reply → (name : List ℕ) × RunSays name file fuel reply
+runs (Check name) file fuel reply w says = absurd w
+runs (Show name) file fuel reply w says = absurd w
+runs (Run name workers given) file fuel reply w says = (name, subst (λ n. RunSays name file n reply) (sym w) says)
+runs (Bench accounts) file fuel reply w says = (bench_name, subst (λ n. RunSays bench_name file n reply) (sym w) says)
+
 no_component : (name file : List ℕ) (rule : Rule) (place : Place) (reply : Reply) → IsNoComponent file rule place → ShowSays name file reply → reply.status ≡ 1
 no_component name file rule place reply n (Shows text s e) = absurd (shown_apart file text rule place s n)
 no_component name file rule place reply n (ShowsNone rule' place' none e) = ap (λ (x : Reply). x.status) e
@@ -121,12 +144,19 @@ answers o finish ends = record {
   ends = ends;
   complete = λ c. record {
     no_command = λ none. either o finish 2 c ends (λ r m. no_command o r none m);
-    completes = λ name file text fuel asks within prints enough.
-        either_with o finish 0 (line text) c ends (λ r m. completed name file text fuel r prints enough (judged o r (Run name fuel) file c asks within m));
-    runs_out = λ name file text fuel asks within prints short.
-        either_with o finish 6 [] c ends (λ r m. ran_out name file text fuel r prints short (judged o r (Run name fuel) file c asks within m));
-    refused = λ name file fuel rule place asks within none.
-        either o finish 1 c ends (λ r m. refused name file fuel rule place r none (judged o r (Run name fuel) file c asks within m));
+    completes = λ command file text fuel asks goes within prints enough.
+        either_with o finish 0 (line text) c ends (λ r m.
+        let says = runs command file fuel r goes (judged o r command file c asks within m) in completed says.0 file text fuel r prints enough says.1);
+    runs_out = λ command file text fuel asks goes within prints short.
+        either_with o finish 6 [] c ends (λ r m.
+        let says = runs command file fuel r goes (judged o r command file c asks within m) in ran_out says.0 file text fuel r prints short says.1);
+    refused = λ command file fuel rule place asks goes within none.
+        either o finish 1 c ends (λ r m.
+        let says = runs command file fuel r goes (judged o r command file c asks within m) in refused says.0 file fuel rule place r none says.1);
+    accepts = λ name file program asks within is.
+        either_with o finish 0 accepted c ends (λ r m. accepts name file program r is (judged o r (Check name) file c asks within m));
+    accepts_none = λ name file rule place asks within none.
+        either o finish 1 c ends (λ r m. accepts_none name file rule place r none (judged o r (Check name) file c asks within m));
     shown = λ name file text asks within is. either o finish 0 c ends (λ r m. shown name file text r is (judged o r (Show name) file c asks within m));
     no_component = λ name file rule place asks within none. either o finish 1 c ends (λ r m. no_component name file rule place r none (judged o r (Show name) file c asks within m));
     too_large = λ command file asks long. either o finish 8 c ends (λ r m. too_large o r command file c asks long m);

@@ -7,7 +7,7 @@ use Rattle.fort_greet.specs.Runs.{EndsSo, completes, runs_out, Greets}
 use Rattle.fort_greet.specs.declared.greeted.Greeted.{Greeted}
 use Rattle.fort_token.specs.declared.token.Tokens.{Tokens}
 use Rattle.fort_lex.specs.Files.{HasTokens}
-use Rattle.fort_front.specs.Front.{IsAccepted}
+use Rattle.fort_front.specs.Front.{IsBuilt}
 use Rattle.fort_run.specs.Reply.{Prints, IsNotBuilt, TellsEnding, TellsRun}
 use Rattle.fort_run.specs.Said.{said}
 use Rattle.fort_run.specs.declared.answer.Answer.TheVariants.{Ended, RanOut}
@@ -45,9 +45,17 @@ ran_out_tells text fuel g k n = (
     go (runs_out pick less out e) = subst (λ x. TellsEnding k.program x (said (RanOut g.journal g.output))) (sym e) (refl, refl)
 
 -- Tokens that are accepted with a text are those of a file that prints it.
-pub printed : (file text : List ℕ) (tokens : Tokens) → HasTokens file tokens → IsAccepted tokens (Some text) → Prints file text
-printed file text tokens has accepted = record { tokens = tokens; has = has; formed = accepted.formed; greets = accepted.prints }
+pub printed : (file text : List ℕ) (tokens : Tokens) → HasTokens file tokens → IsBuilt tokens (Some text) → Prints file text
+printed file text tokens has built = record {
+  program = built.program;
+  is = record { tokens = tokens; has = has; accepted = built.accepted };
+  greets = built.prints;
+}
 
 -- Tokens that are accepted with none are those of a file that isn't built.
-pub unbuilt : (file : List ℕ) (tokens : Tokens) → HasTokens file tokens → IsAccepted tokens None → IsNotBuilt file
-unbuilt file tokens has accepted = record { tokens = tokens; has = has; formed = accepted.formed; other = accepted.prints }
+pub unbuilt : (file : List ℕ) (tokens : Tokens) → HasTokens file tokens → IsBuilt tokens None → IsNotBuilt file
+unbuilt file tokens has built = record {
+  program = built.program;
+  is = record { tokens = tokens; has = has; accepted = built.accepted };
+  other = built.prints;
+}

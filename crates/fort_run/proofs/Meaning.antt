@@ -3,8 +3,9 @@ use Rattle.std.proofs.Common.{◌≡◌, ℕ, ◌≤◌, List, length, Result, O
 use Rattle.fort_base.specs.declared.refusal.Memory.{Memory}
 use Rattle.fort_port.specs.Outside.{Holding}
 use Rattle.fort_cmd.specs.declared.command.Command.{Command}
-use Rattle.fort_cmd.specs.Words.{IsCommand, file_of}
-use Rattle.fort_run.specs.Reply.{IsFile, CommandSays, Means, Judged, file_limit, no_run}
+use Rattle.fort_cmd.specs.declared.command.Command.TheVariants.{Check, Show, Run, Bench}
+use Rattle.fort_cmd.specs.Words.{IsCommand}
+use Rattle.fort_run.specs.Reply.{IsText, IsBounded, CommandSays, Means, Judged, file_limit, no_run}
 use Rattle.fort_run.specs.Said.{said}
 use Rattle.fort_diag.specs.Notes.{want_of_memory}
 use Rattle.fort_run.specs.Delivery.{Delivers, TakesOrFails}
@@ -13,13 +14,12 @@ use Rattle.fort_run.specs.declared.answer.Answer.{Answer}
 use Rattle.fort_run.specs.declared.top.Finish.{Finish}
 use Rattle.fort_run.proofs.Complete.{answers}
 
--- What a command says of a file that was read whole is what the call means to say.
-pub read_means : (holding : List ℕ → Holding) (before after : ℕ) (command : Command) (name file : List ℕ) (r : Result Answer Memory)
-    → name ≡ file_of command → IsFile (holding name) file → length file ≤ file_limit → after ≡ before
-    → IfOk r (λ a. CommandSays command file (said a)) → IfOk r (λ a. (words : List (List ℕ)) → IsCommand words command → Means words holding before after (said a))
-read_means holding before after command name file (Ok a) e read within calm says =
-    λ words is. Judged command file is (subst (λ n. IsFile (holding n) file) e read) within calm says
-read_means holding before after command name file (Err m) e read within calm says = tt
+-- What a command says of a text that was read whole is what the call means to say.
+pub read_means : (holding : List ℕ → Holding) (before after : ℕ) (command : Command) (text : List ℕ) (r : Result Answer Memory)
+    → IsText holding command text → length text ≤ file_limit → after ≡ before
+    → IfOk r (λ a. CommandSays command text (said a)) → IfOk r (λ a. (words : List (List ℕ)) → IsCommand words command → Means words holding before after (said a))
+read_means holding before after command text (Ok a) read within calm says = λ words is. Judged command text is read within calm says
+read_means holding before after command text (Err m) read within calm says = tt
 
 -- What was meant was delivered.
 pub delivered : (o : Outside) (answer : Answer) (finish : Finish) (meant : ℕ) (out note : List ℕ) → MeansToSay o (said answer)
@@ -34,3 +34,10 @@ delivered o answer finish meant out note means e f g d j =
 -- Memory was wanting.
 pub memory_wanted : (o : Outside) (finish : Finish) → TakesOrFails o.notes want_of_memory → finish.status ≡ 7 → finish.journal ≡ no_run → Answers o finish
 memory_wanted o finish notes s j = answers o finish (WantsMemory notes s j)
+
+-- A command of words has a number of accounts that words may give.
+pub bounded : (words : List (List ℕ)) (command : Command) → IsCommand words command → IsBounded command
+bounded words (Check name) is = tt
+bounded words (Show name) is = tt
+bounded words (Run name workers fuel) is = tt
+bounded words (Bench accounts) is = is.is.within

@@ -5,21 +5,21 @@ use Rattle.fort_base.specs.declared.refusal.CheckFault.TheVariants as a_fault
 use Rattle.fort_token.specs.declared.token.Tokens.{Tokens}
 use Rattle.fort_lex.specs.Files.{Answers, HasTokens}
 use Rattle.fort_front.specs.Front as front
-use Rattle.fort_run.specs.Reply.{RunSays, Refuses, breaks, ill_formed, ShowSays, ShowsNone, in_tokens, in_grammar}
+use Rattle.fort_run.specs.Reply.{RunSays, Refuses, breaks, in_text, behind, CheckSays, AcceptsNone, ShowSays, ShowsNone, in_tokens, in_grammar}
 use Rattle.fort_run.specs.Said.{said, RefusedBy}
 use Rattle.fort_run.specs.declared.answer.Answer.{Answer}
 
 -- A file to run that breaks a rule of its tokens.
 pub tokens_refused : (name file : List ℕ) (fuel : ℕ) (fault : CheckFault) (answer : Answer) → Answers file (Err fault) → RefusedBy name fault answer
     → RunSays name file fuel (said answer)
-tokens_refused name file fuel (a_fault.Refused rule place) answer broken e = Refuses rule place (breaks broken) (ap said e)
+tokens_refused name file fuel (a_fault.Refused rule place) answer broken e = Refuses rule place (breaks (in_text broken)) (ap said e)
 tokens_refused name file fuel a_fault.Memory answer broken e = absurd e
 
--- A file to run whose tokens break a rule of the grammar, of grouping or of the hierarchy.
+-- A file to run whose tokens break a rule behind those of tokens.
 pub form_refused : (name file : List ℕ) (fuel : ℕ) (tokens : Tokens) (fault : CheckFault) (answer : Answer) → HasTokens file tokens
     → front.Answers tokens (Err fault) → RefusedBy name fault answer → RunSays name file fuel (said answer)
 form_refused name file fuel tokens (a_fault.Refused rule place) answer has broken e =
-    Refuses rule place (ill_formed (record { tokens = tokens; has = has; breaks = broken })) (ap said e)
+    Refuses rule place (breaks (behind tokens has broken)) (ap said e)
 form_refused name file fuel tokens a_fault.Memory answer has broken e = absurd e
 
 -- A file to show that breaks a rule of its tokens.
@@ -33,3 +33,16 @@ pub grammar_unshown : (name file : List ℕ) (tokens : Tokens) (fault : CheckFau
     → front.GrammarAnswers tokens (Err fault) → RefusedBy name fault answer → ShowSays name file (said answer)
 grammar_unshown name file tokens (a_fault.Refused rule place) answer has broken e = ShowsNone rule place (in_grammar tokens has broken) (ap said e)
 grammar_unshown name file tokens a_fault.Memory answer has broken e = absurd e
+
+-- A file to check that breaks a rule of its tokens.
+pub tokens_unaccepted : (name file : List ℕ) (fault : CheckFault) (answer : Answer) → Answers file (Err fault) → RefusedBy name fault answer
+    → CheckSays name file (said answer)
+tokens_unaccepted name file (a_fault.Refused rule place) answer broken e = AcceptsNone rule place (in_text broken) (ap said e)
+tokens_unaccepted name file a_fault.Memory answer broken e = absurd e
+
+-- A file to check whose tokens break a rule behind those of tokens.
+pub form_unaccepted : (name file : List ℕ) (tokens : Tokens) (fault : CheckFault) (answer : Answer) → HasTokens file tokens
+    → front.Checks tokens (Err fault) → RefusedBy name fault answer → CheckSays name file (said answer)
+form_unaccepted name file tokens (a_fault.Refused rule place) answer has broken e =
+    AcceptsNone rule place (behind tokens has broken) (ap said e)
+form_unaccepted name file tokens a_fault.Memory answer has broken e = absurd e

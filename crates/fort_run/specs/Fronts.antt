@@ -1,7 +1,8 @@
 -- Why a file isn't read whole, and what of it is. It restates the chapter "Statuses and notes" of docs/LANGUAGE.md.
 use Rattle.std.specs.Prelude.{◌≡◌, ℕ, ◌<◌, List, [], ◌++◌, length}
 use Rattle.fort_port.specs.Outside.{Holding, Untold, Absent, Held, Rose}
-use Rattle.fort_run.specs.Reply.{IsFile, file_limit}
+use Rattle.fort_cmd.specs.declared.command.Command.{Command}
+use Rattle.fort_run.specs.Reply.{IsFile, IsText, file_limit}
 use Rattle.fort_run.specs.declared.file.Unread.{Unread}
 use Rattle.fort_run.specs.declared.file.Unread.TheVariants as an_unread
 
@@ -16,3 +17,15 @@ abbrev pub IsFrontOf : Holding → List ℕ → Type 0
 IsFrontOf Untold bytes = Unit {0}
 IsFrontOf Absent bytes = bytes ≡ []
 IsFrontOf (Held file) bytes = (rest : List ℕ) × (file ≡ bytes ++ rest)
+
+-- Why there is no text that a command is about: the same, of its text.
+abbrev pub StopsAt : (List ℕ → Holding) → Command → ℕ → ℕ → Unread → Type 0
+StopsAt holding command before after an_unread.Failed = Rose before after
+StopsAt holding command before after an_unread.TooLarge = (after ≡ before) × ((text : List ℕ) × IsText holding command text × (file_limit < length text))
+StopsAt holding command before after an_unread.Memory = Unit {0}
+
+-- A text is larger than a file may be; or memory was wanting.
+abbrev pub IsTooLarge : List ℕ → Unread → Type 0
+IsTooLarge text an_unread.Failed = ⊥
+IsTooLarge text an_unread.TooLarge = file_limit < length text
+IsTooLarge text an_unread.Memory = Unit {0}

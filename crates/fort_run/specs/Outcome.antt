@@ -1,20 +1,18 @@
 -- How a call ends: its status, and what stands on both outputs. It restates the chapter "Statuses and notes" of docs/LANGUAGE.md.
-use Rattle.std.specs.Prelude.{◌≡◌, ℕ, ◌<◌, ◌≤◌, List, [], ◌∷◌, ◌++◌, ◌⊎◌, length}
+use Rattle.std.specs.Prelude.{◌≡◌, ℕ, ◌*◌, ◌<◌, ◌≤◌, List, [], ◌⊎◌, length}
 use Rattle.fort_base.specs.declared.refusal.Rule.{Rule}
 use Rattle.fort_base.specs.declared.refusal.Place.{Place}
+use Rattle.fort_core.specs.declared.program.Program.{Program}
 use Rattle.fort_port.specs.Outside.{Holding, Held, Rose}
 use Rattle.fort_cmd.specs.declared.command.Command.{Command}
-use Rattle.fort_cmd.specs.declared.command.Command.TheVariants.{Run, Show}
-use Rattle.fort_cmd.specs.Words.{IsCommand, IsNoCommand, file_of}
+use Rattle.fort_cmd.specs.declared.command.Command.TheVariants.{Check, Show, Run, Bench}
+use Rattle.fort_cmd.specs.Words.{IsCommand, IsNoCommand}
+use Rattle.fort_bench.specs.Bank.{bank}
 use Rattle.fort_greet.specs.Runs.{cost}
 use Rattle.fort_diag.specs.Notes.{want_of_memory}
-use Rattle.fort_run.specs.Reply.{Reply, Means, Prints, IsRefused, IsShownAs, IsNoComponent, file_limit, no_run}
+use Rattle.fort_run.specs.Reply.{Reply, Means, IsAcceptedAs, BreaksOne, Prints, IsRefused, IsShownAs, IsNoComponent, accepted, bench_fuel, file_limit, line, no_run}
 use Rattle.fort_run.specs.Delivery.{Change, Delivers, Takes, TakesOrFails}
 use Rattle.fort_run.specs.declared.top.Finish.{Finish}
-
--- a text as a line
-abbrev pub line : List ℕ → List ℕ
-line text = text ++ 10 ∷ []
 
 -- The outside of a call: its words, what the shelf tells and its counts of faults, and both sinks.
 pub record Outside : Type 0 where
@@ -40,21 +38,39 @@ pub record IsCalm (o : Outside) : Type 0 where
   pub out : Rose o.out.faults_were o.out.faults_are → ⊥
   pub notes : Rose o.notes.faults_were o.notes.faults_are → ⊥
 
--- The words are this command, and the shelf has this file for it.
-pub record Asks (o : Outside) (command : Command) (file : List ℕ) : Type 0 where
-  pub is : IsCommand o.words command
-  pub held : o.holding (file_of command) ≡ Held file
+-- The text that a command is about: the file that the shelf has under its name; or the bank.
+abbrev pub IsAbout : (List ℕ → Holding) → Command → List ℕ → Type 0
+IsAbout holding (Check name) text = holding name ≡ Held text
+IsAbout holding (Show name) text = holding name ≡ Held text
+IsAbout holding (Run name workers fuel) text = holding name ≡ Held text
+IsAbout holding (Bench accounts) text = text ≡ bank accounts (4 * accounts)
 
--- Where no count rose and the shelf tells its bytes, the words and the file decide the status; want of memory aside. With a fuel of at
--- least its cost a greeting prints its text, and else nothing.
+-- The words are this command, and this is the text that it is about.
+pub record Asks (o : Outside) (command : Command) (text : List ℕ) : Type 0 where
+  pub is : IsCommand o.words command
+  pub about : IsAbout o.holding command text
+
+-- The command runs its text, with this fuel.
+abbrev pub RunsWith : Command → ℕ → Type 0
+RunsWith (Check name) fuel = ⊥
+RunsWith (Show name) fuel = ⊥
+RunsWith (Run name workers given) fuel = fuel ≡ given
+RunsWith (Bench accounts) fuel = fuel ≡ bench_fuel
+
+-- Where no count rose and the shelf tells its bytes, the words and the text that they are about decide the status; want of memory aside.
+-- With a fuel of at least its cost a greeting prints its text, and else nothing.
 pub record IsComplete (o : Outside) (status : ℕ) : Type 0 where
   pub no_command : IsNoCommand o.words → (status ≡ 2) ⊎ (status ≡ 7)
-  pub completes : (name file text : List ℕ) (fuel : ℕ) → Asks o (Run name fuel) file → length file ≤ file_limit → Prints file text → cost text ≤ fuel
-      → ((status ≡ 0) × Takes o.out (line text)) ⊎ (status ≡ 7)
-  pub runs_out : (name file text : List ℕ) (fuel : ℕ) → Asks o (Run name fuel) file → length file ≤ file_limit → Prints file text → fuel < cost text
-      → ((status ≡ 6) × Takes o.out []) ⊎ (status ≡ 7)
-  pub refused : (name file : List ℕ) (fuel : ℕ) (rule : Rule) (place : Place) → Asks o (Run name fuel) file → length file ≤ file_limit
+  pub completes : (command : Command) (file text : List ℕ) (fuel : ℕ) → Asks o command file → RunsWith command fuel → length file ≤ file_limit → Prints file text
+      → cost text ≤ fuel → ((status ≡ 0) × Takes o.out (line text)) ⊎ (status ≡ 7)
+  pub runs_out : (command : Command) (file text : List ℕ) (fuel : ℕ) → Asks o command file → RunsWith command fuel → length file ≤ file_limit → Prints file text
+      → fuel < cost text → ((status ≡ 6) × Takes o.out []) ⊎ (status ≡ 7)
+  pub refused : (command : Command) (file : List ℕ) (fuel : ℕ) (rule : Rule) (place : Place) → Asks o command file → RunsWith command fuel → length file ≤ file_limit
       → IsRefused file rule place → (status ≡ 1) ⊎ (status ≡ 7)
+  pub accepts : (name file : List ℕ) (program : Program) → Asks o (Check name) file → length file ≤ file_limit → IsAcceptedAs file program
+      → ((status ≡ 0) × Takes o.out accepted) ⊎ (status ≡ 7)
+  pub accepts_none : (name file : List ℕ) (rule : Rule) (place : Place) → Asks o (Check name) file → length file ≤ file_limit
+      → BreaksOne file rule place → (status ≡ 1) ⊎ (status ≡ 7)
   pub shown : (name file text : List ℕ) → Asks o (Show name) file → length file ≤ file_limit → IsShownAs file text → (status ≡ 0) ⊎ (status ≡ 7)
   pub no_component : (name file : List ℕ) (rule : Rule) (place : Place) → Asks o (Show name) file → length file ≤ file_limit
       → IsNoComponent file rule place → (status ≡ 1) ⊎ (status ≡ 7)

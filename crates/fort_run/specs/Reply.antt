@@ -1,17 +1,18 @@
 -- What a call means to say. It restates the chapters "The command line" and "Statuses and notes" of docs/LANGUAGE.md.
 -- The code finds the reply by reading in pieces; the words below speak of whole files.
-use Rattle.std.specs.Prelude.{◌≡◌, ℕ, ◌<◌, ◌≤◌, List, [], length}
+use Rattle.std.specs.Prelude.{◌≡◌, ℕ, ◌*◌, ◌<◌, ◌≤◌, List, [], ◌∷◌, ◌++◌, codes, length}
 use Rattle.fort_base.specs.declared.refusal.Rule.{Rule}
 use Rattle.fort_base.specs.declared.refusal.Place.{Place}
 use Rattle.fort_token.specs.declared.token.Tokens.{Tokens}
 use Rattle.fort_lex.specs.Files.{HasTokens, BreaksRule}
-use Rattle.fort_front.specs.Front.{IsGrammatical, BreaksGrammar, IsFormed, Breaks}
+use Rattle.fort_front.specs.Front.{IsGrammatical, BreaksGrammar, IsAccepted, Breaks}
 use Rattle.fort_greeting.specs.Greeting.{IsGreeting}
 use Rattle.fort_canonical.specs.Canonical.{canonical}
 use Rattle.fort_port.specs.Outside.{Holding, Untold, Absent, Held, Rose}
 use Rattle.fort_cmd.specs.declared.command.Command.{Command}
-use Rattle.fort_cmd.specs.declared.command.Command.TheVariants.{Run, Show}
-use Rattle.fort_cmd.specs.Words.{IsCommand, IsNoCommand, file_of}
+use Rattle.fort_cmd.specs.declared.command.Command.TheVariants.{Check, Show, Run, Bench}
+use Rattle.fort_cmd.specs.Words.{IsCommand, IsNoCommand, most_accounts}
+use Rattle.fort_bench.specs.Bank.{bank}
 use Rattle.fort_core.specs.declared.journal.Ending.{Ending}
 use Rattle.fort_core.specs.declared.journal.Ending.TheVariants.{NotRun, Completed, Uncaught, OutOfFuel}
 use Rattle.fort_core.specs.declared.journal.Journal.{Journal}
@@ -20,7 +21,7 @@ use Rattle.fort_core.specs.declared.term.Term.{Term}
 use Rattle.fort_machine.specs.Effects.{Effect}
 use Rattle.fort_machine.specs.Journals.{Records}
 use Rattle.fort_greet.specs.Program.{IsProgram}
-use Rattle.fort_diag.specs.Notes.{usage, read_fault, too_large, out_of_fuel, uncaught, refusal}
+use Rattle.fort_diag.specs.Notes.{usage, read_fault, too_large, out_of_fuel, uncaught, refusal, not_built as number_of_not_built}
 
 -- A status, what is for standard output, what is for standard error, and the journal of a run.
 pub record Reply : Type 0 where
@@ -39,42 +40,48 @@ IsFile Untold bytes = Unit {0}
 IsFile Absent bytes = ⊥
 IsFile (Held file) bytes = bytes ≡ file
 
+-- a text as a line
+abbrev pub line : List ℕ → List ℕ
+line text = text ++ 10 ∷ []
+
 -- the most bytes that a file may have
 abbrev pub file_limit : ℕ
 file_limit = 1048576
 
 -- ---- run
 
--- The file prints this text: it keeps the rules of its tokens, of the grammar, of grouping, of types, of members and of overloading, and its component is a greeting.
-pub record Prints (file text : List ℕ) : Type 0 where
+-- The file is accepted: it keeps the rules of its tokens, and these keep all rules; and this is the program of its component.
+pub record IsAcceptedAs (file : List ℕ) (program : Program) : Type 0 where
   pub tokens : Tokens
   pub has : HasTokens file tokens
-  pub formed : IsFormed tokens
-  pub greets : IsGreeting tokens formed.component text
+  pub accepted : IsAccepted tokens program
 
--- The program of the file, which is a greeting.
+-- The file breaks this rule, at this place: a rule of its tokens; or it has tokens, and these break one of the grammar, of grouping, of types, of members, of
+-- overloading or of typing.
+pub data BreaksOne (file : List ℕ) (rule : Rule) (place : Place) : Type 0 where
+  in_text : BreaksRule file rule place → BreaksOne file rule place
+  behind : (tokens : Tokens) → HasTokens file tokens → Breaks tokens rule place → BreaksOne file rule place
+
+-- The file is accepted, and its component is a greeting that prints this text.
+pub record Prints (file text : List ℕ) : Type 0 where
+  pub program : Program
+  pub is : IsAcceptedAs file program
+  pub greets : IsGreeting is.tokens is.accepted.formed.component text
+
+-- The program of the file, which is a greeting, as it is run so far.
 abbrev pub IsProgramOf : List ℕ → Program → Type 0
 IsProgramOf file p = (text : List ℕ) × Prints file text × IsProgram text p
 
--- The file has tokens, and they break this rule of the grammar, of grouping, of types, of members or of overloading, at this place.
-pub record IsIllFormed (file : List ℕ) (rule : Rule) (place : Place) : Type 0 where
-  pub tokens : Tokens
-  pub has : HasTokens file tokens
-  pub breaks : Breaks tokens rule place
-
--- The file breaks no rule that is asked so far, and isn't built yet: its component is no greeting.
+-- The file is accepted, and isn't built yet: its component is no greeting.
 pub record IsNotBuilt (file : List ℕ) : Type 0 where
-  pub tokens : Tokens
-  pub has : HasTokens file tokens
-  pub formed : IsFormed tokens
-  pub other : (text : List ℕ) → IsGreeting tokens formed.component text → ⊥
+  pub program : Program
+  pub is : IsAcceptedAs file program
+  pub other : (text : List ℕ) → IsGreeting is.tokens is.accepted.formed.component text → ⊥
 
--- The file is refused by this rule, at this place: a rule of its tokens that it breaks; or one of the grammar, of grouping, of types, of members or of overloading;
--- or 901 at 1:1.
+-- The file is not run, by this rule, at this place: one that it breaks; or 901 at 1:1.
 pub data IsRefused (file : List ℕ) (rule : Rule) (place : Place) : Type 0 where
-  breaks : BreaksRule file rule place → IsRefused file rule place
-  ill_formed : IsIllFormed file rule place → IsRefused file rule place
-  not_built : IsNotBuilt file → rule ≡ record { 0 = 901 } → place ≡ record { line = 1; column = 1 } → IsRefused file rule place
+  breaks : BreaksOne file rule place → IsRefused file rule place
+  not_built : IsNotBuilt file → rule ≡ record { 0 = number_of_not_built } → place ≡ record { line = 1; column = 1 } → IsRefused file rule place
 
 -- The status and the note of a run's ending: 0 and none where it is completed; 5 and the exception where one is uncaught; 6 and a note where it is out of fuel.
 abbrev pub TellsEnding : Program → Ending → Reply → Type 0
@@ -100,6 +107,20 @@ pub data RunSays (name file : List ℕ) (fuel : ℕ) (reply : Reply) : Type 0 wh
   Refuses : (rule : Rule) (place : Place) → IsRefused file rule place → reply ≡ record { status = 1; out = []; note = refusal name rule place; journal = no_run }
       → RunSays name file fuel reply
 
+-- ---- check
+
+-- what standard output has of an accepted component
+abbrev pub accepted : List ℕ
+accepted = line (codes "accepted")
+
+-- What is said of a file to check.
+pub data CheckSays (name file : List ℕ) (reply : Reply) : Type 0 where
+  -- The component is accepted: 0, and the word for it.
+  Accepts : (program : Program) → IsAcceptedAs file program → reply ≡ record { status = 0; out = accepted; note = []; journal = no_run } → CheckSays name file reply
+  -- The component is refused: 1, and where and by which rule.
+  AcceptsNone : (rule : Rule) (place : Place) → BreaksOne file rule place → reply ≡ record { status = 1; out = []; note = refusal name rule place; journal = no_run }
+      → CheckSays name file reply
+
 -- ---- show
 
 -- The file is shown as this text: it keeps the rules of its tokens and of the grammar, and the text is the canonical one of its tokens.
@@ -124,21 +145,44 @@ pub data ShowSays (name file : List ℕ) (reply : Reply) : Type 0 where
 
 -- ---- all commands
 
--- What a command says of its file, once that is read.
+-- the fuel of the bank, and the name that its notes call it by
+abbrev pub bench_fuel : ℕ
+bench_fuel = 20000000
+
+abbrev pub bench_name : List ℕ
+bench_name = codes "bench"
+
+-- These are the bytes that a command is about: those of its file, where the shelf tells them, or the bank's text.
+abbrev pub IsText : (List ℕ → Holding) → Command → List ℕ → Type 0
+IsText holding (Check name) text = IsFile (holding name) text
+IsText holding (Show name) text = IsFile (holding name) text
+IsText holding (Run name workers fuel) text = IsFile (holding name) text
+IsText holding (Bench accounts) text = text ≡ bank accounts (4 * accounts)
+
+-- The number of accounts is one that words may give.
+abbrev pub IsBounded : Command → Type 0
+IsBounded (Check name) = Unit {0}
+IsBounded (Show name) = Unit {0}
+IsBounded (Run name workers fuel) = Unit {0}
+IsBounded (Bench accounts) = accounts ≤ most_accounts
+
+-- What a command says of its text, once that is there. How many workers there are is not asked.
 abbrev pub CommandSays : Command → List ℕ → Reply → Type 0
-CommandSays (Run name fuel) file reply = RunSays name file fuel reply
-CommandSays (Show name) file reply = ShowSays name file reply
+CommandSays (Check name) text reply = CheckSays name text reply
+CommandSays (Show name) text reply = ShowSays name text reply
+CommandSays (Run name workers fuel) text reply = RunSays name text fuel reply
+CommandSays (Bench accounts) text reply = RunSays bench_name text bench_fuel reply
 
 -- What a call means to say, for its words, what the shelf tells, and its counts of faults before and after.
 pub data Means (words : List (List ℕ)) (holding : List ℕ → Holding) (before after : ℕ) (reply : Reply) : Type 0 where
-  -- The file was read to its end: what the command says of it.
-  Judged : (command : Command) (file : List ℕ) → IsCommand words command → IsFile (holding (file_of command)) file → length file ≤ file_limit
-      → after ≡ before → CommandSays command file reply → Means words holding before after reply
+  -- The text was read to its end: what the command says of it.
+  Judged : (command : Command) (text : List ℕ) → IsCommand words command → IsText holding command text → length text ≤ file_limit
+      → after ≡ before → CommandSays command text reply → Means words holding before after reply
   -- The words are no command: 2, and no file is asked for.
   NoCommand : IsNoCommand words → after ≡ before → reply ≡ record { status = 2; out = []; note = usage; journal = no_run } → Means words holding before after reply
   -- The shelf's count of faults rose: 3.
   Unread : (command : Command) → IsCommand words command → Rose before after → reply ≡ record { status = 3; out = []; note = read_fault; journal = no_run }
       → Means words holding before after reply
-  -- The file goes on behind the limit: 8.
-  TooLarge : (command : Command) (file : List ℕ) → IsCommand words command → IsFile (holding (file_of command)) file → file_limit < length file
+  -- The text goes on behind the limit: 8.
+  TooLarge : (command : Command) (text : List ℕ) → IsCommand words command → IsText holding command text → file_limit < length text
       → after ≡ before → reply ≡ record { status = 8; out = []; note = too_large; journal = no_run } → Means words holding before after reply

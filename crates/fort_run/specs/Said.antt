@@ -3,13 +3,14 @@ use Rattle.std.specs.Prelude.{◌≡◌, ℕ, List, []}
 use Rattle.fort_base.specs.declared.refusal.CheckFault.{CheckFault}
 use Rattle.fort_base.specs.declared.refusal.CheckFault.TheVariants as a_fault
 use Rattle.fort_diag.specs.Notes.{usage, read_fault, too_large, out_of_fuel, refusal}
-use Rattle.fort_run.specs.Reply.{Reply, no_run}
+use Rattle.fort_run.specs.Reply.{Reply, no_run, accepted}
 use Rattle.fort_run.specs.declared.answer.Answer.{Answer}
-use Rattle.fort_run.specs.declared.answer.Answer.TheVariants.{Ended, RanOut, Shown, Refused, NoCommand, Unread, TooLarge}
+use Rattle.fort_run.specs.declared.answer.Answer.TheVariants.{Ended, RanOut, Accepted, Shown, Refused, NoCommand, Unread, TooLarge}
 
 abbrev pub said : Answer → Reply
 said (Ended journal text) = record { status = 0; out = text; note = []; journal = journal }
 said (RanOut journal text) = record { status = 6; out = text; note = out_of_fuel; journal = journal }
+said Accepted = record { status = 0; out = accepted; note = []; journal = no_run }
 said (Shown text) = record { status = 0; out = text; note = []; journal = no_run }
 said (Refused note) = record { status = 1; out = []; note = note; journal = no_run }
 said NoCommand = record { status = 2; out = []; note = usage; journal = no_run }

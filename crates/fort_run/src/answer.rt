@@ -17,6 +17,8 @@ pub(crate) enum Answer {
     Ended(Journal, Bytes),
     /// A run was out of fuel: its journal, and what it printed.
     RanOut(Journal, Bytes),
+    /// A component is accepted.
+    Accepted,
     /// A component's text.
     Shown(Bytes),
     /// A component is refused; the note.
@@ -35,6 +37,7 @@ impl Answer {
         match self {
             Answer::Ended(_, _) => 0,
             Answer::RanOut(_, _) => 6,
+            Answer::Accepted => 0,
             Answer::Shown(_) => 0,
             Answer::Refused(_) => 1,
             Answer::NoCommand => 2,
@@ -49,6 +52,7 @@ impl Answer {
         match self {
             Answer::Ended(_, text) => text.as_slice(),
             Answer::RanOut(_, text) => text.as_slice(),
+            Answer::Accepted => b"accepted\n",
             Answer::Shown(text) => text.as_slice(),
             _ => &[],
         }
@@ -60,6 +64,7 @@ impl Answer {
         match self {
             Answer::Ended(_, _) => &[],
             Answer::RanOut(_, _) => fixed(6).as_bytes(),
+            Answer::Accepted => &[],
             Answer::Shown(_) => &[],
             Answer::Refused(note) => note.as_slice(),
             Answer::NoCommand => fixed(2).as_bytes(),
@@ -75,6 +80,7 @@ impl Answer {
         match self {
             Answer::Ended(journal, _) => journal,
             Answer::RanOut(journal, _) => journal,
+            Answer::Accepted => no_run(alloc),
             Answer::Shown(_) => no_run(alloc),
             Answer::Refused(_) => no_run(alloc),
             Answer::NoCommand => no_run(alloc),

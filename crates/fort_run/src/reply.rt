@@ -1,17 +1,24 @@
 //! What is to say of a call: of its words, and of the file that they name.
-ghost use Rattle.std.specs.Prelude.{◌≡◌, ◌≤◌, ℕ, List as Seq, length, map, string_bytes, IfOk};
-ghost use Rattle.fort_cmd.specs.Words.{IsCommand};
-ghost use Rattle.fort_run.specs.Reply.{Means, CommandSays, file_limit};
+ghost use Rattle.std.specs.Prelude.{◌≡◌, ◌≤◌, ◌*◌, ℕ, List as Seq, length, map, string_bytes, IfOk, IfErr, OnOk};
+ghost use Rattle.fort_cmd.specs.Words.{IsCommand, most_accounts};
+ghost use Rattle.fort_bench.specs.Bank as the;
+ghost use Rattle.fort_run.specs.Fronts.{StopsAt, IsTooLarge};
+ghost use Rattle.fort_run.specs.Reply.{Means, CommandSays, RunSays, IsText, IsBounded, bench_fuel, bench_name, file_limit};
 ghost use Rattle.fort_run.specs.Said.{said};
 
 use crate::answer::Answer;
-use crate::file::{Unread, read_file};
+use crate::check::check_file;
+use crate::file::{FILE_LIMIT, Unread, read_file};
 use crate::run::run_file;
 use crate::show::show_file;
-use fort_base::{Bytes, Memory};
+use fort_base::{Bytes, List, Memory};
+use fort_bench::bank;
 use fort_cmd::{CmdFault, Command, command_of};
 use fort_port::Shelf;
 use std::alloc::Global;
+
+/// The fuel of the bank.
+const BENCH_FUEL: u64 = 20_000_000;
 
 /// What the call with these words means to say; the file is read to its end, or to the first byte behind the
 /// limit, before anything of it is judged.
@@ -32,24 +39,67 @@ pub(crate) fn reply_to<F: Shelf>(
 
 /// What the call with this command means to say.
 fn asked<F: Shelf>(alloc: Global, command: Command, shelf: &mut F) -> Result<Answer, Memory>
+    requires { IsBounded command }
     ensures kept { F.holding shelf.new ≡ F.holding shelf.old }
     ensures means { IfOk result (λ a. (words : Seq (Seq ℕ)) → IsCommand words command → Means words (F.holding shelf.old) (F.faults shelf.old) (F.faults shelf.new) (said a)) }
 {
-    match read_file(alloc, shelf, command.file()) {
-        Ok(file) => judged(alloc, command, &file),
+    match read_text(alloc, &command, shelf) {
+        Ok(text) => judged(alloc, command, &text),
         Err(Unread::Failed) => Ok(Answer::Unread),
         Err(Unread::TooLarge) => Ok(Answer::TooLarge),
         Err(Unread::Memory) => Err(Memory),
     }
 }
 
-/// What a command says of its file.
-fn judged(alloc: Global, command: Command, file: &Bytes) -> Result<Answer, Memory>
-    requires { length file.now ≤ file_limit }
-    ensures { IfOk result (λ a. CommandSays command file.now (said a)) }
+/// The text that a command is about: its file, or the bank.
+fn read_text<F: Shelf>(alloc: Global, command: &Command, shelf: &mut F) -> Result<Bytes, Unread>
+    requires { IsBounded command.now }
+    ensures kept { F.holding shelf.new ≡ F.holding shelf.old }
+    ensures text { IfOk result (IsText (F.holding shelf.old) command.now) }
+    ensures within { IfOk result (λ text. length text ≤ file_limit) }
+    ensures calm { OnOk result (F.faults shelf.new ≡ F.faults shelf.old) }
+    ensures stops { IfErr result (StopsAt (F.holding shelf.old) command.now (F.faults shelf.old) (F.faults shelf.new)) }
 {
     match command {
-        Command::Run(name, fuel) => run_file(alloc, name, file, fuel),
-        Command::Show(name) => show_file(alloc, name, file),
+        Command::Check(name) => read_file(alloc, shelf, name),
+        Command::Show(name) => read_file(alloc, shelf, name),
+        Command::Run(name, _, _) => read_file(alloc, shelf, name),
+        Command::Bench(accounts) => bank_within(alloc, *accounts),
     }
+}
+
+/// The bank of so many accounts, if it is no larger than a file may be.
+fn bank_within(alloc: Global, accounts: u32) -> Result<Bytes, Unread>
+    requires { accounts ≤ most_accounts }
+    ensures text { IfOk result (λ text. text ≡ the.bank accounts (4 * accounts)) }
+    ensures within { IfOk result (λ text. length text ≤ file_limit) }
+    ensures stops { IfErr result (IsTooLarge (the.bank accounts (4 * accounts))) }
+{
+    let text = bank(alloc, accounts, 4 * accounts)?;
+    if text.len() > FILE_LIMIT {
+        return Err(Unread::TooLarge);
+    }
+    Ok(text)
+}
+
+/// What a command says of its text.
+fn judged(alloc: Global, command: Command, text: &Bytes) -> Result<Answer, Memory>
+    requires { length text.now ≤ file_limit }
+    ensures { IfOk result (λ a. CommandSays command text.now (said a)) }
+{
+    match command {
+        Command::Check(name) => check_file(alloc, name, text),
+        Command::Show(name) => show_file(alloc, name, text),
+        Command::Run(name, _, fuel) => run_file(alloc, name, text, fuel),
+        Command::Bench(_) => run_bank(alloc, text),
+    }
+}
+
+/// What is to say of the bank's text.
+fn run_bank(alloc: Global, text: &Bytes) -> Result<Answer, Memory>
+    requires { length text.now ≤ file_limit }
+    ensures { IfOk result (λ a. RunSays bench_name text.now bench_fuel (said a)) }
+{
+    let name = List::from_slice(alloc, b"bench")?;
+    run_file(alloc, name, text, BENCH_FUEL)
 }

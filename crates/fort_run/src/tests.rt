@@ -197,6 +197,100 @@ fn a_fuel_that_is_none_is_no_command(rt: HostRuntime) -> Result<(), Fail> {
 }
 
 #[test]
+fn options_and_the_file_stand_in_any_order(rt: HostRuntime) -> Result<(), Fail> {
+    let good: [&[&str]; 7] = [
+        &["run", "T.fss", "--workers", "1", "--fuel", "4"],
+        &["run", "--workers=64", "T.fss", "--fuel=4"],
+        &["run", "--fuel", "4", "--workers", "+0008", "T.fss"],
+        &["run", "--fuel=4", "--workers=2", "--", "T.fss"],
+        &["run", "--workers=2", "T.fss", "--fuel=4", "--"],
+        &["run", "T.fss", "--workers=2"],
+        &["run", "--workers", "2", "T.fss", "--"],
+    ];
+    for words in good {
+        expect(&rt, words, LETTER, 100, 0, "a\n", "")?;
+    }
+    let bad: [&[&str]; 11] = [
+        &["run", "T.fss", "--workers"],
+        &["run", "T.fss", "--workers", "0"],
+        &["run", "T.fss", "--workers=65"],
+        &["run", "T.fss", "--workers=4", "--workers=4"],
+        &["run", "T.fss", "--workers", "--fuel=4"],
+        &["run", "--workers=4"],
+        &["run", "--work=4", "T.fss"],
+        &["run", "--workers4", "T.fss"],
+        &["check", "T.fss", "--workers=4"],
+        &["show", "--workers=4", "T.fss"],
+        &["bench", "4", "--workers=4"],
+    ];
+    for words in bad {
+        expect(&rt, words, LETTER, 100, 2, "", USAGE)?;
+    }
+    Ok(())
+}
+
+#[test]
+fn a_component_is_checked_and_not_run(rt: HostRuntime) -> Result<(), Fail> {
+    let check = ["check", "T.fss"];
+    let greeting = GREETING.as_bytes();
+    expect(&rt, &check, greeting, 100, 0, "accepted\n", "")?;
+    let other = b"component T\nrun(): () = do x: ZZ32 = 1 + 2 println(x) end\nend";
+    expect(&rt, &check, other, 100, 0, "accepted\n", "")?;
+    for (file, note) in [
+        (
+            "component T run(): () = ()",
+            "T.fss:1:26: rule 201 Syntax\n",
+        ),
+        (
+            "component T\nrun(): () = println(1 +2)\nend",
+            "T.fss:2:23: rule 301 MixedSpacing\n",
+        ),
+        ("component T end", "T.fss:1:11: rule 609 NoRun\n"),
+        (
+            "component T\nrun(): () = println(z)\nend",
+            "T.fss:2:21: rule 601 UnknownName\n",
+        ),
+    ] {
+        expect(&rt, &check, file.as_bytes(), 100, 1, "", note)?;
+    }
+    let words = ["check", "--", "-x"];
+    expect(&rt, &words, greeting, 100, 3, "", "read fault\n")
+}
+
+#[test]
+fn the_bank_is_asked_for_by_the_number_of_its_accounts(rt: HostRuntime) -> Result<(), Fail> {
+    let good: [&[&str]; 3] = [
+        &["bench", "1"],
+        &["bench", "+010000"],
+        &["bench", "--", "7"],
+    ];
+    for words in good {
+        expect(
+            &rt,
+            words,
+            b"",
+            100,
+            1,
+            "",
+            "bench:1:1: rule 901 NotBuilt\n",
+        )?;
+    }
+    let bad: [&[&str]; 7] = [
+        &["bench"],
+        &["bench", "0"],
+        &["bench", "10001"],
+        &["bench", "-1"],
+        &["bench", "1", "1"],
+        &["bench", "1", "--fuel=5"],
+        &["bench", "T.fss"],
+    ];
+    for words in bad {
+        expect(&rt, words, b"", 100, 2, "", USAGE)?;
+    }
+    Ok(())
+}
+
+#[test]
 fn a_greeting_is_printed_and_every_other_component_is_not_built(
     rt: HostRuntime,
 ) -> Result<(), Fail> {

@@ -1,8 +1,7 @@
-use Rattle.fort_cmd.proofs.Commands.{no_run_command, is_run_command}
+use Rattle.std.proofs.Common.{◌≡◌, None, rules}
+use Rattle.fort_cmd.proofs.Commands.{without_file}
 use Rattle.fort_cmd.proofs.command.run_of.Goals as goal
 
-pub returns-in_default-clause-cause : goal.returns-in_default-clause-cause
-returns-in_default-clause-cause c = no_run_command _ c.in_default.ensures
-
-pub returns-clause-ok : goal.returns-clause-ok
-returns-clause-ok c = is_run_command _ c.in-Some.ensures.0 c.in_ok-file.file c.in-Some.asked.fuel c.in-Some.ensures.1 (rw c.in_ok-file.ensures c.in-Some.ensures.2)
+pub returns-in_default-file-clause-cause : goal.returns-in_default-file-clause-cause
+returns-in_default-file-clause-cause c =
+    let e : c.in-Some.asked.file ≡ None = search rules in without_file _ c.in-Some.asked c.in-Some.ensures e

@@ -1,12 +1,12 @@
-use Rattle.std.proofs.Common.{refl, subst}
-use Rattle.fort_run.specs.Reply.{Unread, TooLarge, IsFile}
+use Rattle.std.proofs.Common.{refl}
+use Rattle.fort_run.specs.Reply.{Unread, TooLarge}
 use Rattle.fort_run.proofs.Meaning.{read_means}
 use Rattle.fort_run.proofs.reply.asked.Goals as goal
 
 pub returns-in-Ok-clause-means : goal.returns-in-Ok-clause-means
 returns-in-Ok-clause-means g c =
-    read_means (g.F.Shelf.holding c.args.shelf.now) _ _ c.args.command c.file.result.now c.in-Ok.file c.judged.result c.file.ensures
-    c.in-Ok.ensures.file c.in-Ok.ensures.within c.in-Ok.ensures.calm c.judged.ensures
+    read_means (g.F.Shelf.holding c.args.shelf.now) _ _ c.args.command c.in-Ok.text c.judged.result
+    c.in-Ok.ensures.text c.in-Ok.ensures.within c.in-Ok.ensures.calm c.judged.ensures
 
 pub returns-in-Err-Failed-clause-means : goal.returns-in-Err-Failed-clause-means
 returns-in-Err-Failed-clause-means g c words is =
@@ -15,5 +15,4 @@ returns-in-Err-Failed-clause-means g c words is =
 pub returns-in-Err-TooLarge-clause-means : goal.returns-in-Err-TooLarge-clause-means
 returns-in-Err-TooLarge-clause-means g c words is =
     let stops = rw c.in-Err-TooLarge.field-0-is at c.in-Err-TooLarge.ensures.stops in
-    TooLarge c.args.command stops.1.0 is
-    (subst (λ n. IsFile (g.F.Shelf.holding c.args.shelf.now n) stops.1.0) c.file.ensures stops.1.1) stops.1.2 stops.0 refl
+    TooLarge c.args.command stops.1.0 is stops.1.1 stops.1.2 stops.0 refl

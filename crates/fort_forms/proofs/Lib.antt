@@ -1,0 +1,5 @@
+pub mod FormPlaces
+pub mod Begins
+pub mod Orders
+pub mod Walking
+pub mod Tabled

@@ -1,0 +1,4 @@
+pub mod Groupings
+pub mod FormsOf
+pub mod Reading
+pub mod Props

@@ -1,0 +1,86 @@
+ghost use Rattle.std.specs.Prelude.{◌≡◌, IfOk};
+ghost use Rattle.std.specs.Option.{option_copied};
+ghost use Rattle.fort_front.specs.Front.{Answers, Checks, ChecksTree, GrammarAnswers};
+
+use fort_base::{Bytes, CheckFault, List, Memory};
+use fort_core::Program;
+use fort_elab::elaborate;
+use fort_forms::forms;
+use fort_greeting::greeting;
+use fort_group::groups;
+use fort_hier::hierarchy;
+use fort_member::members;
+use fort_over::overloads;
+use fort_syntax::component;
+use fort_token::Tokens;
+use fort_tree::Component;
+use fort_typing::typed;
+use std::alloc::Global;
+
+/// Asks the rules of the grammar of a file's tokens, and no others.
+///
+/// It answers `Ok` where they are a component that passes no limit; else `Refused` with the first rule that is broken
+/// and its place: 202, 201 or 203. Its only other error is want of memory, which it also answers where runs stand
+/// more than 400 deep in one another, as they can in the headers of `while` and `for`. The chapter is "Grammar".
+pub fn check_grammar(alloc: Global, tokens: &Tokens) -> Result<(), CheckFault>
+    ensures { GrammarAnswers tokens.now result }
+{
+    component(alloc, tokens)?;
+    Ok(())
+}
+
+/// Asks all rules of a file's tokens, and makes the component's program.
+///
+/// It answers `Ok` where they are a component that passes no limit, whose flat expressions each have a grouping, whose
+/// declared types are a hierarchy, whose fields keep their rules, whose overload sets keep theirs, and whose bodies and
+/// initials have types: with the program that it is. Else it answers `Refused` with the first rule that is broken and
+/// its place. The order is: 202, 201 or 203; the first of 301 to 304; the lowest of 401 to 407; the lower of 451 and
+/// 452; the first pair that breaks one of 501 to 506; 507; the one of 601 to 614 at the earliest place, of several there
+/// the lowest, 609 last. Its only other error is want of memory, which it also answers where runs stand more than 400
+/// deep in one another, as they can in the headers of `while` and `for`, and where there are more of something than
+/// numbers for it. The chapters are "Grammar", "Operators", "Types", "Members", "Overload rules" and "Typing", and
+/// docs/TRANSLATION.md.
+pub fn check(alloc: Global, tokens: &Tokens) -> Result<Program, CheckFault>
+    ensures { Checks tokens.now result }
+{
+    let parsed = component(alloc, tokens)?;
+    let program = check_tree(alloc, &parsed.component)?;
+    Ok(program)
+}
+
+/// Asks the rules behind the grammar of a component of a file's tokens, as `check` does, and makes its program.
+pub fn check_tree(alloc: Global, component: &Component) -> Result<Program, CheckFault>
+    ensures { ChecksTree component.now result }
+{
+    let groups = groups(alloc, component)?;
+    let types = hierarchy(alloc, component)?;
+    let members = members(alloc, component, &types)?;
+    overloads(alloc, &types, &members)?;
+    let forms = forms(alloc, component, &groups)?;
+    let typed = typed(alloc, component.names.as_slice(), &forms, &types, &members)?;
+    let program = elaborate(alloc, types, &members, component.texts.as_slice(), &typed)?;
+    Ok(program)
+}
+
+/// Asks all rules of a file's tokens, as `check` does, and what the component prints.
+///
+/// It answers `Ok` where they are accepted: with the text that the component prints, in UTF-8, where it is a greeting,
+/// and with `None` where it is none. Its errors are those of `check`. The chapter is "What is built".
+pub fn check_tokens(alloc: Global, tokens: &Tokens) -> Result<Option<Bytes>, CheckFault>
+    ensures { Answers tokens.now result }
+{
+    let parsed = component(alloc, tokens)?;
+    let component = &parsed.component;
+    check_tree(alloc, component)?;
+    Ok(copy(alloc, greeting(tokens, component))?)
+}
+
+/// A text of its own, where there is one.
+fn copy(alloc: Global, text: Option<&Bytes>) -> Result<Option<Bytes>, Memory>
+    ensures { IfOk result (λ copy. copy ≡ option_copied text.entry) }
+{
+    match text {
+        Some(text) => Ok(Some(List::from_slice(alloc, text.as_slice())?)),
+        None => Ok(None),
+    }
+}

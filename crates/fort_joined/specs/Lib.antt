@@ -1,0 +1,5 @@
+pub mod Values
+pub mod Ways
+pub mod Steps
+pub mod Taking
+pub mod Postfixes

@@ -1,0 +1,10 @@
+pub mod Places
+pub mod Sets
+pub mod Widths
+pub mod Counted
+pub mod Typed
+pub mod Types
+pub mod Initials
+pub mod Shapes
+pub mod Constructors
+pub mod Matched

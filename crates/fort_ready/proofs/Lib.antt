@@ -1,0 +1,4 @@
+pub mod Groupings
+pub mod Names
+pub mod Declarations
+pub mod Ready
