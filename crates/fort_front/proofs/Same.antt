@@ -62,9 +62,9 @@ moved : (P : Component → Hierarchy → Members → List FlatGrouping → Type 
 moved P tokens g f has =
     let c : g.component ≡ f.component = f.is.only g.component g.is.tree in
     let groups : g.groups ≡ f.groups =
-        groupings_once (flats f.component) g.groups f.groups (subst (λ (x : Component). HasGroups (flats x) g.groups) c g.grouped) f.grouped in
+    groupings_once (flats f.component) g.groups f.groups (subst (λ (x : Component). HasGroups (flats x) g.groups) c g.grouped) f.grouped in
     let types : g.types ≡ f.types =
-        hierarchy_once f.component g.types f.types (subst (λ (x : Component). IsHierarchy x (type_names x) g.types) c g.typed) f.typed in
+    hierarchy_once f.component g.types f.types (subst (λ (x : Component). IsHierarchy x (type_names x) g.types) c g.typed) f.typed in
     let members : g.members ≡ f.members = members_once f.component g.members f.members (subst (λ (x : Component). AreMembers x g.members) c g.belong) f.belong in
     subst (λ (x : List FlatGrouping). P f.component f.types f.members x) groups
     (subst (λ (x : Members). P f.component f.types x g.groups) members

@@ -79,12 +79,14 @@ is_counted (y ∷ xs) (suc i) x e = let r = is_counted xs i x e in omega arith
 -- Where each place stands once, what stands at an item's place is that item.
 alone : (xs : List Counted) (i : ℕ) (x : Counted) → slice_get xs i ≡ Some x → ((p : Place) → counts p xs ≤ 1) → AreAt x.0 x.1 xs
 alone [] i x e few = tt
-alone (y ∷ xs) zero x e few = let s : y ≡ x = cc in
-    ((λ q. subst (λ (z : Counted). x.1 ≤ z.1) (sym s) (omega arith)),
-    none_at x.0 x.1 xs (let t : one (same_place x.0 y.0) ≡ 1 = ap one (subst (λ (z : Counted). same_place x.0 z.0 ≡ true) (sym s) (same_itself x.0)) in let f = few x.0 in omega arith))
-alone (y ∷ xs) (suc i) x e few =
-    ((λ q. let t : one (same_place x.0 y.0) ≡ 1 = ap one (same_turned y.0 x.0 q) in let f = few x.0 in let r = is_counted xs i x e in absurd (omega arith)),
-    alone xs i x e (λ p. let f = few p in omega arith))
+alone (y ∷ xs) zero x e few = let s : y ≡ x = cc in (
+  (λ q. subst (λ (z : Counted). x.1 ≤ z.1) (sym s) (omega arith)),
+  none_at x.0 x.1 xs (let t : one (same_place x.0 y.0) ≡ 1 = ap one (subst (λ (z : Counted). same_place x.0 z.0 ≡ true) (sym s) (same_itself x.0)) in let f = few x.0 in omega arith),
+)
+alone (y ∷ xs) (suc i) x e few = (
+  (λ q. let t : one (same_place x.0 y.0) ≡ 1 = ap one (same_turned y.0 x.0 q) in let f = few x.0 in let r = is_counted xs i x e in absurd (omega arith)),
+  alone xs i x e (λ p. let f = few p in omega arith),
+)
 
 pub all_alone : (xs : List Counted) → ((p : Place) → counts p xs ≤ 1) → AllByRecursion (λ (x : Counted). AreAt x.0 x.1 xs) xs
 all_alone xs few = all_items (λ (x : Counted). AreAt x.0 x.1 xs) xs (λ i x e. alone xs i x e few)

@@ -24,7 +24,7 @@ pub prints_apart : (file text : List ℕ) (rule : Rule) (place : Place) → Prin
 prints_apart file text rule place p (breaks b) = accepted_apart file p.program rule place p.is b
 prints_apart file text rule place p (not_built n e f) =
     let r : IsFormedGreeting text n.is.tokens =
-        subst (IsFormedGreeting text) (one_list_of_tokens file p.is.tokens n.is.tokens p.is.has n.is.has) (p.is.accepted.formed, p.greets) in
+    subst (IsFormedGreeting text) (one_list_of_tokens file p.is.tokens n.is.tokens p.is.has n.is.has) (p.is.accepted.formed, p.greets) in
     n.other text (same_greeting n.is.tokens r.0 n.is.accepted.formed text r.1)
 
 pub shown_apart : (file text : List ℕ) (rule : Rule) (place : Place) → IsShownAs file text → IsNoComponent file rule place → ⊥

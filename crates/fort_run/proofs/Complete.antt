@@ -54,7 +54,7 @@ judged o reply command file c asks within (TooLarge command' file' is read long 
 same_text : (file a b : List ℕ) → Prints file a → Prints file b → b ≡ a
 same_text file a b p q =
     let r : IsFormedGreeting b p.is.tokens =
-        subst (IsFormedGreeting b) (one_list_of_tokens file q.is.tokens p.is.tokens q.is.has p.is.has) (q.is.accepted.formed, q.greets) in
+    subst (IsFormedGreeting b) (one_list_of_tokens file q.is.tokens p.is.tokens q.is.has p.is.has) (q.is.accepted.formed, q.greets) in
     one_text p.is.tokens r.0 p.is.accepted.formed b a r.1 p.greets
 
 -- How the run of a greeting ends.
