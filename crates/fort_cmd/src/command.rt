@@ -24,7 +24,8 @@ pub enum Command {
     Check(Bytes),
     /// `show FILE`
     Show(Bytes),
-    /// `run FILE [--workers N] [--fuel N]`: the file, the workers, from 1 to 64, and the fuel, from 1 to 20,000,000.
+    /// `run FILE [--workers N] [--fuel N]`: the file, the workers, from 1 to 64, and the fuel,
+    /// from 1 to 20,000,000.
     Run(Bytes, u32, u64),
     /// `bench N`: the accounts of the bank, from 1 to 10,000.
     Bench(u32),
@@ -61,10 +62,11 @@ impl Command {
     }
 }
 
-/// The command that the words after the program's name are: `check FILE`, `show FILE`, `run FILE [--workers N] [--fuel N]` or
-/// `bench N`. Options and FILE stand in any order, each once at most; `--name N` and `--name=N` mean the same, and behind the
-/// first `--` every word is a FILE. Without the options there are 4 workers, and the fuel is 2,000,000. The chapter
-/// "The command line".
+/// The command that the words after the program's name are: `check FILE`, `show FILE`, `run FILE
+/// [--workers N] [--fuel N]` or `bench N`. Options and FILE stand in any order, each once at most;
+/// `--name N` and `--name=N` mean the same, and behind the first `--` every word is a FILE.
+/// Without the options there are 4 workers, and the fuel is 2,000,000. The chapter "The command
+/// line".
 ///
 /// # Errors
 ///

@@ -11,7 +11,8 @@ pub(crate) struct Numbered {
     pub taken: usize,
 }
 
-/// The option of that name in front of some words, with a number from 1 to the most, or `None` where it doesn't stand there.
+/// The option of that name in front of some words, with a number from 1 to the most, or `None`
+/// where it doesn't stand there.
 pub(crate) fn option_in_front(words: &[String], name: &str, most: u32) -> Option<Numbered>
     ensures { MatchOption result
         ((n : ℕ) (rest : Seq (Seq ℕ)) → BeginsWith name.now most (map string_bytes words.now) n rest → ⊥)

@@ -19,9 +19,10 @@ use std::alloc::Global;
 
 /// Asks the rules of the grammar of a file's tokens, and no others.
 ///
-/// It answers `Ok` where they are a component that passes no limit; else `Refused` with the first rule that is broken
-/// and its place: 202, 201 or 203. Its only other error is want of memory, which it also answers where runs stand
-/// more than 400 deep in one another, as they can in the headers of `while` and `for`. The chapter is "Grammar".
+/// It answers `Ok` where they are a component that passes no limit; else `Refused` with the first
+/// rule that is broken and its place: 202, 201 or 203. Its only other error is want of memory,
+/// which it also answers where runs stand more than 400 deep in one another, as they can in the
+/// headers of `while` and `for`. The chapter is "Grammar".
 pub fn check_grammar(alloc: Global, tokens: &Tokens) -> Result<(), CheckFault>
     ensures { GrammarAnswers tokens.now result }
 {
@@ -31,14 +32,16 @@ pub fn check_grammar(alloc: Global, tokens: &Tokens) -> Result<(), CheckFault>
 
 /// Asks all rules of a file's tokens, and makes the component's program.
 ///
-/// It answers `Ok` where they are a component that passes no limit, whose flat expressions each have a grouping, whose
-/// declared types are a hierarchy, whose fields keep their rules, whose overload sets keep theirs, and whose bodies and
-/// initials have types: with the program that it is. Else it answers `Refused` with the first rule that is broken and
-/// its place. The order is: 202, 201 or 203; the first of 301 to 304; the lowest of 401 to 407; the lower of 451 and
-/// 452; the first pair that breaks one of 501 to 506; 507; the one of 601 to 614 at the earliest place, of several there
-/// the lowest, 609 last. Its only other error is want of memory, which it also answers where runs stand more than 400
-/// deep in one another, as they can in the headers of `while` and `for`, and where there are more of something than
-/// numbers for it. The chapters are "Grammar", "Operators", "Types", "Members", "Overload rules" and "Typing", and
+/// It answers `Ok` where they are a component that passes no limit, whose flat expressions each
+/// have a grouping, whose declared types are a hierarchy, whose fields keep their rules, whose
+/// overload sets keep theirs, and whose bodies and initials have types: with the program that it
+/// is. Else it answers `Refused` with the first rule that is broken and its place. The order is:
+/// 202, 201 or 203; the first of 301 to 304; the lowest of 401 to 407; the lower of 451 and 452;
+/// the first pair that breaks one of 501 to 506; 507; the one of 601 to 614 at the earliest place,
+/// of several there the lowest, 609 last. Its only other error is want of memory, which it also
+/// answers where runs stand more than 400 deep in one another, as they can in the headers of
+/// `while` and `for`, and where there are more of something than numbers for it. The chapters are
+/// "Grammar", "Operators", "Types", "Members", "Overload rules" and "Typing", and
 /// docs/TRANSLATION.md.
 pub fn check(alloc: Global, tokens: &Tokens) -> Result<Program, CheckFault>
     ensures { Checks tokens.now result }
@@ -48,7 +51,8 @@ pub fn check(alloc: Global, tokens: &Tokens) -> Result<Program, CheckFault>
     Ok(program)
 }
 
-/// Asks the rules behind the grammar of a component of a file's tokens, as `check` does, and makes its program.
+/// Asks the rules behind the grammar of a component of a file's tokens, as `check` does, and makes
+/// its program.
 pub fn check_tree(alloc: Global, component: &Component) -> Result<Program, CheckFault>
     ensures { ChecksTree component.now result }
 {
@@ -64,8 +68,9 @@ pub fn check_tree(alloc: Global, component: &Component) -> Result<Program, Check
 
 /// Asks all rules of a file's tokens, as `check` does, and what the component prints.
 ///
-/// It answers `Ok` where they are accepted: with the text that the component prints, in UTF-8, where it is a greeting,
-/// and with `None` where it is none. Its errors are those of `check`. The chapter is "What is built".
+/// It answers `Ok` where they are accepted: with the text that the component prints, in UTF-8,
+/// where it is a greeting, and with `None` where it is none. Its errors are those of `check`. The
+/// chapter is "What is built".
 pub fn check_tokens(alloc: Global, tokens: &Tokens) -> Result<Option<Bytes>, CheckFault>
     ensures { Answers tokens.now result }
 {

@@ -16,14 +16,16 @@ pub fn one_program()
     ensures { OneProgram }
 {}
 
-/// A law of token lists that keep the rules before typing: such a one is a greeting of one text at most. The chapter is "What is built".
+/// A law of token lists that keep the rules before typing: such a one is a greeting of one text at
+/// most. The chapter is "What is built".
 pub fn one_greeting()
     ensures { OneGreeting }
 {}
 
-/// A law of components that keep the rules: of each overload set exactly one declaration is most specific for all types of values to which
-/// one of its declarations is applicable, and it isn't abstract. For types that an expression has, traits among them, there is exactly one
-/// too. The chapter is "Overload rules".
+/// A law of components that keep the rules: of each overload set exactly one declaration is most
+/// specific for all types of values to which one of its declarations is applicable, and it isn't
+/// abstract. For types that an expression has, traits among them, there is exactly one too. The
+/// chapter is "Overload rules".
 pub fn one_declaration_for_each_call()
     ensures one { ExactlyOne }
     ensures concrete { NeverAbstract }

@@ -10,7 +10,8 @@ use fort_front::check;
 use fort_lex::{Tokens, tokens};
 use std::alloc::Global;
 
-/// What is to say of the file of that name, of which all rules are asked, in the order of the phases.
+/// What is to say of the file of that name, of which all rules are asked, in the order of the
+/// phases.
 pub(crate) fn check_file(alloc: Global, name: Bytes, file: &Bytes) -> Result<Answer, Memory>
     requires { length file.now ≤ file_limit }
     ensures { IfOk result (λ a. CheckSays name file.now (said a)) }

@@ -7,8 +7,8 @@ use fort_port::{Failed, Sink};
 /// The status of a call that could not write all that it meant to say.
 const UNWRITTEN: u8 = 4;
 
-/// Writes what is for standard output, then the note, and answers the status. After a fault nothing more is
-/// written to the sink that failed.
+/// Writes what is for standard output, then the note, and answers the status. After a fault
+/// nothing more is written to the sink that failed.
 pub(crate) fn deliver<K: Sink, N: Sink>(
     status: u8,
     text: &[u8],

@@ -20,8 +20,8 @@ use std::alloc::Global;
 /// The fuel of the bank.
 const BENCH_FUEL: u64 = 20_000_000;
 
-/// What the call with these words means to say; the file is read to its end, or to the first byte behind the
-/// limit, before anything of it is judged.
+/// What the call with these words means to say; the file is read to its end, or to the first byte
+/// behind the limit, before anything of it is judged.
 pub(crate) fn reply_to<F: Shelf>(
     alloc: Global,
     words: &[String],

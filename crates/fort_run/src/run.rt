@@ -19,9 +19,9 @@ use std::alloc::Global;
 /// The place of a refusal of the whole file.
 const WHOLE_FILE: Place = Place { line: 1, column: 1 };
 
-/// What is to say of the file of that name, run with a fuel in steps: the rules of its tokens come first,
-/// then those of the grammar, of grouping, of types, of members, of overloading and of typing, then
-/// rule 901; then it runs.
+/// What is to say of the file of that name, run with a fuel in steps: the rules of its tokens come
+/// first, then those of the grammar, of grouping, of types, of members, of overloading and of
+/// typing, then rule 901; then it runs.
 pub(crate) fn run_file(
     alloc: Global,
     name: Bytes,

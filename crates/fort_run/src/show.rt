@@ -11,7 +11,8 @@ use fort_front::check_grammar;
 use fort_lex::{Tokens, tokens};
 use std::alloc::Global;
 
-/// What is to say of the file of that name: the rules of its tokens come first, then those of the grammar.
+/// What is to say of the file of that name: the rules of its tokens come first, then those of the
+/// grammar.
 pub(crate) fn show_file(alloc: Global, name: Bytes, file: &Bytes) -> Result<Answer, Memory>
     requires { length file.now ≤ file_limit }
     ensures { IfOk result (λ a. ShowSays name file.now (said a)) }

@@ -50,8 +50,8 @@ fn padded(alloc: Global, file: &str, more: &str, len: usize) -> Result<Vec<u8>, 
     Ok(all)
 }
 
-/// Runs the words over a shelf of one file that gives `most` bytes a call, compares all that comes out, and
-/// answers how the call ended.
+/// Runs the words over a shelf of one file that gives `most` bytes a call, compares all that comes
+/// out, and answers how the call ended.
 fn expect_finish<R: Threads + Wait + Sync + Abort + AllocGlobal>(
     rt: &R,
     words: &[&str],

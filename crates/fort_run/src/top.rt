@@ -19,19 +19,23 @@ const WANTS_MEMORY: u8 = 7;
 pub struct Finish {
     /// The status to end with.
     pub status: u8,
-    /// The run of the component, whatever failed afterwards. For `check` and `show`, and where a run never began, it has no fuel and no picks, and its ending is `NotRun`.
+    /// The run of the component, whatever failed afterwards. For `check` and `show`, and where a
+    /// run never began, it has no fuel and no picks, and its ending is `NotRun`.
     pub journal: Journal,
 }
 
-/// Does what the words after the program's name ask for, with the files of a shelf, standard output `out`
-/// and standard error `notes`, and answers the status to end with and the journal of the run.
+/// Does what the words after the program's name ask for, with the files of a shelf, standard
+/// output `out` and standard error `notes`, and answers the status to end with and the journal of
+/// the run.
 ///
-/// The words `run FILE [--workers N] [--fuel N]` run the component in the file, with a fuel of 2,000,000 where none is
-/// given; `bench N` runs the bank of N accounts; `check FILE` says whether the component is accepted, and `show FILE`
-/// writes its canonical text (the chapter "The command line"). The file is read to its end before it is judged. The journal is that of a run of the component's program, what is written is what this run
-/// printed, and the status says how it ended. What each status says, and what then stands on both outputs, is the
-/// chapter "Statuses and notes" of docs/LANGUAGE.md. After a sink has failed nothing more is written to it.
-/// Where memory is wanting the status is 7, and nothing is said of `out`.
+/// The words `run FILE [--workers N] [--fuel N]` run the component in the file, with a fuel of
+/// 2,000,000 where none is given; `bench N` runs the bank of N accounts; `check FILE` says whether
+/// the component is accepted, and `show FILE` writes its canonical text (the chapter "The command
+/// line"). The file is read to its end before it is judged. The journal is that of a run of the
+/// component's program, what is written is what this run printed, and the status says how it
+/// ended. What each status says, and what then stands on both outputs, is the chapter "Statuses
+/// and notes" of docs/LANGUAGE.md. After a sink has failed nothing more is written to it. Where
+/// memory is wanting the status is 7, and nothing is said of `out`.
 pub fn fortress<R: Threads + Wait + Sync, F: Shelf, K: Sink, N: Sink, G: Gate + Sync>(
     _rt: &R,
     alloc: Global,
