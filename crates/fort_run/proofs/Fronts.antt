@@ -1,9 +1,13 @@
 -- What is known of a file while it is read.
-use Rattle.std.proofs.Common.{◌≡◌, ℕ, ◌+◌, ◌<◌, ◌≤◌, List, [], ◌∷◌, ◌++◌, length, drop, ap, sym, ◌∙◌, arith, refl, append_assoc, length-append, append-nil}
+use Rattle.std.proofs.Common.{◌≡◌, ℕ, ◌+◌, ◌*◌, ◌<◌, ◌≤◌, List, [], ◌∷◌, ◌++◌, length, drop, ap, sym, ◌∙◌, arith, refl, append_assoc, length-append, append-nil, Result, Ok, Err, IfErr}
 use Rattle.std.proofs.Math.Seq.{drop-append_seam}
 use Rattle.fort_port.specs.Outside.{Holding, Untold, Absent, Held, Gives}
 use Rattle.fort_run.specs.Reply.{IsFile, file_limit}
-use Rattle.fort_run.specs.Fronts.{IsFrontOf}
+use Rattle.fort_bench.specs.Bank.{bank}
+use Rattle.fort_cmd.specs.declared.command.Command.TheVariants.{Bench}
+use Rattle.fort_run.specs.Fronts.{IsFrontOf, IsTooLarge, StopsAt}
+use Rattle.fort_run.specs.declared.file.Unread.{Unread}
+use Rattle.fort_run.specs.declared.file.Unread.TheVariants as an_unread
 
 pub front_empty : (h : Holding) → IsFrontOf h []
 front_empty Untold = tt
@@ -43,3 +47,15 @@ pub front_long : (h : Holding) (front : List ℕ) → IsFrontOf h front → file
 front_long Untold front f long = (front, tt, long)
 front_long Absent front f long = absurd (let none : length front ≡ 0 = ap length f in omega arith)
 front_long (Held file) front f long = (file, refl, (let whole : length file ≡ length front + length f.0 = ap length f.1 ∙ length-append front f.0 in omega arith))
+
+-- why there is no text of a bank: it would be larger than a file may be, or memory was wanting
+bank_stop : (holding : List ℕ → Holding) (accounts faults : ℕ) (why : Unread) → IsTooLarge (bank accounts (4 * accounts)) why
+    → StopsAt holding (Bench accounts) faults faults why
+bank_stop holding accounts faults an_unread.Failed large = absurd large
+bank_stop holding accounts faults an_unread.TooLarge large = (refl, (bank accounts (4 * accounts), refl, large))
+bank_stop holding accounts faults an_unread.Memory large = tt
+
+pub bank_stops : (holding : List ℕ → Holding) (accounts faults : ℕ) (r : Result (List ℕ) Unread) → IfErr r (IsTooLarge (bank accounts (4 * accounts)))
+    → IfErr r (StopsAt holding (Bench accounts) faults faults)
+bank_stops holding accounts faults (Ok text) stops = tt
+bank_stops holding accounts faults (Err why) stops = bank_stop holding accounts faults why stops
