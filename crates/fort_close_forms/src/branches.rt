@@ -202,7 +202,8 @@ fn bound_name(name: &Option<(Place, NameId)>) -> Option<NameId>
     }
 }
 
-/// A `try`, which has the widest type of its block and of what its clauses give; 603 at it where there is none.
+/// A `try`, which has the widest type of its block and of what its clauses give; 603 at it where
+/// there is none.
 #[tactic(auto, using(crate::proofs::Kept::types_are), unfolding(fort_judge::specs::Closing::try_answer))]
 pub fn try_form(
     alloc: Global,

@@ -20,8 +20,8 @@ use std::alloc::Global;
 
 /// What a form is, once its parts have been asked.
 ///
-/// `frame` has what its parts have become, `scope` the names that it stands among, and `found` the first broken rule so far. It
-/// answers `Memory` where memory is wanting. The chapter "Typing".
+/// `frame` has what its parts have become, `scope` the names that it stands among, and `found` the
+/// first broken rule so far. It answers `Memory` where memory is wanting. The chapter "Typing".
 pub fn close(
     alloc: Global,
     known: &Known,

@@ -1,6 +1,7 @@
 //! Parts that are taken off a frame.
 //!
-//! A frame and a typed form are large; they are lent from call to call, and what is taken off goes into a box at once.
+//! A frame and a typed form are large; they are lent from call to call, and what is taken off goes
+//! into a box at once.
 ghost use Rattle.std.specs.Prelude.{◌≡◌, [], IfOk, OnOk, None};
 
 use fort_base::{Boxed, List, Memory};

@@ -106,7 +106,8 @@ fn both_types(alloc: Global, target: &TypedForm, added: &TypedForm) -> Result<Li
     Ok(types)
 }
 
-/// `t += e` or `t -= e`: the operator is called once, and 603 stands at the target where its result isn't below the target's type.
+/// `t += e` or `t -= e`: the operator is called once, and 603 stands at the target where its
+/// result isn't below the target's type.
 fn updated(
     alloc: Global,
     known: &Known,

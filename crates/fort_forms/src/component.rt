@@ -19,11 +19,11 @@ use std::alloc::Global;
 /// More types than this have no numbers.
 const MOST_TYPES: usize = 0x4000_0000;
 
-/// The forms of a component over the groupings of its flat expressions; or want of memory, which it
-/// also answers where the component has more than 2^30 types.
+/// The forms of a component over the groupings of its flat expressions; or want of memory, which
+/// it also answers where the component has more than 2^30 types.
 ///
-/// No rule is asked here: a name that is no type's has the number behind all of them. The chapter is
-/// "Typing".
+/// No rule is asked here: a name that is no type's has the number behind all of them. The chapter
+/// is "Typing".
 pub fn forms(alloc: Global, component: &Component, groups: &Groups) -> Result<Forms, Memory>
     ensures { IfOk result (λ forms. forms ≡ forms_of component.now groups.now) }
 {

@@ -7,8 +7,8 @@ ghost use Rattle.fort_forms.specs.Groupings.{InOrder, grouping_at};
 use fort_base::Place;
 use fort_tree::{FlatGrouping, Grouped};
 
-/// The groupings of flat expressions, and whether they stand in the order of their places, as those
-/// of a component do.
+/// The groupings of flat expressions, and whether they stand in the order of their places, as
+/// those of a component do.
 #[derive(Drop)]
 pub struct GroupsByPlace<'a> {
     pub list: &'a [FlatGrouping],

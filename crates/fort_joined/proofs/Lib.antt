@@ -5,3 +5,6 @@ pub mod Meanings
 pub mod Steps
 pub mod InOrder
 pub mod ByName
+pub mod Grown
+pub mod Placed
+pub mod Both

@@ -33,10 +33,20 @@ abbrev pub further_of : Step → Further
 further_of (a_step.On ps found) = on ps found
 further_of (a_step.Stop found) = stop found
 
--- what comes of two elements, where it is no typed form, takes their place
-abbrev pub replaced_else : List Part → Place → List Part → Made → Option Fault → Further
-replaced_else before place after (a_made.Breaks x) found = replaced before place after (a_made.Breaks x) found
-replaced_else before place after _ found = stop found
+-- the typed form that came of two elements
+abbrev pub typed_of : Made → Option TypedForm
+typed_of (a_made.Gives t) = Some t
+typed_of _ = None
+
+-- the rule that was broken
+abbrev pub fault_of : Made → Option Fault
+fault_of (a_made.Breaks x) = Some x
+fault_of _ = None
+
+-- a broken rule takes the place of two elements, where there is one
+abbrev pub replaced_else : List Part → Place → List Part → Option Fault → Option Fault → Further
+replaced_else before place after (Some x) found = replaced before place after (a_made.Breaks x) found
+replaced_else before place after None found = stop found
 
 -- a run that has ended, of one element or of none
 abbrev pub end_of : List Part → Option Fault → Outcome

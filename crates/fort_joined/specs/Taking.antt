@@ -24,10 +24,14 @@ abbrev pub is_never : Meaning → Bool
 is_never (a_meaning.Value t) = is_nothing (type_of t)
 is_never _ = false
 
--- the first broken rule so far, where what came of two elements is no typed form
+-- the first broken rule so far, and what an element is, where this came of two elements
 abbrev pub found_else : Made → Option Fault → Option Fault
 found_else (a_made.Breaks x) found = breaks x.rule x.place found
 found_else _ found = found
+
+abbrev pub meaning_else : Made → Meaning
+meaning_else (a_made.Gives t) = a_meaning.Value t
+meaning_else _ = a_meaning.Unknown
 
 -- what comes of a grouping, and the elements behind it
 pub record Taken : Type 0 where

@@ -42,7 +42,8 @@ fn value_applied(
     }
 }
 
-/// A function applied to an argument: a function set called by its name, or 602 or 614 at the name; a function value applied.
+/// A function applied to an argument: a function set called by its name, or 602 or 614 at the
+/// name; a function value applied.
 #[tactic(auto, using(crate::proofs::ByName::name_called, crate::proofs::ByName::name_uncalled, crate::proofs::Meanings::both_applied, crate::proofs::Meanings::half_applied, crate::proofs::Meanings::unapplied))]
 pub fn applied(
     alloc: Global,

@@ -27,8 +27,8 @@ pub fn method_set(known: &Known, name: NameId, width: usize) -> Result<SetId, Me
     set_of(known, spelled(known, name), true, width)
 }
 
-/// The set that a call of an operator is of, by the number of its operands. It answers `Memory` where there are more sets than
-/// numbers.
+/// The set that a call of an operator is of, by the number of its operands. It answers `Memory`
+/// where there are more sets than numbers.
 pub fn operator_set(known: &Known, op: Op, width: usize) -> Result<SetId, Memory>
     ensures { IfOk result (λ set. set ≡ set_of_operator (facts known.now) op width) }
 {

@@ -109,8 +109,8 @@ fn turn(
 
 /// What a run of elements is, with the first broken rule so far.
 ///
-/// Its rewritings are done one after another, as many at most as it has elements. It answers `Memory` where memory is wanting. The
-/// chapter "Typing", runs and juxtapositions.
+/// Its rewritings are done one after another, as many at most as it has elements. It answers
+/// `Memory` where memory is wanting. The chapter "Typing", runs and juxtapositions.
 #[tactic(auto, using(crate::proofs::Steps::run_over, crate::proofs::Turns::ended_there, crate::proofs::Turns::gone_on), unfolding(fort_judge::specs::Joining::run))]
 pub fn run(
     alloc: Global,

@@ -5,7 +5,7 @@ ghost use Rattle.fort_typing_rules.specs.declared.part.Meaning.TheVariants as a_
 ghost use Rattle.fort_typing_rules.specs.Elements.{made as made_of};
 ghost use Rattle.fort_judge.specs.Joining.{as_grown as barred_grown, grown as grown_by, grows_by};
 ghost use Rattle.fort_joined.specs.Ways.{put_together};
-ghost use Rattle.fort_joined.specs.Taking.{found_else, grown_of, is_never, takes_one, taking};
+ghost use Rattle.fort_joined.specs.Taking.{found_else, grown_of, is_never, meaning_else, takes_one, taking};
 
 use crate::two::made;
 use crate::way::{Way, combined};
@@ -40,9 +40,9 @@ fn grown_from(
     Ok(Growth { part, found })
 }
 
-/// The first broken rule so far, where what came of two elements is no typed form.
-fn found_with(new: Made, found: Option<Fault>) -> Option<Fault>
-    ensures { result ≡ found_else new found }
+/// The first broken rule so far, where this came of two elements.
+fn found_with(new: &Made, found: Option<Fault>) -> Option<Fault>
+    ensures { result ≡ found_else new.now found }
 {
     match new {
         Made::Breaks(fault) => breaks(fault.rule, fault.place, found),
@@ -50,14 +50,23 @@ fn found_with(new: Made, found: Option<Fault>) -> Option<Fault>
     }
 }
 
+/// What an element is, of which this has come.
+fn meaning_in(new: Made) -> Meaning
+    ensures { result ≡ meaning_else new }
+{
+    match new {
+        Made::Gives(typed) => Meaning::Value(typed),
+        _ => Meaning::Unknown,
+    }
+}
+
 /// What came of two elements, as what comes of their grouping.
+#[tactic(auto, using(crate::proofs::Grown::grown_as))]
 fn grown(alloc: Global, place: Place, new: Made, found: Option<Fault>) -> Result<Growth, Memory>
     ensures { IfOk result (λ it. grown_of it ≡ grown_by place new found) }
 {
-    match new {
-        Made::Gives(typed) => grown_from(alloc, place, Meaning::Value(typed), found),
-        other => grown_from(alloc, place, Meaning::Unknown, found_with(other, found)),
-    }
+    let found = found_with(&new, found);
+    grown_from(alloc, place, meaning_in(new), found)
 }
 
 /// Whether it is a value that is `Nothing`.

@@ -3,7 +3,7 @@ ghost use Rattle.std.specs.Prelude.{◌≡◌, ◌≤◌, ◌++◌, ◌∷◌, d
 ghost use Rattle.fort_typing_rules.specs.Elements.{made as made_of};
 ghost use Rattle.fort_judge.specs.declared.frame.Made.TheVariants as a_made;
 ghost use Rattle.fort_judge.specs.Joining.{around, replaced};
-ghost use Rattle.fort_joined.specs.Steps.{further_of, meaning_from, replaced_else, two_of};
+ghost use Rattle.fort_joined.specs.Steps.{fault_of, further_of, meaning_from, replaced_else, two_of, typed_of};
 
 use fort_base::{Boxed, List, Memory, Place};
 use fort_judge::{Made, Valued, Want};
@@ -88,7 +88,8 @@ fn meaning_of(node: Option<TypedForm>) -> Meaning
     }
 }
 
-/// A typed form that came of two elements takes their place; 603 where it is `Nothing` and isn't the whole.
+/// A typed form that came of two elements takes their place; 603 where it is `Nothing` and isn't
+/// the whole.
 #[tactic(auto, using(crate::proofs::Steps::whole_is, crate::proofs::Steps::not_whole), unfolding(fort_judge::specs::Tests::suits))]
 fn put_typed(
     alloc: Global,
@@ -127,24 +128,45 @@ fn put_broken(
     Ok(Step::On(parts, breaks(fault.rule, fault.place, found)))
 }
 
-/// A broken rule, or nothing, that came of two elements.
+/// A broken rule takes the place of two elements, where there is one; else a run ends.
 fn put_else(
     rest: List<Part>,
     at: usize,
     place: Place,
-    new: Made,
+    fault: Option<Fault>,
     found: Option<Fault>,
 ) -> Result<Step, Memory>
     requires { at ≤ length rest }
-    ensures { IfOk result (λ step. further_of step ≡ replaced_else (take at rest) place (drop at rest) new found) }
+    ensures { IfOk result (λ step. further_of step ≡ replaced_else (take at rest) place (drop at rest) fault found) }
+{
+    match fault {
+        Some(fault) => put_broken(rest, at, place, fault, found),
+        None => Ok(Step::Stop(found)),
+    }
+}
+
+/// The rule that was broken.
+fn fault_in(new: &Made) -> Option<Fault>
+    ensures { result ≡ fault_of new.now }
 {
     match new {
-        Made::Breaks(fault) => put_broken(rest, at, place, fault, found),
-        _ => Ok(Step::Stop(found)),
+        Made::Breaks(fault) => Some(*fault),
+        _ => None,
+    }
+}
+
+/// The typed form that came.
+fn typed_in(new: Made) -> Option<TypedForm>
+    ensures { result ≡ typed_of new }
+{
+    match new {
+        Made::Gives(typed) => Some(typed),
+        _ => None,
     }
 }
 
 /// What came of two elements takes their place.
+#[tactic(auto, using(crate::proofs::Placed::typed_placed, crate::proofs::Placed::else_placed))]
 pub fn put(
     alloc: Global,
     known: &Known,
@@ -157,8 +179,9 @@ pub fn put(
     requires { at ≤ length rest }
     ensures { IfOk result (λ step. further_of step ≡ replaced (take at rest) place (drop at rest) new found) }
 {
-    match new {
-        Made::Gives(typed) => put_typed(alloc, known, rest, at, place, typed, found),
-        other => put_else(rest, at, place, other, found),
+    let fault = fault_in(&new);
+    match typed_in(new) {
+        Some(typed) => put_typed(alloc, known, rest, at, place, typed, found),
+        None => put_else(rest, at, place, fault, found),
     }
 }

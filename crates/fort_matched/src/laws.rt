@@ -2,8 +2,8 @@ ghost use Rattle.fort_matched.specs.Component.{ComponentIsWritten, TypedMatchesM
 
 use fort_written::program_is_written;
 
-/// A law: what typing gives of a component matches its members: no two declarations with
-/// bodies stand at one place, each has as many parameters as its body counts, and the parameters of a
+/// A law: what typing gives of a component matches its members: no two declarations with bodies
+/// stand at one place, each has as many parameters as its body counts, and the parameters of a
 /// constructor are the types of the first fields of its object, which alone have no constant.
 pub fn typed_matches_members()
     ensures { TypedMatchesMembers }

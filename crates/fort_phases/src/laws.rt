@@ -11,7 +11,8 @@ pub fn one_hierarchy()
     ensures { OneHierarchy }
 {}
 
-/// A law: a component that keeps the rules on fields has one list of its fields, sets and variables.
+/// A law: a component that keeps the rules on fields has one list of its fields, sets and
+/// variables.
 pub fn one_membership()
     ensures { OneMembership }
 {}

@@ -7,7 +7,6 @@ ghost use Rattle.fort_known.specs.Sets.{operator_set};
 ghost use Rattle.fort_typing_rules.specs.Elements.{chosen};
 ghost use Rattle.fort_typing_rules.specs.Types.{number_type as type_of_number};
 ghost use Rattle.fort_typing_whole.specs.Constants.{constant, negative_at, no_part, operand_negative};
-ghost use Rattle.fort_typed_form.specs.declared.typed_form.TypedForm.TheVariants as a_typed;
 
 use fort_base::{List, Memory, Ty};
 use fort_builtin::{BOOLEAN, STRING, ZZ32, ZZ64};
@@ -74,8 +73,8 @@ fn no_part(alloc: Global, forms: &[Form]) -> Option<TypedForm>
     }
 }
 
-/// The constant that a form is, if it is one: a number, `-` before a number, a text, a truth value,
-/// or `()`.
+/// The constant that a form is, if it is one: a number, `-` before a number, a text, a truth
+/// value, or `()`.
 #[tactic(auto, unfolding(fort_typing_whole::specs::Constants::constant))]
 pub fn constant(alloc: Global, known: &Known, form: &Form) -> Result<Option<TypedForm>, Memory>
     ensures { IfOk result (λ it. it ≡ constant (facts known.now) form.now) }

@@ -1,5 +1,5 @@
 //! How far the typing of a component has come.
-ghost use Rattle.std.specs.Prelude.{◌≡◌, IfOk, OnOk, None, []};
+ghost use Rattle.std.specs.Prelude.{◌≡◌, IfOk, OnOk, None};
 ghost use Rattle.fort_known.specs.Read.{facts};
 ghost use Rattle.fort_typing_whole.specs.Whole.{begun, judged_bodies, judged_body, judged_initial, judged_initials, with_body, with_initial};
 ghost use Rattle.fort_typing.specs.Typing.{whole_of};

@@ -16,13 +16,13 @@ use std::alloc::Global;
 
 /// The typed forms of a component whose names, hierarchy and members these are.
 ///
-/// Its initials and bodies are asked whether they keep the chapter "Typing", each in its own scopes,
-/// and after them whether there is a function `run`.
+/// Its initials and bodies are asked whether they keep the chapter "Typing", each in its own
+/// scopes, and after them whether there is a function `run`.
 ///
 /// # Errors
 ///
-/// Of the rules 601 to 614 that the component breaks the one at the earliest place, and of several at
-/// one place the lowest; 609 only where it breaks no other. `Memory` where memory is wanting.
+/// Of the rules 601 to 614 that the component breaks the one at the earliest place, and of several
+/// at one place the lowest; 609 only where it breaks no other. `Memory` where memory is wanting.
 #[tactic(auto, unfolding(fort_typing_whole::specs::Whole::typed_whole))]
 pub fn typed(
     alloc: Global,

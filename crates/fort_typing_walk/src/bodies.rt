@@ -1,8 +1,6 @@
 //! Bodies: a walk over one body.
-ghost use Rattle.std.specs.Prelude.{◌≡◌, IfOk, map, []};
+ghost use Rattle.std.specs.Prelude.{◌≡◌, IfOk};
 ghost use Rattle.fort_known.specs.Read.{facts};
-ghost use Rattle.fort_judge.specs.Parts.{begin, bind_all};
-ghost use Rattle.fort_typing_rules.specs.Typing.{parameter_binding};
 ghost use Rattle.fort_typing_walk.specs.Walks.{body_answer};
 
 use crate::elements::wanted_below;
@@ -18,9 +16,9 @@ use fort_typing_tasks::{Scoping, Task};
 use std::alloc::Global;
 use std::mem;
 
-/// What a body has become, with its parameters bound and below its written result, where it has, and
-/// the first broken rule, that which was found so far among them; or want of memory. The chapter
-/// "Typing", declarations.
+/// What a body has become, with its parameters bound and below its written result, where it has,
+/// and the first broken rule, that which was found so far among them; or want of memory. The
+/// chapter "Typing", declarations.
 ///
 /// Where a parameter's name is visible the body isn't asked.
 #[tactic(auto, using(crate::proofs::Told::flags_told), unfolding(crate::specs::Walks::body_answer, fort_judge::specs::Parts::as_wanted_below))]

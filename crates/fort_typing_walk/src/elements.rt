@@ -3,7 +3,7 @@ ghost use Rattle.std.specs.Prelude.{◌≡◌, IfOk, cond, Some};
 ghost use Rattle.std.specs.Option.{option_copied};
 ghost use Rattle.fort_known.specs.Read.{facts};
 ghost use Rattle.fort_typed_form.specs.declared.typed_form.TypedForm.{out-TypedForm};
-ghost use Rattle.fort_typing_rules.specs.Types.{given, type_of as type_in, unit as unit_type};
+ghost use Rattle.fort_typing_rules.specs.Types.{given};
 ghost use Rattle.fort_typing_rules.specs.Typing.{is_mutable, takes_at};
 ghost use Rattle.fort_judge.specs.Parts.{below_by, element_found, element_meaning, given_by, head_type, side_of, side_place, side_type};
 ghost use Rattle.fort_base.specs.declared.rules.TheConstants.{MISMATCH};

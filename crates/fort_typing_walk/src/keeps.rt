@@ -1,5 +1,5 @@
 //! How a part is kept in the frame of the form that is open.
-ghost use Rattle.std.specs.Prelude.{◌≡◌, IfOk, OnOk, [], map};
+ghost use Rattle.std.specs.Prelude.{◌≡◌, IfOk, OnOk, map};
 ghost use Rattle.fort_judge.specs.Parts.{declares, declares_all, kept_if, opened};
 ghost use Rattle.fort_typed_form.specs.declared.typed_form.TypedForm.TheVariants as a_typed;
 ghost use Rattle.fort_typing_rules.specs.Types.{unit as unit_type};

@@ -1,5 +1,5 @@
 //! Parts and clauses that are asked in their order.
-ghost use Rattle.std.specs.Prelude.{◌≡◌, OnOk, map, List as Seq};
+ghost use Rattle.std.specs.Prelude.{◌≡◌, OnOk, map};
 ghost use Rattle.fort_known.specs.Known.{Facts};
 ghost use Rattle.fort_judge.specs.Parts.{State};
 ghost use Rattle.fort_judge.specs.Judging.{judged, judged_branch};

@@ -1,5 +1,5 @@
 //! The names of a local tuple.
-ghost use Rattle.std.specs.Prelude.{◌≡◌, IfOk, IfSome, IfNone, None, Some, map, option_map};
+ghost use Rattle.std.specs.Prelude.{◌≡◌, IfOk, IfSome, IfNone, None, Some, map};
 ghost use Rattle.fort_typing_rules.specs.Typing.{name_and_type, named_parts};
 ghost use Rattle.fort_typing_tasks.specs.Tasks.{bindings_of};
 

@@ -1,6 +1,5 @@
 //! What the form that was asked is taken as.
 ghost use Rattle.std.specs.Prelude.{◌≡◌, OnOk, Some, None, true};
-ghost use Rattle.fort_known.specs.Known.{Facts};
 ghost use Rattle.fort_known.specs.Read.{facts};
 ghost use Rattle.fort_base.specs.declared.rules.TheConstants.{NOT_ASSIGNABLE as BARRED};
 ghost use Rattle.fort_judge.specs.Faults.{breaks as breaks_by};

@@ -1,6 +1,6 @@
 //! The walk: the form that was asked last, the frame of the form that is open, the bindings in
 //! scope, and the first broken rule so far.
-ghost use Rattle.std.specs.Prelude.{◌≡◌, length, IfOk, OnOk, [], map, option_map, Some, None, List as Seq};
+ghost use Rattle.std.specs.Prelude.{◌≡◌, IfOk, OnOk, [], map, Some, None};
 ghost use Rattle.fort_known.specs.Known.{Facts};
 ghost use Rattle.fort_known.specs.Read.{facts};
 ghost use Rattle.fort_judge.specs.Parts.{begin, said, side_of};
