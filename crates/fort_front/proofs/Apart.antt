@@ -1,5 +1,5 @@
 -- What keeps the rules breaks none.
-use Rattle.std.proofs.Common.{◌≡◌, ℕ, ◌<◌, ◌≤◌, List, [], ◌∷◌, ◌++◌, length, sym, ◌∙◌, subst, arith}
+use Rattle.std.proofs.Common.{◌≡◌, ℕ, ◌<◌, ◌≤◌, List, [], ◌∷◌, ◌++◌, sym, ◌∙◌, subst, arith}
 use Rattle.std.specs.List.{Contains}
 use Rattle.fort_base.specs.declared.refusal.Place.{Place}
 use Rattle.fort_base.specs.declared.refusal.Rule.{Rule}
@@ -8,7 +8,7 @@ use Rattle.fort_token.specs.declared.token.Tokens.{Tokens}
 use Rattle.fort_tree.specs.declared.declarations.Component.{Component}
 use Rattle.fort_tree.specs.declared.grouped.FlatGrouping.{FlatGrouping}
 use Rattle.fort_tree.specs.declared.grouped.Row.{Row}
-use Rattle.fort_tree.specs.Limits.{crowded, flats, BreaksLimit}
+use Rattle.fort_tree.specs.Limits.{crowded, flats}
 use Rattle.fort_tree.specs.Openers.{AllShallow, FirstDeep, openers_round}
 use Rattle.fort_group.specs.Answers as grouping
 use Rattle.fort_group.specs.Components.{HasGroups, IsFirstBreak}
@@ -16,7 +16,7 @@ use Rattle.fort_group.proofs.Rules.{breaks_none}
 use Rattle.fort_syntax.specs.Answer as grammar
 use Rattle.fort_syntax.specs.Answer.{TooDeep, Syntax, TooMany}
 use Rattle.fort_type_names.specs.TypeNames.{type_names}
-use Rattle.fort_hier.specs.Hierarchies.{Broken, IsHierarchy, IsReported, declares}
+use Rattle.fort_hier.specs.Hierarchies.{Broken, IsReported, declares}
 use Rattle.fort_hier.proofs.AcceptedLaws.{accepted_sound}
 use Rattle.fort_set.specs.declared.member.Members.{Members}
 use Rattle.fort_field.specs.Rules as fields
@@ -24,7 +24,7 @@ use Rattle.fort_member.specs.Answers.{AreMembers}
 use Rattle.fort_over.specs.Answers as overloads
 use Rattle.fort_front.proofs.Overloaded.{none_reported}
 use Rattle.fort_front.proofs.Same.{ready, same_report, typed_once}
-use Rattle.fort_front.specs.Front.{IsFormed, Breaks, in_grammar, in_grouping, in_hierarchy, in_fields, in_overloads, in_typing, known, forms, NeverBoth, NeverBothInGrammar}
+use Rattle.fort_front.specs.Front.{IsFormed, in_grammar, in_grouping, in_hierarchy, in_fields, in_overloads, in_typing, known, forms, NeverBoth, NeverBothInGrammar}
 
 -- Where no token stands too deep, no first one does.
 none_deep : (ts : List Token) (place : Place) → AllShallow ts → FirstDeep ts place → ⊥

@@ -1,5 +1,5 @@
 -- A component of which a flat expression, the hierarchy, a field, an overload set or a form is refused is refused by that; and what `overloads` asks of members.
-use Rattle.std.proofs.Common.{◌≡◌, ◌≤◌, ◌^◌, List, Err, length, sym, ap, subst}
+use Rattle.std.proofs.Common.{◌≤◌, ◌^◌, List, Err, length, sym, subst}
 use Rattle.fort_base.specs.declared.refusal.CheckFault.{CheckFault}
 use Rattle.fort_base.specs.declared.refusal.CheckFault.TheVariants as a_fault
 use Rattle.fort_token.specs.declared.token.Tokens.{Tokens}

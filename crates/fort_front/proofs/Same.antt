@@ -2,7 +2,6 @@
 use Rattle.std.proofs.Common.{◌≡◌, List, true, subst}
 use Rattle.fort_types.specs.Types.{IsNumbered}
 use Rattle.fort_core.specs.declared.program.Program.{Program}
-use Rattle.fort_form.specs.declared.component.Forms.{Forms}
 use Rattle.fort_token.specs.declared.token.Tokens.{Tokens}
 use Rattle.fort_tree.specs.declared.declarations.Component.{Component}
 use Rattle.fort_tree.specs.declared.grouped.FlatGrouping.{FlatGrouping}
@@ -14,7 +13,6 @@ use Rattle.fort_hier.specs.Hierarchies.{IsHierarchy}
 use Rattle.fort_set.specs.declared.member.Members.{Members}
 use Rattle.fort_member.specs.Answers.{AreMembers}
 use Rattle.fort_known.specs.declared.fault.Fault.{Fault}
-use Rattle.fort_known.specs.Known.{Knows}
 use Rattle.fort_fit.specs.Fit.{known_of}
 use Rattle.fort_fit.proofs.AcceptedLaws.{keepers_accepted}
 use Rattle.fort_forms_fit.specs.Fits.{FormsAreFit}
@@ -32,7 +30,7 @@ use Rattle.fort_phases.proofs.Groupings.{groupings_once}
 use Rattle.fort_phases.proofs.Hierarchies.{hierarchy_once}
 use Rattle.fort_phases.proofs.Memberships.{members_once}
 use Rattle.fort_phases.proofs.Programs.{program_once}
-use Rattle.fort_front.specs.Front.{IsFormed, IsAccepted, known, forms, OneProgram}
+use Rattle.fort_front.specs.Front.{IsFormed, known, forms, OneProgram}
 
 -- ---- the laws of typing, of components
 

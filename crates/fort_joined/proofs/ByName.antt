@@ -1,5 +1,5 @@
 -- A function set's name applied to arguments.
-use Rattle.std.proofs.Common.{◌≡◌, List, length, Option, Some, None, refl, ap, ◌∙◌}
+use Rattle.std.proofs.Common.{◌≡◌, List, length, Some, None, refl, ap, ◌∙◌}
 use Rattle.fort_base.specs.declared.ids.NameId.{NameId}
 use Rattle.fort_typed_form.specs.declared.typed_form.TypedForm.{TypedForm}
 use Rattle.fort_known.specs.Known.{Facts}

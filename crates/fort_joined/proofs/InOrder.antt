@@ -1,8 +1,8 @@
 -- What comes of a grouping is what comes of it where its elements are taken off one after another, as they stand in their order.
-use Rattle.std.proofs.Common.{◌≡◌, ℕ, zero, suc, ◌-◌, Bool, true, false, cond, List, [], ◌∷◌, ◌++◌, length, drop, Option, Some, None, Ok, Err, refl, arith, ap, ◌∙◌, sym, subst, append_assoc, rules}
+use Rattle.std.proofs.Common.{◌≡◌, ℕ, zero, suc, ◌-◌, Bool, true, false, cond, List, [], ◌∷◌, ◌++◌, length, drop, Option, Ok, Err, refl, arith, ap, ◌∙◌, sym, append_assoc, rules}
 use Rattle.std.specs.Prelude.{slice_get}
 use Rattle.std.proofs.lemmas.List.{length-append}
-use Rattle.fort_base.specs.declared.refusal.CheckFault.TheVariants.{Refused, Memory}
+use Rattle.fort_base.specs.declared.refusal.CheckFault.TheVariants.{Refused}
 use Rattle.fort_base.specs.declared.refusal.Place.{Place}
 use Rattle.fort_base.specs.declared.refusal.Rule.{Rule}
 use Rattle.fort_base.specs.declared.rules.TheConstants.{MISMATCH}
@@ -14,13 +14,12 @@ use Rattle.fort_known.specs.Known.{Facts}
 use Rattle.fort_typing_rules.specs.declared.part.Part.{Part}
 use Rattle.fort_typing_rules.specs.declared.part.Meaning.{Meaning}
 use Rattle.fort_typing_rules.specs.declared.part.Meaning.TheVariants as a_meaning
-use Rattle.fort_typing_rules.specs.Types.{type_of, is_nothing}
 use Rattle.fort_typing_rules.specs.Elements.{elements}
 use Rattle.fort_judge.specs.declared.frame.Made.{Made}
 use Rattle.fort_judge.specs.Faults.{breaks}
 use Rattle.fort_judge.specs.Tests.{untyped, refused}
 use Rattle.fort_judge.specs.Juxtaposing.{grouping_of}
-use Rattle.fort_judge.specs.Joining.{Grown, Grows, as_grown, grows_by, grows_one, grows_two, grows_at, grows, applied, joined, grown_outcome, grouped_by, beside}
+use Rattle.fort_judge.specs.Joining.{Grown, Grows, as_grown, grows_one, grows_two, grows_at, grows, applied, joined, grown_outcome, grouped_by, beside}
 use Rattle.fort_elements.specs.Groupings.{IsOf, of_one, of_applied, of_joined}
 use Rattle.fort_elements.proofs.Ordered.{ordered}
 use Rattle.fort_joined.specs.Taking.{Taken, Takes, is_never, takes_one, takes_both, takes_then, takes_two, takes_at, taking}

@@ -1,5 +1,5 @@
 -- What comes of two elements, by what each has become.
-use Rattle.std.proofs.Common.{◌≡◌, List, length, Option, Some, None, refl, ap, ◌∙◌}
+use Rattle.std.proofs.Common.{◌≡◌, length, Some, None, refl, ap, ◌∙◌}
 use Rattle.fort_base.specs.declared.ids.NameId.{NameId}
 use Rattle.fort_base.specs.declared.refusal.Place.{Place}
 use Rattle.fort_base.specs.declared.ty.Ty.{out-Ty}
@@ -11,9 +11,8 @@ use Rattle.fort_typing_rules.specs.Elements.{arguments}
 use Rattle.fort_typing_rules.specs.declared.part.Part.{Part}
 use Rattle.fort_typing_rules.specs.declared.part.Meaning.{Meaning}
 use Rattle.fort_typing_rules.specs.declared.part.Meaning.TheVariants as a_meaning
-use Rattle.fort_judge.specs.declared.frame.Made.{Made}
 use Rattle.fort_judge.specs.declared.frame.Made.TheVariants as a_made
-use Rattle.fort_judge.specs.Joining.{call, applied, applied_to, value_applied, followed, followed_by, joined, joined_by, operation}
+use Rattle.fort_judge.specs.Joining.{call, applied, applied_to, value_applied, followed, followed_by, joined, joined_by}
 use Rattle.fort_joined.specs.Values.{arguments_by, arguments_in, name_in, value_in}
 
 pub is_value : (m : Meaning) (t : TypedForm) → value_in m ≡ Some t → m ≡ a_meaning.Value t

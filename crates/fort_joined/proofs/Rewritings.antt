@@ -11,7 +11,7 @@ use Rattle.fort_typing_rules.specs.Elements.{elements}
 use Rattle.fort_judge.specs.declared.frame.Made.{Made}
 use Rattle.fort_judge.specs.Faults.{breaks}
 use Rattle.fort_judge.specs.Juxtaposing.{next_rewriting}
-use Rattle.fort_judge.specs.Joining.{Around, stop, around, applied, followed, joined, replaced, replaced_in, rewritten_by, rewritten}
+use Rattle.fort_judge.specs.Joining.{Around, stop, around, replaced, replaced_in, rewritten_by, rewritten}
 use Rattle.fort_joined.specs.declared.way.Way.TheVariants as a_way
 use Rattle.fort_joined.specs.Ways.{put_together}
 

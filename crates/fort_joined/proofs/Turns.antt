@@ -5,7 +5,7 @@ use Rattle.fort_known.specs.Known.{Facts}
 use Rattle.fort_typing_rules.specs.declared.part.Part.{Part}
 use Rattle.fort_judge.specs.declared.frame.Outcome.{Outcome}
 use Rattle.fort_judge.specs.Tests.{untyped}
-use Rattle.fort_judge.specs.Joining.{on, stop, further, rewritten, run_at, run_within}
+use Rattle.fort_judge.specs.Joining.{on, stop, further, rewritten, run_within}
 use Rattle.fort_joined.specs.declared.runs.Turned.TheVariants as a_turn
 use Rattle.fort_joined.specs.Steps.{IsTurn, end_of}
 use Rattle.fort_joined.proofs.Steps.{ends_run, goes_on, run_next}

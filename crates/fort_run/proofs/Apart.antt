@@ -5,7 +5,7 @@ use Rattle.fort_base.specs.declared.refusal.Place.{Place}
 use Rattle.fort_token.specs.declared.token.Tokens.{Tokens}
 use Rattle.fort_lex.proofs.Uniqueness.{one_list_of_tokens, list_or_fault}
 use Rattle.fort_core.specs.declared.program.Program.{Program}
-use Rattle.fort_front.specs.Front.{IsAccepted, IsFormed, BreaksGrammar, Breaks}
+use Rattle.fort_front.specs.Front.{IsFormed, BreaksGrammar, Breaks}
 use Rattle.fort_front.proofs.Apart.{never, never_in_grammar}
 use Rattle.fort_greeting.specs.Greeting.{IsGreeting}
 use Rattle.fort_front.proofs.Greetings.{same_greeting}

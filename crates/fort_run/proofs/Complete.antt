@@ -1,10 +1,8 @@
 -- Where no count rose, the words and the file decide the status, want of memory aside.
 use Rattle.std.proofs.Common.{◌≡◌, ℕ, ◌<◌, ◌≤◌, List, [], length, ap, ◌∙◌, sym, subst, arith, inl, inr}
 use Rattle.std.specs.Prelude.{◌⊎◌}
-use Rattle.fort_port.specs.Outside.{Held}
 use Rattle.fort_base.specs.declared.refusal.Rule.{Rule}
 use Rattle.fort_base.specs.declared.refusal.Place.{Place}
-use Rattle.fort_token.specs.declared.token.Tokens.{Tokens}
 use Rattle.fort_lex.proofs.Uniqueness.{one_list_of_tokens}
 use Rattle.fort_core.specs.declared.program.Program.{Program}
 use Rattle.fort_front.proofs.Greetings.{one_text}

@@ -1,7 +1,5 @@
 use Rattle.std.proofs.Common.{◌≡◌, Err, rules}
 use Rattle.fort_hier.specs.Hierarchies.{declares}
-use Rattle.fort_token.specs.declared.token.Tokens.{Tokens}
-use Rattle.fort_syntax.specs.Answer as grammar
 use Rattle.fort_front.specs.Front.{IsFormed}
 use Rattle.fort_front.proofs.Refused.{refused, types_refused, fields_refused, overloads_refused, typing_refused, are_over}
 use Rattle.fort_front.proofs.Same.{exact}
