@@ -5,7 +5,8 @@ use std::test::Fail;
 
 const GREETED: &str = "fortress record 1\nfuel 4\ns - 0\ns - 0\ncompleted\noutput 2\na\n";
 
-const RAN_OUT: &str = "fortress record 1\nfuel 18446744073709551615\na 0.10\na -\ns 4294967295 7\nz\nz\n\
+const RAN_OUT: &str =
+    "fortress record 1\nfuel 18446744073709551615\na 0.10\na -\ns 4294967295 7\nz\nz\n\
     out\na 1\ns - 0\nz\noutput 0\n";
 
 const THREW: &str = "fortress record 1\nfuel 0\nuncaught 3 12\noutput 0\n";
@@ -15,7 +16,9 @@ fn a_journal_and_an_output_have_a_text(rt: HostRuntime) -> Result<(), Fail> {
     let alloc = rt.alloc();
     let mut picks = List::new(alloc);
     for _ in 0..2 {
-        picks.push(Pick::Step(Path(List::new(alloc)), Loc(0))).map_err(|_| "memory")?;
+        picks
+            .push(Pick::Step(Path(List::new(alloc)), Loc(0)))
+            .map_err(|_| "memory")?;
     }
     let journal = Journal {
         fuel: 4,
