@@ -234,7 +234,7 @@ fn a_component_is_checked_and_not_run(rt: HostRuntime) -> Result<(), Fail> {
     let check = ["check", "T.fss"];
     let greeting = GREETING.as_bytes();
     expect(&rt, &check, greeting, 100, 0, "accepted\n", "")?;
-    let other = b"component T\nrun(): () = do x: ZZ32 = 1 + 2 println(x) end\nend";
+    let other = b"component T\nrun(): () = do\n  x: ZZ32 = 1 + 2\n  println(x)\nend\nend";
     expect(&rt, &check, other, 100, 0, "accepted\n", "")?;
     for (file, note) in [
         (
