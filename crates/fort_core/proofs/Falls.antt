@@ -1,5 +1,7 @@
 -- What falls as picks are let go.
-use Rattle.std.proofs.Common.{◌≡◌, ℕ, ◌+◌, ◌*◌, ◌<◌, List, [], ◌∷◌, ◌++◌, MatchOption, Option, Some, None, refl, arith, sym, ap, ◌∙◌}
+use Rattle.std.proofs.Common.{◌≡◌, ℕ, ◌+◌, ◌*◌, ◌<◌, List, [], ◌∷◌, ◌++◌, MatchOption, IsPermutation, sum_by, Option, Some, None, refl, arith, sym, ap, ◌∙◌}
+use Rattle.std.proofs.lemmas.List.Sums.{sum_by-cons}
+use Rattle.std.proofs.lemmas.List.Sorted.{sum_by-IsPermutation}
 use Rattle.fort_core.specs.declared.pick.Pick.{Pick, Step, Attempt, fold-roll-Pick}
 use Rattle.fort_core.specs.declared.pick.Pick.TheOpen.{Pick-F}
 use Rattle.fort_core.specs.declared.pick.Pick.TheVariants.{rolls-Attempt, rolls-Step}
@@ -20,6 +22,15 @@ all_nodes-last (q ∷ ps) p =
     let f : all_nodes (q ∷ ps) ≡ nodes q + all_nodes ps = refl in
     omega (arith, all_nodes-last ps p)
 
+all_nodes-sum_by : (ps : List Pick) → all_nodes ps ≡ sum_by nodes ps
+all_nodes-sum_by [] = refl
+all_nodes-sum_by (p ∷ ps) =
+    let e : all_nodes (p ∷ ps) ≡ nodes p + all_nodes ps = refl in
+    omega (arith, all_nodes-sum_by ps, sum_by-cons nodes p ps)
+
+all_nodes-permutation : (ps qs : List Pick) → IsPermutation ps qs → all_nodes qs ≡ all_nodes ps
+all_nodes-permutation ps qs e = all_nodes-sum_by qs ∙ sum_by-IsPermutation nodes ps qs e ∙ sym (all_nodes-sum_by ps)
+
 squares : (a b : ℕ) → a ≡ b → a * a ≡ b * b
 squares a b e = ap (λ n. n * n) e
 
@@ -29,11 +40,14 @@ work-first self next inner rest e f =
     let h : nodes self ≡ 1 + (nodes next + all_nodes rest) = omega arith in
     omega (arith, squares _ _ h)
 
-pub work-swap : (self next held : Pick) (inner init left : List Pick) → nodes self ≡ 1 + all_nodes inner → nodes held ≡ 1 + all_nodes left → inner ≡ init ++ next ∷ [] → work next (init ++ held ∷ []) < work self left
-work-swap self next held inner init left e k f =
-    let g : all_nodes inner ≡ all_nodes init + nodes next = ap all_nodes f ∙ all_nodes-last init next in
-    let h : nodes self + all_nodes left ≡ nodes next + all_nodes (init ++ held ∷ []) = omega (arith, all_nodes-last init held) in
-    omega (arith, squares _ _ h)
+-- the picks that wait stand in `held`, wherever it is among the others
+pub work-swap : (self next held : Pick) (inner init held_last rest left : List Pick) → nodes self ≡ 1 + all_nodes inner → nodes held ≡ 1 + all_nodes left
+    → inner ≡ init ++ next ∷ [] → held_last ≡ init ++ held ∷ [] → IsPermutation held_last rest → work next rest < work self left
+work-swap self next held inner init held_last rest left e k f h p =
+    let a : all_nodes inner ≡ all_nodes init + nodes next = ap all_nodes f ∙ all_nodes-last init next in
+    let b : all_nodes rest ≡ all_nodes init + nodes held = all_nodes-permutation held_last rest p ∙ ap all_nodes h ∙ all_nodes-last init held in
+    let same : nodes self + all_nodes left ≡ nodes next + all_nodes rest = omega arith in
+    omega (arith, squares _ _ same)
 
 pub work-popped : (self : Pick) (inner rest left : List Pick) (o : Option Pick) → nodes self ≡ 1 + all_nodes inner → left ≡ []
     → MatchOption o ((inner ≡ []) × (rest ≡ [])) (λ last. inner ≡ rest ++ last ∷ []) → MatchOption o (rest ≡ []) (λ next. work next rest < work self left)

@@ -1,5 +1,5 @@
 //! The picks of a run, which may nest as deep as the fuel allows.
-ghost use Rattle.std.specs.Prelude.{◌≡◌, ◌<◌, [], MatchOption};
+ghost use Rattle.std.specs.Prelude.{◌≡◌, ◌<◌, [], length, IsPermutation, MatchOption};
 ghost use Rattle.fort_core.specs.Nodes.{work};
 ghost use Rattle.fort_core.specs.Opened.{opened_pick};
 
@@ -24,7 +24,8 @@ impl Drop for Pick {
     }
 }
 
-// A loop that takes no memory: the picks that wait stand inside the picks that go first.
+// A loop that takes no memory: the picks that wait stand inside the picks that go first. They go
+// last there, so that the time is linear in the number of picks.
 fn drop_all(first: List<Pick>) {
     let mut left = first;
     let mut hand = left.pop();
@@ -34,6 +35,16 @@ fn drop_all(first: List<Pick>) {
         left = rest;
     }
     left.destroy_empty();
+}
+
+fn last_to_front(picks: List<Pick>) -> List<Pick>
+    requires { 0 < length picks }
+    ensures { IsPermutation picks result }
+{
+    let mut items = picks.into_vec();
+    let last = items.len() - 1;
+    items.swap(0, last);
+    List::from_vec(items)
 }
 
 impl Pick {
@@ -47,7 +58,8 @@ impl Pick {
         }
     }
 
-    // Lets go of one pick, or puts the picks that wait in the place of the last one inside it, which goes first then.
+    // Lets go of one pick, or puts the picks that wait in the place of the last one inside it,
+    // which goes first then; the others inside it go before those that wait.
     fn shed(self, left: List<Pick>) -> (Option<Pick>, List<Pick>)
         ensures { MatchOption result.0 (result.1 ≡ []) (λ next. work next result.1 < work self left) }
     {
@@ -68,7 +80,8 @@ impl Pick {
                     (next, inner)
                 } else {
                     let next = inner.replace_last(Pick::Attempt(path, left));
-                    (Some(next), inner)
+                    let rest = last_to_front(inner);
+                    (Some(next), rest)
                 }
             }
         }

@@ -1,5 +1,5 @@
 -- The notes. It restates the chapter "Statuses and notes" of docs/LANGUAGE.md, and the names of the rules are those of its table of rules.
-use Rattle.std.specs.Prelude.{ℕ, ◌==◌, List, [], ◌∷◌, ◌++◌, codes, decimal, if◌then◌else◌}
+use Rattle.std.specs.Prelude.{ℕ, ◌==◌, List, [], ◌++◌, codes, decimal, if◌then◌else◌}
 use Rattle.fort_base.specs.declared.refusal.Rule.{Rule}
 use Rattle.fort_base.specs.declared.refusal.Place.{Place}
 use Rattle.fort_base.specs.Rules.{rule_name}
@@ -39,19 +39,11 @@ fixed status =
 
 -- ---- a refusal
 
--- the number of the rule for what isn't built yet, which is none of the language's
-abbrev pub not_built : ℕ
-not_built = 901
-
--- the name of a rule, that for what isn't built yet among them
-abbrev pub name_of : Rule → List ℕ
-name_of rule = if rule.0 == not_built then codes "NotBuilt" else rule_name rule
-
 -- FILE:LINE:COLUMN: rule NUMBER NAME
 abbrev pub refusal : List ℕ → Rule → Place → List ℕ
 refusal file rule place =
     file ++ codes ":" ++ decimal place.line ++ codes ":" ++ decimal place.column ++ codes ": rule " ++ decimal rule.0
-    ++ codes " " ++ name_of rule ++ codes "\n"
+    ++ codes " " ++ rule_name rule ++ codes "\n"
 
 -- ---- an exception that nothing caught, by its text, which is its type's name
 

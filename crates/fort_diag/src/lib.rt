@@ -3,7 +3,7 @@
 
 mod note;
 
-pub use note::{NOT_BUILT, fixed, refused, uncaught};
+pub use note::{fixed, refused, uncaught};
 
 #[cfg(test)]
 mod tests;

@@ -7,9 +7,6 @@ use fort_value::text;
 use itoa::Buffer;
 use std::alloc::Global;
 
-/// The rule for what isn't built yet, which is none of the language's: 901.
-pub const NOT_BUILT: Rule = Rule(901);
-
 /// The note of a refusal: the file's name as it was given, the place, and the rule with its name. It ends with a line feed. The
 /// chapter "Statuses and notes".
 ///
@@ -27,7 +24,7 @@ pub fn refused(file: Bytes, rule: Rule, place: Place) -> Result<Bytes, Memory>
     note.push_slice(b": rule ")?;
     push_decimal(&mut note, u32::from(rule.0))?;
     note.push_slice(b" ")?;
-    note.push_slice(name_of(rule))?;
+    note.push_slice(rule.name())?;
     note.push_slice(b"\n")?;
     Ok(note)
 }
@@ -71,15 +68,4 @@ fn push_decimal(note: &mut Bytes, number: u32) -> Result<(), Memory>
 {
     let mut buffer = Buffer::new();
     note.push_slice(buffer.format(number).as_bytes())
-}
-
-/// The name of a rule, the one for what isn't built yet among them.
-fn name_of(rule: Rule) -> &'static [u8]
-    ensures { result.now ≡ notes.name_of rule }
-{
-    if rule == NOT_BUILT {
-        b"NotBuilt"
-    } else {
-        rule.name()
-    }
 }

@@ -1,5 +1,5 @@
-use crate::{NOT_BUILT, fixed, refused};
-use fort_base::rules::MIXED_SPACING;
+use crate::{fixed, refused};
+use fort_base::rules::{MIXED_SPACING, UNKNOWN_NAME};
 use fort_base::{List, Place};
 use std::test::Fail;
 
@@ -12,7 +12,7 @@ fn a_refusal_names_the_file_the_place_and_the_rule(rt: HostRuntime) -> Result<()
     };
     for (rule, wanted) in [
         (MIXED_SPACING, "a:b:12:4000000000: rule 301 MixedSpacing\n"),
-        (NOT_BUILT, "a:b:12:4000000000: rule 901 NotBuilt\n"),
+        (UNKNOWN_NAME, "a:b:12:4000000000: rule 601 UnknownName\n"),
     ] {
         let file = List::from_slice(alloc, b"a:b").map_err(|_| "memory")?;
         let note = refused(file, rule, place).map_err(|_| "memory")?;

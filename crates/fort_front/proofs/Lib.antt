@@ -3,4 +3,4 @@ pub mod Same
 pub mod Apart
 pub mod Refused
 pub mod Called
-pub mod Greetings
+pub mod Programs

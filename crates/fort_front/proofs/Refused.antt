@@ -20,7 +20,7 @@ use Rattle.fort_over.specs.Answers as overloads
 use Rattle.fort_syntax.specs.Answer as grammar
 use Rattle.fort_typing.specs.Typing as typing
 use Rattle.fort_front.proofs.Same.{exact}
-use Rattle.fort_front.specs.Front.{Answers, Checks, IsFormed, in_grouping, in_hierarchy, in_fields, in_overloads, in_typing, known, forms}
+use Rattle.fort_front.specs.Front.{Checks, IsFormed, in_grouping, in_hierarchy, in_fields, in_overloads, in_typing, known, forms}
 
 pub refused : (tokens : Tokens) (c : Component) (fault : CheckFault) → grammar.IsComponent tokens c → AnswersAll c (Err fault) → Checks tokens (Err fault)
 refused tokens c (a_fault.Refused rule place) is first = in_grouping c is first
@@ -45,11 +45,6 @@ pub typing_refused : (tokens : Tokens) (f : IsFormed tokens) (fault : CheckFault
     → Checks tokens (Err fault)
 typing_refused tokens f (a_fault.Refused rule place) is = in_typing f ((exact tokens f).reported (record { rule = rule; place = place }) is)
 typing_refused tokens f a_fault.Memory is = tt
-
--- what is refused has the same answer where the greeting's text is asked
-pub refused_too : (tokens : Tokens) (fault : CheckFault) → Checks tokens (Err fault) → Answers tokens (Err fault)
-refused_too tokens (a_fault.Refused rule place) breaks = breaks
-refused_too tokens a_fault.Memory breaks = tt
 
 -- what `overloads` asks: an accepted component's members are over its declared types
 pub are_over : (c : Component) (types : Hierarchy) (members : Members) → IsHierarchy c (type_names c) types → AreMembers c members → AreOver (declares c) types members

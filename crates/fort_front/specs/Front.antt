@@ -1,6 +1,6 @@
--- The chapters "Grammar", "Operators", "Types", "Members", "Overload rules" and "Typing", their refusals one after another, then docs/TRANSLATION.md and "What is
--- built": what `check_grammar`, `check` and `check_tokens` answer.
-use Rattle.std.specs.Prelude.{◌≡◌, ℕ, List, Option, MatchOption, Result, Ok, Err}
+-- The chapters "Grammar", "Operators", "Types", "Members", "Overload rules" and "Typing", their refusals one after another, then docs/TRANSLATION.md: what
+-- `check_grammar` and `check` answer.
+use Rattle.std.specs.Prelude.{◌≡◌, List, Result, Ok, Err}
 use Rattle.fort_base.specs.declared.refusal.Place.{Place}
 use Rattle.fort_base.specs.declared.refusal.Rule.{Rule}
 use Rattle.fort_base.specs.declared.refusal.CheckFault.{CheckFault}
@@ -28,7 +28,6 @@ use Rattle.fort_typing_rules.specs.Components.{HasTypes}
 use Rattle.fort_typing_rules.specs.Components as typing
 use Rattle.fort_translation.specs.Programs.{IsProgramOf}
 use Rattle.fort_syntax.specs.Answer as grammar
-use Rattle.fort_greeting.specs.Greeting.{IsGreeting}
 
 -- The tokens are those of one component, which passes no limit.
 pub record IsGrammatical (tokens : Tokens) : Type 0 where
@@ -99,18 +98,6 @@ Checks tokens (Err Memory) = Unit {0}
 abbrev pub ChecksTree : Component → Result Program CheckFault → Type 0
 ChecksTree c found = (tokens : Tokens) → grammar.IsComponent tokens c → Checks tokens found
 
--- The component is accepted, and it is a greeting that prints this text; or it is accepted, and it is no greeting.
-pub record IsBuilt (tokens : Tokens) (found : Option (List ℕ)) : Type 0 where
-  pub program : Program
-  pub accepted : IsAccepted tokens program
-  pub prints : MatchOption found ((text : List ℕ) → IsGreeting tokens accepted.formed.component text → ⊥) (λ text. IsGreeting tokens accepted.formed.component text)
-
--- The component is accepted, and this is the text that it prints, if it is a greeting; or this is the rule that is reported.
-abbrev pub Answers : Tokens → Result (Option (List ℕ)) CheckFault → Type 0
-Answers tokens (Ok found) = IsBuilt tokens found
-Answers tokens (Err (Refused rule at)) = Breaks tokens rule at
-Answers tokens (Err Memory) = Unit {0}
-
 -- No token list keeps the rules of the grammar and breaks one of them.
 abbrev pub NeverBothInGrammar : Type 0
 NeverBothInGrammar = (tokens : Tokens) (rule : Rule) (at : Place) → IsGrammatical tokens → BreaksGrammar tokens rule at → ⊥
@@ -122,7 +109,3 @@ NeverBoth = (tokens : Tokens) (program : Program) (rule : Rule) (at : Place) →
 -- Tokens that are accepted have one program.
 abbrev pub OneProgram : Type 0
 OneProgram = (tokens : Tokens) (p q : Program) → IsAccepted tokens p → IsAccepted tokens q → p ≡ q
-
--- Tokens that keep the rules before typing print one text at most.
-abbrev pub OneGreeting : Type 0
-OneGreeting = (tokens : Tokens) (f g : IsFormed tokens) (a b : List ℕ) → IsGreeting tokens f.component a → IsGreeting tokens g.component b → a ≡ b

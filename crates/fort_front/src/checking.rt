@@ -1,12 +1,9 @@
-ghost use Rattle.std.specs.Prelude.{◌≡◌, IfOk};
-ghost use Rattle.std.specs.Option.{option_copied};
-ghost use Rattle.fort_front.specs.Front.{Answers, Checks, ChecksTree, GrammarAnswers};
+ghost use Rattle.fort_front.specs.Front.{Checks, ChecksTree, GrammarAnswers};
 
-use fort_base::{Bytes, CheckFault, List, Memory};
+use fort_base::CheckFault;
 use fort_core::Program;
 use fort_elab::elaborate;
 use fort_forms::forms;
-use fort_greeting::greeting;
 use fort_group::groups;
 use fort_hier::hierarchy;
 use fort_member::members;
@@ -64,28 +61,4 @@ pub fn check_tree(alloc: Global, component: &Component) -> Result<Program, Check
     let typed = typed(alloc, component.names.as_slice(), &forms, &types, &members)?;
     let program = elaborate(alloc, types, &members, component.texts.as_slice(), &typed)?;
     Ok(program)
-}
-
-/// Asks all rules of a file's tokens, as `check` does, and what the component prints.
-///
-/// It answers `Ok` where they are accepted: with the text that the component prints, in UTF-8,
-/// where it is a greeting, and with `None` where it is none. Its errors are those of `check`. The
-/// chapter is "What is built".
-pub fn check_tokens(alloc: Global, tokens: &Tokens) -> Result<Option<Bytes>, CheckFault>
-    ensures { Answers tokens.now result }
-{
-    let parsed = component(alloc, tokens)?;
-    let component = &parsed.component;
-    check_tree(alloc, component)?;
-    Ok(copy(alloc, greeting(tokens, component))?)
-}
-
-/// A text of its own, where there is one.
-fn copy(alloc: Global, text: Option<&Bytes>) -> Result<Option<Bytes>, Memory>
-    ensures { IfOk result (λ copy. copy ≡ option_copied text.entry) }
-{
-    match text {
-        Some(text) => Ok(Some(List::from_slice(alloc, text.as_slice())?)),
-        None => Ok(None),
-    }
 }

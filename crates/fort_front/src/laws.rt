@@ -1,5 +1,8 @@
-ghost use Rattle.fort_front.specs.Front.{NeverBoth, NeverBothInGrammar, OneGreeting, OneProgram};
+ghost use Rattle.fort_front.specs.Front.{NeverBoth, NeverBothInGrammar, OneProgram};
 ghost use Rattle.fort_front.specs.Calls.{ExactlyOne, NeverAbstract};
+ghost use Rattle.fort_front.specs.Written.{AcceptedIsWritten};
+
+use fort_matched::component_is_written;
 
 /// A law of token lists: none is accepted and breaks a rule too.
 pub fn never_both()
@@ -16,11 +19,14 @@ pub fn one_program()
     ensures { OneProgram }
 {}
 
-/// A law of token lists that keep the rules before typing: such a one is a greeting of one text at
-/// most. The chapter is "What is built".
-pub fn one_greeting()
-    ensures { OneGreeting }
-{}
+/// A law of token lists whose tokens stand at places of their own, as those of a file do: the
+/// program of such a one that is accepted is as it is written. The chapter is "Programs as
+/// written" of docs/MACHINE.md.
+pub fn accepted_is_written()
+    ensures { AcceptedIsWritten }
+{
+    component_is_written();
+}
 
 /// A law of components that keep the rules: of each overload set exactly one declaration is most
 /// specific for all types of values to which one of its declarations is applicable, and it isn't

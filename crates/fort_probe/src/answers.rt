@@ -3,7 +3,7 @@ use crate::juxtaposition::{loose_answer, tight_answer};
 use crate::scopes::scope_answer;
 use crate::sources::source_of;
 use fort_base::CheckFault;
-use fort_front::check_tokens;
+use fort_front::check;
 use fort_lex::tokens;
 use std::alloc::{AllocError, Global};
 
@@ -49,7 +49,7 @@ fn checked(alloc: Global, source: &[u8]) -> Result<(), CheckFault> {
         return Ok(());
     }
     let found = tokens(alloc, source)?;
-    check_tokens(alloc, &found)?;
+    check(alloc, &found)?;
     Ok(())
 }
 

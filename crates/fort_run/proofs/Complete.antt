@@ -1,27 +1,25 @@
 -- Where no count rose, the words and the file decide the status, want of memory aside.
-use Rattle.std.proofs.Common.{◌≡◌, ℕ, ◌<◌, ◌≤◌, List, [], length, ap, ◌∙◌, sym, subst, arith, inl, inr}
+use Rattle.std.proofs.Common.{◌≡◌, ℕ, ◌<◌, ◌≤◌, List, length, ap, ◌∙◌, sym, subst, arith, inl, inr}
 use Rattle.std.specs.Prelude.{◌⊎◌}
 use Rattle.fort_base.specs.declared.refusal.Rule.{Rule}
 use Rattle.fort_base.specs.declared.refusal.Place.{Place}
-use Rattle.fort_lex.proofs.Uniqueness.{one_list_of_tokens}
 use Rattle.fort_core.specs.declared.program.Program.{Program}
-use Rattle.fort_front.proofs.Greetings.{one_text}
-use Rattle.fort_greet.specs.Program.{IsProgram}
-use Rattle.fort_greet.specs.Runs.{cost, EndsSo, completes, runs_out}
-use Rattle.fort_greet.proofs.Ended.{greetings_end_so}
+use Rattle.fort_core.specs.declared.journal.Journal.{Journal}
+use Rattle.fort_machine.specs.Journals.{Records}
 use Rattle.fort_cmd.specs.declared.command.Command.{Command}
 use Rattle.fort_cmd.specs.declared.command.Command.TheVariants.{Check, Show, Run, Bench}
 use Rattle.fort_run.specs.declared.top.Finish.{Finish}
 use Rattle.fort_cmd.specs.Words.{IsCommand, IsNoCommand}
-use Rattle.fort_run.specs.Reply.{Reply, IsFile, IsText, IsAcceptedAs, BreaksOne, Prints, IsProgramOf, IsRefused, TellsEnding, TellsRun, RunSays, Runs, Refuses, CheckSays, Accepts, AcceptsNone, accepted, bench_name, line, IsShownAs, IsNoComponent, ShowSays, Shows, ShowsNone, CommandSays, Judged, NoCommand, Unread, TooLarge, file_limit}
+use Rattle.fort_run.specs.Reply.{Reply, IsFile, IsText, IsAcceptedAs, BreaksOne, TellsEnding, TellsRun, RunSays, Runs, Refuses, CheckSays, Accepts, AcceptsNone, accepted, bench_name, IsShownAs, IsNoComponent, ShowSays, Shows, ShowsNone, CommandSays, Judged, NoCommand, Unread, TooLarge, file_limit}
 use Rattle.fort_run.specs.Delivery.{Takes, Whole, OutFailed, NotesFailed}
-use Rattle.fort_run.specs.Outcome.{Outside, MeansToSay, Ends, Said, WantsMemory, IsCalm, IsAbout, Asks, RunsWith, Answers}
-use Rattle.fort_run.proofs.Apart.{IsFormedGreeting, accepted_apart, prints_apart, shown_apart}
+use Rattle.fort_run.specs.Outcome.{Outside, MeansToSay, Ends, Said, WantsMemory, IsCalm, IsAbout, Asks, RunsWith, IsWhole, Answers}
+use Rattle.fort_run.proofs.Apart.{Fronts, accepted_apart, one_program_of, shown_apart}
 use Rattle.fort_cmd.proofs.Commands.{one_command}
 
 -- What was meant was said, or memory was wanting.
-settled : (o : Outside) (finish : Finish) → IsCalm o → Ends o finish → ((reply : Reply) × MeansToSay o reply × Takes o.out reply.out × (finish.status ≡ reply.status)) ⊎ (finish.status ≡ 7)
-settled o finish calm (Said reply means (Whole out notes e) j) = inl (reply, means, out, e)
+settled : (o : Outside) (finish : Finish) → IsCalm o → Ends o finish
+    → ((reply : Reply) × MeansToSay o reply × Takes o.out reply.out × (finish.status ≡ reply.status) × Takes o.notes reply.note × (finish.journal ≡ reply.journal)) ⊎ (finish.status ≡ 7)
+settled o finish calm (Said reply means (Whole out notes e) j) = inl (reply, means, out, e, notes, j)
 settled o finish calm (Said reply means (OutFailed out notes e) j) = absurd (calm.out out.rose)
 settled o finish calm (Said reply means (NotesFailed out notes e) j) = absurd (calm.notes notes.rose)
 settled o finish calm (WantsMemory notes e j) = inr e
@@ -48,60 +46,41 @@ judged o reply command file c asks within (Unread command' is rose e) = absurd (
 judged o reply command file c asks within (TooLarge command' file' is read long calm e) =
     absurd (let same : length file' ≡ length file = ap length (same_file o command command' file file' asks is read) in omega arith)
 
--- A file prints one text.
-same_text : (file a b : List ℕ) → Prints file a → Prints file b → b ≡ a
-same_text file a b p q =
-    let r : IsFormedGreeting b p.is.tokens =
-    subst (IsFormedGreeting b) (one_list_of_tokens file q.is.tokens p.is.tokens q.is.has p.is.has) (q.is.accepted.formed, q.greets) in
-    one_text p.is.tokens r.0 p.is.accepted.formed b a r.1 p.greets
+-- What is said of an accepted file tells a run of its program.
+run_of : Fronts → (name file : List ℕ) (fuel : ℕ) (p : Program) (reply : Reply) → IsAcceptedAs file p → RunSays name file fuel reply → TellsRun p fuel reply
+run_of laws name file fuel p reply is (Runs q accepted says) = subst (λ x. TellsRun x fuel reply) (one_program_of laws file q p accepted is) says
+run_of laws name file fuel p reply is (Refuses rule place broken e) = absurd (accepted_apart laws file p rule place is broken)
 
--- How the run of a greeting ends.
-ends_so : (file text : List ℕ) (fuel : ℕ) (reply : Reply) (p : Program) → Prints file text → IsProgramOf file p → TellsRun p fuel reply → EndsSo text fuel reply.out reply.journal.ending
-ends_so file text fuel reply p prints is tells =
-    let h = subst (λ t. IsProgram t p) (same_text file text is.0 prints is.1) is.2 in
-    subst (λ n. EndsSo text n reply.out reply.journal.ending) tells.is_fuel
-    (subst (λ x. EndsSo text reply.journal.fuel x reply.journal.ending) (sym tells.is_output) (greetings_end_so text p reply.journal tells.term tells.effect h tells.records))
+refused : Fronts → (name file : List ℕ) (fuel : ℕ) (rule : Rule) (place : Place) (reply : Reply) → BreaksOne file rule place → RunSays name file fuel reply → reply.status ≡ 1
+refused laws name file fuel rule place reply b (Runs p is says) = absurd (accepted_apart laws file p rule place is b)
+refused laws name file fuel rule place reply b (Refuses rule' place' broken e) = ap (λ (x : Reply). x.status) e
 
-run_of : (name file text : List ℕ) (fuel : ℕ) (reply : Reply) → Prints file text → RunSays name file fuel reply → (p : Program) × (IsProgramOf file p × TellsRun p fuel reply)
-run_of name file text fuel reply prints (Runs p is tells) = (p, (is, tells))
-run_of name file text fuel reply prints (Refuses rule place refused e) = absurd (prints_apart file text rule place prints refused)
+-- A run that was told is whole.
+whole : (o : Outside) (finish : Finish) (p : Program) (fuel : ℕ) (reply : Reply) → TellsRun p fuel reply → Takes o.out reply.out → Takes o.notes reply.note
+    → finish.status ≡ reply.status → finish.journal ≡ reply.journal → IsWhole o finish p fuel
+whole o finish p fuel reply tells out note status journal = record {
+  term = tells.term;
+  effect = tells.effect;
+  records = subst (λ j. Records p j tells.term tells.effect) (sym journal) tells.records;
+  is_fuel = ap (λ (j : Journal). j.fuel) journal ∙ tells.is_fuel;
+  is_written = subst (λ x. Takes o.out x) tells.is_output out;
+  note = reply.note;
+  is_noted = note;
+  tells = subst (λ j. TellsEnding p j.ending finish.status reply.note) (sym journal) (subst (λ n. TellsEnding p reply.journal.ending n reply.note) (sym status) tells.tells);
+}
 
-completed : (name file text : List ℕ) (fuel : ℕ) (reply : Reply) → Prints file text → cost text ≤ fuel → RunSays name file fuel reply → (reply.status ≡ 0) × (reply.out ≡ line text)
-completed name file text fuel reply prints enough says = go (ends_so file text fuel reply r.0 prints r.1.0 r.1.1)
-  where
-    r : (p : Program) × (IsProgramOf file p × TellsRun p fuel reply)
-    r = run_of name file text fuel reply prints says
+shown : Fronts → (name file text : List ℕ) (reply : Reply) → IsShownAs file text → ShowSays name file reply → reply.status ≡ 0
+shown laws name file text reply s (Shows text' shown' e) = ap (λ (x : Reply). x.status) e
+shown laws name file text reply s (ShowsNone rule place none e) = absurd (shown_apart laws file text rule place s none)
 
-    go : EndsSo text fuel reply.out reply.journal.ending → (reply.status ≡ 0) × (reply.out ≡ line text)
-    go (completes within out e) = ((subst (λ x. TellsEnding r.0 x reply) e r.1.1.tells).0, out)
-    go (runs_out pick less out e) = absurd (omega (arith, enough, less))
-
-ran_out : (name file text : List ℕ) (fuel : ℕ) (reply : Reply) → Prints file text → fuel < cost text → RunSays name file fuel reply → (reply.status ≡ 6) × (reply.out ≡ [])
-ran_out name file text fuel reply prints short says = go (ends_so file text fuel reply r.0 prints r.1.0 r.1.1)
-  where
-    r : (p : Program) × (IsProgramOf file p × TellsRun p fuel reply)
-    r = run_of name file text fuel reply prints says
-
-    go : EndsSo text fuel reply.out reply.journal.ending → (reply.status ≡ 6) × (reply.out ≡ [])
-    go (completes within out e) = absurd (omega (arith, short, within))
-    go (runs_out pick less out e) = ((subst (λ x. TellsEnding r.0 x reply) e r.1.1.tells).0, out)
-
-refused : (name file : List ℕ) (fuel : ℕ) (rule : Rule) (place : Place) (reply : Reply) → IsRefused file rule place → RunSays name file fuel reply → reply.status ≡ 1
-refused name file fuel rule place reply r (Runs p is tells) = absurd (prints_apart file is.0 rule place is.1 r)
-refused name file fuel rule place reply r (Refuses rule' place' refused' e) = ap (λ (x : Reply). x.status) e
-
-shown : (name file text : List ℕ) (reply : Reply) → IsShownAs file text → ShowSays name file reply → reply.status ≡ 0
-shown name file text reply s (Shows text' shown' e) = ap (λ (x : Reply). x.status) e
-shown name file text reply s (ShowsNone rule place none e) = absurd (shown_apart file text rule place s none)
-
-accepts : (name file : List ℕ) (program : Program) (reply : Reply) → IsAcceptedAs file program → CheckSays name file reply
+accepts : Fronts → (name file : List ℕ) (program : Program) (reply : Reply) → IsAcceptedAs file program → CheckSays name file reply
     → (reply.status ≡ 0) × (reply.out ≡ accepted)
-accepts name file program reply is (Accepts p a e) = (ap (λ (x : Reply). x.status) e, ap (λ (x : Reply). x.out) e)
-accepts name file program reply is (AcceptsNone rule place b e) = absurd (accepted_apart file program rule place is b)
+accepts laws name file program reply is (Accepts p a e) = (ap (λ (x : Reply). x.status) e, ap (λ (x : Reply). x.out) e)
+accepts laws name file program reply is (AcceptsNone rule place b e) = absurd (accepted_apart laws file program rule place is b)
 
-accepts_none : (name file : List ℕ) (rule : Rule) (place : Place) (reply : Reply) → BreaksOne file rule place → CheckSays name file reply → reply.status ≡ 1
-accepts_none name file rule place reply b (Accepts program a e) = absurd (accepted_apart file program rule place a b)
-accepts_none name file rule place reply b (AcceptsNone rule' place' b' e) = ap (λ (x : Reply). x.status) e
+accepts_none : Fronts → (name file : List ℕ) (rule : Rule) (place : Place) (reply : Reply) → BreaksOne file rule place → CheckSays name file reply → reply.status ≡ 1
+accepts_none laws name file rule place reply b (Accepts program a e) = absurd (accepted_apart laws file program rule place a b)
+accepts_none laws name file rule place reply b (AcceptsNone rule' place' b' e) = ap (λ (x : Reply). x.status) e
 
 -- What a command that runs its text says of it.
 runs : (command : Command) (file : List ℕ) (fuel : ℕ) (reply : Reply) → RunsWith command fuel → CommandSays command file reply → (name : List ℕ) × RunSays name file fuel reply
@@ -110,9 +89,9 @@ runs (Show name) file fuel reply w says = absurd w
 runs (Run name workers given) file fuel reply w says = (name, subst (λ n. RunSays name file n reply) (sym w) says)
 runs (Bench accounts) file fuel reply w says = (bench_name, subst (λ n. RunSays bench_name file n reply) (sym w) says)
 
-no_component : (name file : List ℕ) (rule : Rule) (place : Place) (reply : Reply) → IsNoComponent file rule place → ShowSays name file reply → reply.status ≡ 1
-no_component name file rule place reply n (Shows text s e) = absurd (shown_apart file text rule place s n)
-no_component name file rule place reply n (ShowsNone rule' place' none e) = ap (λ (x : Reply). x.status) e
+no_component : Fronts → (name file : List ℕ) (rule : Rule) (place : Place) (reply : Reply) → IsNoComponent file rule place → ShowSays name file reply → reply.status ≡ 1
+no_component laws name file rule place reply n (Shows text s e) = absurd (shown_apart laws file text rule place s n)
+no_component laws name file rule place reply n (ShowsNone rule' place' none e) = ap (λ (x : Reply). x.status) e
 
 no_command : (o : Outside) (reply : Reply) → IsNoCommand o.words → MeansToSay o reply → reply.status ≡ 2
 no_command o reply none (Judged command file is read within calm says) = absurd (none command is)
@@ -137,26 +116,25 @@ either_with : (o : Outside) (finish : Finish) (n : ℕ) (out : List ℕ) → IsC
 either_with o finish n out c ends k =
     elim (settled o finish c ends) [ inl w ↦ inl (w.3 ∙ (k w.0 w.1).0, subst (λ x. Takes o.out x) (k w.0 w.1).1 w.2) | inr e ↦ inr e ]
 
-pub answers : (o : Outside) (finish : Finish) → Ends o finish → Answers o finish
-answers o finish ends = record {
+pub answers : Fronts → (o : Outside) (finish : Finish) → Ends o finish → Answers o finish
+answers laws o finish ends = record {
   ends = ends;
   complete = λ c. record {
     no_command = λ none. either o finish 2 c ends (λ r m. no_command o r none m);
-    completes = λ command file text fuel asks goes within prints enough.
-        either_with o finish 0 (line text) c ends (λ r m.
-        let says = runs command file fuel r goes (judged o r command file c asks within m) in completed says.0 file text fuel r prints enough says.1);
-    runs_out = λ command file text fuel asks goes within prints short.
-        either_with o finish 6 [] c ends (λ r m.
-        let says = runs command file fuel r goes (judged o r command file c asks within m) in ran_out says.0 file text fuel r prints short says.1);
+    runs = λ command file fuel program asks goes within is. elim (settled o finish c ends) [
+      | inl w ↦ let says = runs command file fuel w.0 goes (judged o w.0 command file c asks within w.1) in
+          inl (whole o finish program fuel w.0 (run_of laws says.0 file fuel program w.0 is says.1) w.2 w.4 w.3 w.5)
+      | inr e ↦ inr e
+    ];
     refused = λ command file fuel rule place asks goes within none.
         either o finish 1 c ends (λ r m.
-        let says = runs command file fuel r goes (judged o r command file c asks within m) in refused says.0 file fuel rule place r none says.1);
+        let says = runs command file fuel r goes (judged o r command file c asks within m) in refused laws says.0 file fuel rule place r none says.1);
     accepts = λ name file program asks within is.
-        either_with o finish 0 accepted c ends (λ r m. accepts name file program r is (judged o r (Check name) file c asks within m));
+        either_with o finish 0 accepted c ends (λ r m. accepts laws name file program r is (judged o r (Check name) file c asks within m));
     accepts_none = λ name file rule place asks within none.
-        either o finish 1 c ends (λ r m. accepts_none name file rule place r none (judged o r (Check name) file c asks within m));
-    shown = λ name file text asks within is. either o finish 0 c ends (λ r m. shown name file text r is (judged o r (Show name) file c asks within m));
-    no_component = λ name file rule place asks within none. either o finish 1 c ends (λ r m. no_component name file rule place r none (judged o r (Show name) file c asks within m));
+        either o finish 1 c ends (λ r m. accepts_none laws name file rule place r none (judged o r (Check name) file c asks within m));
+    shown = λ name file text asks within is. either o finish 0 c ends (λ r m. shown laws name file text r is (judged o r (Show name) file c asks within m));
+    no_component = λ name file rule place asks within none. either o finish 1 c ends (λ r m. no_component laws name file rule place r none (judged o r (Show name) file c asks within m));
     too_large = λ command file asks long. either o finish 8 c ends (λ r m. too_large o r command file c asks long m);
   };
 }

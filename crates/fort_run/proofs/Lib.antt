@@ -4,4 +4,4 @@ pub mod Apart
 pub mod Complete
 pub mod Meaning
 pub mod Refused
-pub mod Greeted
+pub mod Told

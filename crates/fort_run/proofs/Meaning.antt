@@ -1,5 +1,5 @@
 -- What the code finds out is what a call means to say.
-use Rattle.std.proofs.Common.{◌≡◌, ℕ, ◌≤◌, List, length, Result, Ok, Err, IfOk, subst}
+use Rattle.std.proofs.Common.{◌≡◌, ℕ, ◌≤◌, List, length, Result, Ok, Err, IfOk, subst, inr}
 use Rattle.fort_base.specs.declared.refusal.Memory.{Memory}
 use Rattle.fort_port.specs.Outside.{Holding}
 use Rattle.fort_cmd.specs.declared.command.Command.{Command}
@@ -12,6 +12,7 @@ use Rattle.fort_run.specs.Delivery.{Delivers, TakesOrFails}
 use Rattle.fort_run.specs.Outcome.{Outside, MeansToSay, Said, WantsMemory, Answers}
 use Rattle.fort_run.specs.declared.answer.Answer.{Answer}
 use Rattle.fort_run.specs.declared.top.Finish.{Finish}
+use Rattle.fort_run.proofs.Apart.{Fronts}
 use Rattle.fort_run.proofs.Complete.{answers}
 
 -- What a command says of a text that was read whole is what the call means to say.
@@ -22,18 +23,30 @@ read_means holding before after command text (Ok a) read within calm says = λ w
 read_means holding before after command text (Err m) read within calm says = tt
 
 -- What was meant was delivered.
-pub delivered : (o : Outside) (answer : Answer) (finish : Finish) (meant : ℕ) (out note : List ℕ) → MeansToSay o (said answer)
+pub delivered : Fronts → (o : Outside) (answer : Answer) (finish : Finish) (meant : ℕ) (out note : List ℕ) → MeansToSay o (said answer)
     → meant ≡ (said answer).status → out ≡ (said answer).out → note ≡ (said answer).note
     → Delivers meant out note o.out o.notes finish.status → finish.journal ≡ (said answer).journal → Answers o finish
-delivered o answer finish meant out note means e f g d j =
-    answers o finish (Said (said answer) means
+delivered laws o answer finish meant out note means e f g d j =
+    answers laws o finish (Said (said answer) means
     (subst (λ x. Delivers (said answer).status (said answer).out x o.out o.notes finish.status) g
     (subst (λ x. Delivers (said answer).status x note o.out o.notes finish.status) f
     (subst (λ x. Delivers x out note o.out o.notes finish.status) e d))) j)
 
 -- Memory was wanting.
 pub memory_wanted : (o : Outside) (finish : Finish) → TakesOrFails o.notes want_of_memory → finish.status ≡ 7 → finish.journal ≡ no_run → Answers o finish
-memory_wanted o finish notes s j = answers o finish (WantsMemory notes s j)
+memory_wanted o finish notes s j = record {
+  ends = WantsMemory notes s j;
+  complete = λ c. record {
+    no_command = λ none. inr s;
+    runs = λ command file fuel program asks goes within is. inr s;
+    refused = λ command file fuel rule place asks goes within broken. inr s;
+    accepts = λ name file program asks within is. inr s;
+    accepts_none = λ name file rule place asks within broken. inr s;
+    shown = λ name file text asks within is. inr s;
+    no_component = λ name file rule place asks within none. inr s;
+    too_large = λ command file asks long. inr s;
+  };
+}
 
 -- A command of words has a number of accounts that words may give.
 pub bounded : (words : List (List ℕ)) (command : Command) → IsCommand words command → IsBounded command

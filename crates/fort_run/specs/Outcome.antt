@@ -1,5 +1,5 @@
 -- How a call ends: its status, and what stands on both outputs. It restates the chapter "Statuses and notes" of docs/LANGUAGE.md.
-use Rattle.std.specs.Prelude.{◌≡◌, ℕ, ◌*◌, ◌<◌, ◌≤◌, List, [], ◌⊎◌, length}
+use Rattle.std.specs.Prelude.{◌≡◌, ℕ, ◌*◌, ◌<◌, ◌≤◌, List, ◌⊎◌, length}
 use Rattle.fort_base.specs.declared.refusal.Rule.{Rule}
 use Rattle.fort_base.specs.declared.refusal.Place.{Place}
 use Rattle.fort_core.specs.declared.program.Program.{Program}
@@ -8,9 +8,11 @@ use Rattle.fort_cmd.specs.declared.command.Command.{Command}
 use Rattle.fort_cmd.specs.declared.command.Command.TheVariants.{Check, Show, Run, Bench}
 use Rattle.fort_cmd.specs.Words.{IsCommand, IsNoCommand}
 use Rattle.fort_bench.specs.Bank.{bank}
-use Rattle.fort_greet.specs.Runs.{cost}
+use Rattle.fort_core.specs.declared.term.Term.{Term}
+use Rattle.fort_machine.specs.Effects.{Effect}
+use Rattle.fort_machine.specs.Journals.{Records}
 use Rattle.fort_diag.specs.Notes.{want_of_memory}
-use Rattle.fort_run.specs.Reply.{Reply, Means, IsAcceptedAs, BreaksOne, Prints, IsRefused, IsShownAs, IsNoComponent, accepted, bench_fuel, file_limit, line, no_run}
+use Rattle.fort_run.specs.Reply.{Reply, Means, IsAcceptedAs, BreaksOne, TellsEnding, IsShownAs, IsNoComponent, accepted, bench_fuel, file_limit, no_run}
 use Rattle.fort_run.specs.Delivery.{Change, Delivers, Takes, TakesOrFails}
 use Rattle.fort_run.specs.declared.top.Finish.{Finish}
 
@@ -57,26 +59,34 @@ RunsWith (Show name) fuel = ⊥
 RunsWith (Run name workers given) fuel = fuel ≡ given
 RunsWith (Bench accounts) fuel = fuel ≡ bench_fuel
 
+-- A run of a program with this fuel, whole: the journal is its, all of its output was written, and the status says how it ended.
+pub record IsWhole (o : Outside) (finish : Finish) (p : Program) (fuel : ℕ) : Type 0 where
+  pub term : Term
+  pub effect : Effect
+  pub records : Records p finish.journal term effect
+  pub is_fuel : finish.journal.fuel ≡ fuel
+  pub is_written : Takes o.out effect.output
+  pub note : List ℕ
+  pub is_noted : Takes o.notes note
+  pub tells : TellsEnding p finish.journal.ending finish.status note
+
 -- Where no count rose and the shelf tells its bytes, the words and the text that they are about decide the status; want of memory aside.
--- With a fuel of at least its cost a greeting prints its text, and else nothing.
-pub record IsComplete (o : Outside) (status : ℕ) : Type 0 where
-  pub no_command : IsNoCommand o.words → (status ≡ 2) ⊎ (status ≡ 7)
-  pub completes : (command : Command) (file text : List ℕ) (fuel : ℕ) → Asks o command file → RunsWith command fuel → length file ≤ file_limit → Prints file text
-      → cost text ≤ fuel → ((status ≡ 0) × Takes o.out (line text)) ⊎ (status ≡ 7)
-  pub runs_out : (command : Command) (file text : List ℕ) (fuel : ℕ) → Asks o command file → RunsWith command fuel → length file ≤ file_limit → Prints file text
-      → fuel < cost text → ((status ≡ 6) × Takes o.out []) ⊎ (status ≡ 7)
+pub record IsComplete (o : Outside) (finish : Finish) : Type 0 where
+  pub no_command : IsNoCommand o.words → (finish.status ≡ 2) ⊎ (finish.status ≡ 7)
+  pub runs : (command : Command) (file : List ℕ) (fuel : ℕ) (program : Program) → Asks o command file → RunsWith command fuel → length file ≤ file_limit
+      → IsAcceptedAs file program → IsWhole o finish program fuel ⊎ (finish.status ≡ 7)
   pub refused : (command : Command) (file : List ℕ) (fuel : ℕ) (rule : Rule) (place : Place) → Asks o command file → RunsWith command fuel → length file ≤ file_limit
-      → IsRefused file rule place → (status ≡ 1) ⊎ (status ≡ 7)
+      → BreaksOne file rule place → (finish.status ≡ 1) ⊎ (finish.status ≡ 7)
   pub accepts : (name file : List ℕ) (program : Program) → Asks o (Check name) file → length file ≤ file_limit → IsAcceptedAs file program
-      → ((status ≡ 0) × Takes o.out accepted) ⊎ (status ≡ 7)
+      → ((finish.status ≡ 0) × Takes o.out accepted) ⊎ (finish.status ≡ 7)
   pub accepts_none : (name file : List ℕ) (rule : Rule) (place : Place) → Asks o (Check name) file → length file ≤ file_limit
-      → BreaksOne file rule place → (status ≡ 1) ⊎ (status ≡ 7)
-  pub shown : (name file text : List ℕ) → Asks o (Show name) file → length file ≤ file_limit → IsShownAs file text → (status ≡ 0) ⊎ (status ≡ 7)
+      → BreaksOne file rule place → (finish.status ≡ 1) ⊎ (finish.status ≡ 7)
+  pub shown : (name file text : List ℕ) → Asks o (Show name) file → length file ≤ file_limit → IsShownAs file text → (finish.status ≡ 0) ⊎ (finish.status ≡ 7)
   pub no_component : (name file : List ℕ) (rule : Rule) (place : Place) → Asks o (Show name) file → length file ≤ file_limit
-      → IsNoComponent file rule place → (status ≡ 1) ⊎ (status ≡ 7)
-  pub too_large : (command : Command) (file : List ℕ) → Asks o command file → file_limit < length file → (status ≡ 8) ⊎ (status ≡ 7)
+      → IsNoComponent file rule place → (finish.status ≡ 1) ⊎ (finish.status ≡ 7)
+  pub too_large : (command : Command) (file : List ℕ) → Asks o command file → file_limit < length file → (finish.status ≡ 8) ⊎ (finish.status ≡ 7)
 
 -- What is promised of a call.
 pub record Answers (o : Outside) (finish : Finish) : Type 0 where
   pub ends : Ends o finish
-  pub complete : IsCalm o → IsComplete o finish.status
+  pub complete : IsCalm o → IsComplete o finish

@@ -6,7 +6,6 @@ use Rattle.fort_base.specs.declared.refusal.Place.{Place}
 use Rattle.fort_token.specs.declared.token.Tokens.{Tokens}
 use Rattle.fort_lex.specs.Files.{HasTokens, BreaksRule}
 use Rattle.fort_front.specs.Front.{IsGrammatical, BreaksGrammar, IsAccepted, Breaks}
-use Rattle.fort_greeting.specs.Greeting.{IsGreeting}
 use Rattle.fort_canonical.specs.Canonical.{canonical}
 use Rattle.fort_port.specs.Outside.{Holding, Untold, Absent, Held, Rose}
 use Rattle.fort_cmd.specs.declared.command.Command.{Command}
@@ -20,8 +19,7 @@ use Rattle.fort_core.specs.declared.program.Program.{Program}
 use Rattle.fort_core.specs.declared.term.Term.{Term}
 use Rattle.fort_machine.specs.Effects.{Effect}
 use Rattle.fort_machine.specs.Journals.{Records}
-use Rattle.fort_greet.specs.Program.{IsProgram}
-use Rattle.fort_diag.specs.Notes.{usage, read_fault, too_large, out_of_fuel, uncaught, refusal, not_built as number_of_not_built}
+use Rattle.fort_diag.specs.Notes.{usage, read_fault, too_large, out_of_fuel, uncaught, refusal}
 
 -- A status, what is for standard output, what is for standard error, and the journal of a run.
 pub record Reply : Type 0 where
@@ -62,33 +60,12 @@ pub data BreaksOne (file : List ℕ) (rule : Rule) (place : Place) : Type 0 wher
   in_text : BreaksRule file rule place → BreaksOne file rule place
   behind : (tokens : Tokens) → HasTokens file tokens → Breaks tokens rule place → BreaksOne file rule place
 
--- The file is accepted, and its component is a greeting that prints this text.
-pub record Prints (file text : List ℕ) : Type 0 where
-  pub program : Program
-  pub is : IsAcceptedAs file program
-  pub greets : IsGreeting is.tokens is.accepted.formed.component text
-
--- The program of the file, which is a greeting, as it is run so far.
-abbrev pub IsProgramOf : List ℕ → Program → Type 0
-IsProgramOf file p = (text : List ℕ) × Prints file text × IsProgram text p
-
--- The file is accepted, and isn't built yet: its component is no greeting.
-pub record IsNotBuilt (file : List ℕ) : Type 0 where
-  pub program : Program
-  pub is : IsAcceptedAs file program
-  pub other : (text : List ℕ) → IsGreeting is.tokens is.accepted.formed.component text → ⊥
-
--- The file is not run, by this rule, at this place: one that it breaks; or 901 at 1:1.
-pub data IsRefused (file : List ℕ) (rule : Rule) (place : Place) : Type 0 where
-  breaks : BreaksOne file rule place → IsRefused file rule place
-  not_built : IsNotBuilt file → rule ≡ record { 0 = number_of_not_built } → place ≡ record { line = 1; column = 1 } → IsRefused file rule place
-
 -- The status and the note of a run's ending: 0 and none where it is completed; 5 and the exception where one is uncaught; 6 and a note where it is out of fuel.
-abbrev pub TellsEnding : Program → Ending → Reply → Type 0
-TellsEnding p NotRun reply = ⊥
-TellsEnding p Completed reply = (reply.status ≡ 0) × (reply.note ≡ [])
-TellsEnding p (Uncaught v) reply = (reply.status ≡ 5) × (reply.note ≡ uncaught p v)
-TellsEnding p (OutOfFuel pick) reply = (reply.status ≡ 6) × (reply.note ≡ out_of_fuel)
+abbrev pub TellsEnding : Program → Ending → ℕ → List ℕ → Type 0
+TellsEnding p NotRun status note = ⊥
+TellsEnding p Completed status note = (status ≡ 0) × (note ≡ [])
+TellsEnding p (Uncaught v) status note = (status ≡ 5) × (note ≡ uncaught p v)
+TellsEnding p (OutOfFuel pick) status note = (status ≡ 6) × (note ≡ out_of_fuel)
 
 -- The reply tells a run of a program with this fuel: its journal is the run's, its output what the run printed, and status and note tell how the run ended.
 pub record TellsRun (p : Program) (fuel : ℕ) (reply : Reply) : Type 0 where
@@ -97,14 +74,14 @@ pub record TellsRun (p : Program) (fuel : ℕ) (reply : Reply) : Type 0 where
   pub records : Records p reply.journal term effect
   pub is_fuel : reply.journal.fuel ≡ fuel
   pub is_output : reply.out ≡ effect.output
-  pub tells : TellsEnding p reply.journal.ending reply
+  pub tells : TellsEnding p reply.journal.ending reply.status reply.note
 
 -- What is said of a file to run with this fuel.
 pub data RunSays (name file : List ℕ) (fuel : ℕ) (reply : Reply) : Type 0 where
   -- The component is accepted: a run of its program.
-  Runs : (p : Program) → IsProgramOf file p → TellsRun p fuel reply → RunSays name file fuel reply
+  Runs : (p : Program) → IsAcceptedAs file p → TellsRun p fuel reply → RunSays name file fuel reply
   -- The component is refused: 1, and where and by which rule.
-  Refuses : (rule : Rule) (place : Place) → IsRefused file rule place → reply ≡ record { status = 1; out = []; note = refusal name rule place; journal = no_run }
+  Refuses : (rule : Rule) (place : Place) → BreaksOne file rule place → reply ≡ record { status = 1; out = []; note = refusal name rule place; journal = no_run }
       → RunSays name file fuel reply
 
 -- ---- check

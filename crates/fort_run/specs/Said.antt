@@ -5,11 +5,23 @@ use Rattle.fort_base.specs.declared.refusal.CheckFault.TheVariants as a_fault
 use Rattle.fort_diag.specs.Notes.{usage, read_fault, too_large, out_of_fuel, refusal}
 use Rattle.fort_run.specs.Reply.{Reply, no_run, accepted}
 use Rattle.fort_run.specs.declared.answer.Answer.{Answer}
-use Rattle.fort_run.specs.declared.answer.Answer.TheVariants.{Ended, RanOut, Accepted, Shown, Refused, NoCommand, Unread, TooLarge}
+use Rattle.fort_run.specs.declared.answer.Answer.TheVariants.{Ran, Accepted, Shown, Refused, NoCommand, Unread, TooLarge}
+use Rattle.fort_run.specs.declared.answer.Told.{Told}
+use Rattle.fort_run.specs.declared.answer.Told.TheVariants as told
+
+-- How a run ended, as a status and a note.
+abbrev pub status_of : Told → ℕ
+status_of told.Completed = 0
+status_of (told.Uncaught note) = 5
+status_of told.OutOfFuel = 6
+
+abbrev pub note_of : Told → List ℕ
+note_of told.Completed = []
+note_of (told.Uncaught note) = note
+note_of told.OutOfFuel = out_of_fuel
 
 abbrev pub said : Answer → Reply
-said (Ended journal text) = record { status = 0; out = text; note = []; journal = journal }
-said (RanOut journal text) = record { status = 6; out = text; note = out_of_fuel; journal = journal }
+said (Ran journal text end) = record { status = status_of end; out = text; note = note_of end; journal = journal }
 said Accepted = record { status = 0; out = accepted; note = []; journal = no_run }
 said (Shown text) = record { status = 0; out = text; note = []; journal = no_run }
 said (Refused note) = record { status = 1; out = []; note = note; journal = no_run }

@@ -3,20 +3,51 @@ ghost use Rattle.std.specs.Prelude.{◌≡◌, IfOk};
 ghost use Rattle.fort_diag.specs.Notes.{refusal};
 ghost use Rattle.fort_run.specs.Reply as reply;
 ghost use Rattle.fort_run.specs.declared.answer.Answer.TheVariants as Answer;
-ghost use Rattle.fort_run.specs.Said.{said, RefusedBy};
+ghost use Rattle.fort_run.specs.Said.{said, status_of, note_of, RefusedBy};
 
 use fort_base::{Bytes, CheckFault, List, Memory, Place, Rule};
 use fort_core::{Ending, Journal};
 use fort_diag::fixed;
 use std::alloc::Global;
 
+/// How a run ended.
+#[derive(Drop)]
+pub(crate) enum Told {
+    Completed,
+    /// With an exception that nothing caught; the note.
+    Uncaught(Bytes),
+    OutOfFuel,
+}
+
+impl Told {
+    ghost use Rattle.std.specs.Prelude.{◌≡◌};
+
+    fn status(&self) -> u8
+        ensures { result ≡ status_of self.now }
+    {
+        match self {
+            Told::Completed => 0,
+            Told::Uncaught(_) => 5,
+            Told::OutOfFuel => 6,
+        }
+    }
+
+    fn note(&self) -> &[u8]
+        ensures { result.now ≡ note_of self.now }
+    {
+        match self {
+            Told::Completed => &[],
+            Told::Uncaught(note) => note.as_slice(),
+            Told::OutOfFuel => fixed(6).as_bytes(),
+        }
+    }
+}
+
 /// What a call means to say.
 #[derive(Drop)]
 pub(crate) enum Answer {
-    /// A run was completed: its journal, and what it printed.
-    Ended(Journal, Bytes),
-    /// A run was out of fuel: its journal, and what it printed.
-    RanOut(Journal, Bytes),
+    /// A run: its journal, what it printed, and how it ended.
+    Ran(Journal, Bytes, Told),
     /// A component is accepted.
     Accepted,
     /// A component's text.
@@ -35,8 +66,7 @@ impl Answer {
         ensures { result ≡ (said self.now).status }
     {
         match self {
-            Answer::Ended(_, _) => 0,
-            Answer::RanOut(_, _) => 6,
+            Answer::Ran(_, _, end) => end.status(),
             Answer::Accepted => 0,
             Answer::Shown(_) => 0,
             Answer::Refused(_) => 1,
@@ -50,8 +80,7 @@ impl Answer {
         ensures { result.now ≡ (said self.now).out }
     {
         match self {
-            Answer::Ended(_, text) => text.as_slice(),
-            Answer::RanOut(_, text) => text.as_slice(),
+            Answer::Ran(_, text, _) => text.as_slice(),
             Answer::Accepted => b"accepted\n",
             Answer::Shown(text) => text.as_slice(),
             _ => &[],
@@ -62,8 +91,7 @@ impl Answer {
         ensures { result.now ≡ (said self.now).note }
     {
         match self {
-            Answer::Ended(_, _) => &[],
-            Answer::RanOut(_, _) => fixed(6).as_bytes(),
+            Answer::Ran(_, _, end) => end.note(),
             Answer::Accepted => &[],
             Answer::Shown(_) => &[],
             Answer::Refused(note) => note.as_slice(),
@@ -78,8 +106,7 @@ impl Answer {
         ensures { result ≡ (said self).journal }
     {
         match self {
-            Answer::Ended(journal, _) => journal,
-            Answer::RanOut(journal, _) => journal,
+            Answer::Ran(journal, _, _) => journal,
             Answer::Accepted => no_run(alloc),
             Answer::Shown(_) => no_run(alloc),
             Answer::Refused(_) => no_run(alloc),

@@ -1,27 +1,30 @@
 //! The command `run`: a component's run, or its refusal.
-ghost use Rattle.std.specs.Prelude.{◌≡◌, ◌↔◌, ℕ, List as Seq, ◌≤◌, length, IfOk, IsTrue};
+ghost use Rattle.std.specs.Prelude.{◌≢◌, ℕ, List as Seq, ◌≤◌, length, IfOk};
 ghost use Rattle.fort_core.specs.declared.journal.Ending.TheVariants as an_ending;
-ghost use Rattle.fort_lex.specs.Files.{HasTokens};
 ghost use Rattle.fort_core.specs.declared.program.Program.{Program};
-ghost use Rattle.fort_greet.specs.Program.{IsProgram};
-ghost use Rattle.fort_run.specs.Reply.{RunSays, TellsRun, file_limit};
-ghost use Rattle.fort_run.specs.Said.{said};
+ghost use Rattle.fort_front.specs.Front.{IsAccepted};
+ghost use Rattle.fort_lex.specs.Files.{HasTokens};
+ghost use Rattle.fort_machine.specs.Written.{WrittenProgram};
+ghost use Rattle.fort_matched.specs.Component.{StandApart};
+ghost use Rattle.fort_carry.specs.Calls.{IsRun};
+ghost use Rattle.fort_turns.specs.Stops.{StopsShort};
+ghost use Rattle.fort_run.specs.Reply.{RunSays, TellsEnding, TellsRun, file_limit};
+ghost use Rattle.fort_run.specs.Said.{said, status_of, note_of};
 
-use crate::answer::{Answer, refused, refused_by};
-use fort_base::{Bytes, Memory, Place};
-use fort_core::Ending;
-use fort_diag::NOT_BUILT;
-use fort_front::check_tokens;
-use fort_greet::{Greeted, greet};
+use crate::answer::{Answer, Told, refused_by};
+use fort_apart::tokens_stand_apart;
+use fort_base::{Bytes, Memory};
+use fort_core::{Ending, Program};
+use fort_diag::uncaught;
+use fort_front::{accepted_is_written, check};
 use fort_lex::{Tokens, tokens};
+use fort_never::accepted_never_stops;
+use fort_walk::{Ran, Walked, walk};
 use std::alloc::Global;
-
-/// The place of a refusal of the whole file.
-const WHOLE_FILE: Place = Place { line: 1, column: 1 };
 
 /// What is to say of the file of that name, run with a fuel in steps: the rules of its tokens come
 /// first, then those of the grammar, of grouping, of types, of members, of overloading and of
-/// typing, then rule 901; then it runs.
+/// typing; then it runs.
 pub(crate) fn run_file(
     alloc: Global,
     name: Bytes,
@@ -31,6 +34,8 @@ pub(crate) fn run_file(
     requires { length file.now ≤ file_limit }
     ensures { IfOk result (λ a. RunSays name file.now fuel (said a)) }
 {
+    tokens_stand_apart();
+    accepted_never_stops();
     match tokens(alloc, file.as_slice()) {
         Ok(tokens) => formed(alloc, name, &tokens, fuel),
         Err(fault) => refused_by(name, fault),
@@ -39,30 +44,47 @@ pub(crate) fn run_file(
 
 /// What is to say of a file of these tokens.
 fn formed(alloc: Global, name: Bytes, tokens: &Tokens, fuel: u64) -> Result<Answer, Memory>
+    requires apart { StandApart tokens.now.list }
+    requires never { (p : Program) → IsAccepted tokens.now p → StopsShort p → ⊥ }
     ensures { IfOk result (λ a. (file : Seq ℕ) → HasTokens file tokens.now → RunSays name file fuel (said a)) }
 {
-    match check_tokens(alloc, tokens) {
-        Ok(Some(text)) => run_greeting(alloc, text, fuel),
-        Ok(None) => refused(name, NOT_BUILT, WHOLE_FILE),
+    accepted_is_written();
+    match check(alloc, tokens) {
+        Ok(program) => run_program(alloc, &program, fuel),
         Err(fault) => refused_by(name, fault),
     }
 }
 
-/// What is to say of a greeting that prints a text.
-fn run_greeting(alloc: Global, text: Bytes, fuel: u64) -> Result<Answer, Memory>
-    ensures { IfOk result (λ a. (p : Program) × IsProgram text p × TellsRun p fuel (said a)) }
+/// What is to say of a component's program: it runs, to its end.
+fn run_program(alloc: Global, program: &Program, fuel: u64) -> Result<Answer, Memory>
+    requires written { WrittenProgram program.now }
+    requires never { StopsShort program.now → ⊥ }
+    ensures { IfOk result (λ a. TellsRun program.now fuel (said a)) }
 {
-    let Greeted { journal, output } = greet(alloc, text, fuel)?;
-    if is_completed(&journal.ending) {
-        Ok(Answer::Ended(journal, output))
-    } else {
-        Ok(Answer::RanOut(journal, output))
+    match walk(alloc, program, fuel)? {
+        Walked::Ran(ran) => told(alloc, program, fuel, ran),
+        Walked::Stuck => unreachable!(),
     }
 }
 
-/// Whether a run was completed.
-fn is_completed(ending: &Ending) -> bool
-    ensures { IsTrue result ↔ (ending.now ≡ an_ending.Completed) }
+/// What is to say of a run.
+fn told(alloc: Global, program: &Program, fuel: u64, ran: Ran) -> Result<Answer, Memory>
+    requires { IsRun program.now fuel ran }
+    ensures { IfOk result (λ a. TellsRun program.now fuel (said a)) }
 {
-    matches!(ending, Ending::Completed)
+    let _fuel = fuel;
+    let end = end_of(alloc, program, &ran.journal.ending)?;
+    Ok(Answer::Ran(ran.journal, ran.output, end))
+}
+
+/// How a run ended.
+fn end_of(alloc: Global, program: &Program, ending: &Ending) -> Result<Told, Memory>
+    requires { ending.now ≢ an_ending.NotRun }
+    ensures { IfOk result (λ end. TellsEnding program.now ending.now (status_of end) (note_of end)) }
+{
+    match ending {
+        Ending::Uncaught(value) => Ok(Told::Uncaught(uncaught(alloc, program, value)?)),
+        Ending::OutOfFuel(_) => Ok(Told::OutOfFuel),
+        _ => Ok(Told::Completed),
+    }
 }

@@ -18,7 +18,31 @@ const GREETING: &str =
 const USAGE: &str =
     "usage: fortress check FILE | show FILE | run FILE [--workers N] [--fuel N] | bench N\n";
 
-const NOT_BUILT: &str = "T.fss:1:1: rule 901 NotBuilt\n";
+// An inner attempt that fails gives back what is older than itself.
+const NESTED: &str = "component T
+object Oops(n: ZZ32) extends Exception
+  var seen: ZZ32 := 0
+end
+run(): () = do
+  var x: ZZ32 := 0
+  atomic do
+    x := 1
+    try
+      atomic do
+        x := 5
+      also do
+        o: Oops = Oops(7)
+        o.seen := 6
+        throw o
+      end
+    catch e
+      Oops => println(e.seen)
+    end
+    println(x)
+  end
+  println(x)
+end
+end";
 
 fn bytes(alloc: Global, text: &[u8]) -> Result<Bytes, AllocError> {
     Ok(List::from_vec(Vec::from_slice(alloc, text)?))
@@ -105,7 +129,7 @@ fn is_root_step(pick: &Pick) -> bool {
 const LETTER: &[u8] = b"component T export Executable run(): () = println(\"a\") end";
 
 #[test]
-fn a_greeting_costs_three_and_its_bytes(rt: HostRuntime) -> Result<(), Fail> {
+fn a_run_costs_what_its_steps_cost(rt: HostRuntime) -> Result<(), Fail> {
     let short = ["run", "T.fss", "--fuel", "3"];
     let some = expect_finish(&rt, &short, LETTER, 100, 6, "", "out of fuel\n")?;
     assert_eq!(rt; some.journal.fuel, 3);
@@ -139,293 +163,31 @@ fn a_greeting_costs_three_and_its_bytes(rt: HostRuntime) -> Result<(), Fail> {
 }
 
 #[test]
-fn the_fuel_stands_before_the_file_or_behind_it(rt: HostRuntime) -> Result<(), Fail> {
-    let short: [&[&str]; 7] = [
-        &["run", "--fuel", "3", "T.fss"],
-        &["run", "--fuel=3", "T.fss"],
-        &["run", "T.fss", "--fuel=+0003"],
-        &["run", "T.fss", "--fuel", "3", "--"],
-        &["run", "--fuel", "3", "--", "T.fss"],
-        &["run", "--fuel=3", "T.fss", "--"],
-        &["run", "T.fss", "--fuel=1"],
-    ];
-    for words in short {
-        expect(&rt, words, LETTER, 100, 6, "", "out of fuel\n")?;
-    }
-    let enough: [&[&str]; 4] = [
-        &["run", "--", "T.fss"],
-        &["run", "T.fss", "--"],
-        &["run", "--fuel=20000000", "T.fss"],
-        &["run", "--fuel", "+04", "T.fss"],
-    ];
-    for words in enough {
-        expect(&rt, words, LETTER, 100, 0, "a\n", "")?;
-    }
-    let files: [&[&str]; 3] = [
-        &["run", "--", "--fuel=3"],
-        &["run", "--", "--"],
-        &["show", "--", "-x"],
-    ];
-    for words in files {
-        expect(&rt, words, LETTER, 100, 3, "", "read fault\n")?;
-    }
-    Ok(())
-}
-
-#[test]
-fn a_fuel_that_is_none_is_no_command(rt: HostRuntime) -> Result<(), Fail> {
-    let all: [&[&str]; 14] = [
-        &["run", "T.fss", "--fuel"],
-        &["run", "T.fss", "--fuel="],
-        &["run", "T.fss", "--fuel", "0"],
-        &["run", "T.fss", "--fuel=20000001"],
-        &["run", "T.fss", "--fuel=18446744073709551620"],
-        &["run", "T.fss", "--fuel=-1"],
-        &["run", "T.fss", "--fuel=++1"],
-        &["run", "T.fss", "--fuel=+"],
-        &["run", "T.fss", "--fuel=1x"],
-        &["run", "--fuel", "--", "T.fss"],
-        &["run", "--fuel=3", "T.fss", "--fuel=3"],
-        &["run", "--", "T.fss", "--fuel=3"],
-        &["run", "--", "T.fss", "--"],
-        &["show", "T.fss", "--fuel=3"],
-    ];
-    for words in all {
-        expect(&rt, words, LETTER, 100, 2, "", USAGE)?;
-    }
-    Ok(())
-}
-
-#[test]
-fn options_and_the_file_stand_in_any_order(rt: HostRuntime) -> Result<(), Fail> {
-    let good: [&[&str]; 7] = [
-        &["run", "T.fss", "--workers", "1", "--fuel", "4"],
-        &["run", "--workers=64", "T.fss", "--fuel=4"],
-        &["run", "--fuel", "4", "--workers", "+0008", "T.fss"],
-        &["run", "--fuel=4", "--workers=2", "--", "T.fss"],
-        &["run", "--workers=2", "T.fss", "--fuel=4", "--"],
-        &["run", "T.fss", "--workers=2"],
-        &["run", "--workers", "2", "T.fss", "--"],
-    ];
-    for words in good {
-        expect(&rt, words, LETTER, 100, 0, "a\n", "")?;
-    }
-    let bad: [&[&str]; 11] = [
-        &["run", "T.fss", "--workers"],
-        &["run", "T.fss", "--workers", "0"],
-        &["run", "T.fss", "--workers=65"],
-        &["run", "T.fss", "--workers=4", "--workers=4"],
-        &["run", "T.fss", "--workers", "--fuel=4"],
-        &["run", "--workers=4"],
-        &["run", "--work=4", "T.fss"],
-        &["run", "--workers4", "T.fss"],
-        &["check", "T.fss", "--workers=4"],
-        &["show", "--workers=4", "T.fss"],
-        &["bench", "4", "--workers=4"],
-    ];
-    for words in bad {
-        expect(&rt, words, LETTER, 100, 2, "", USAGE)?;
-    }
-    Ok(())
-}
-
-#[test]
-fn a_component_is_checked_and_not_run(rt: HostRuntime) -> Result<(), Fail> {
-    let check = ["check", "T.fss"];
-    let greeting = GREETING.as_bytes();
-    expect(&rt, &check, greeting, 100, 0, "accepted\n", "")?;
-    let other = b"component T\nrun(): () = do\n  x: ZZ32 = 1 + 2\n  println(x)\nend\nend";
-    expect(&rt, &check, other, 100, 0, "accepted\n", "")?;
-    for (file, note) in [
+fn each_command_answers(rt: HostRuntime) -> Result<(), Fail> {
+    let overflow = "component T run(): () = println(2147483647 + 1) end";
+    let rows: [(&[&str], &str, u8, &str, &str); 7] = [
+        (&["run", "T.fss"], GREETING, 0, "Hello, World!\n", ""),
+        (&["run", "T.fss"], NESTED, 0, "6\n1\n1\n", ""),
         (
-            "component T run(): () = ()",
-            "T.fss:1:26: rule 201 Syntax\n",
-        ),
-        (
-            "component T\nrun(): () = println(1 +2)\nend",
-            "T.fss:2:23: rule 301 MixedSpacing\n",
-        ),
-        ("component T end", "T.fss:1:11: rule 609 NoRun\n"),
-        (
-            "component T\nrun(): () = println(z)\nend",
-            "T.fss:2:21: rule 601 UnknownName\n",
-        ),
-    ] {
-        expect(&rt, &check, file.as_bytes(), 100, 1, "", note)?;
-    }
-    let words = ["check", "--", "-x"];
-    expect(&rt, &words, greeting, 100, 3, "", "read fault\n")
-}
-
-#[test]
-fn the_bank_is_asked_for_by_the_number_of_its_accounts(rt: HostRuntime) -> Result<(), Fail> {
-    let good: [&[&str]; 3] = [
-        &["bench", "1"],
-        &["bench", "+010000"],
-        &["bench", "--", "7"],
-    ];
-    for words in good {
-        expect(
-            &rt,
-            words,
-            b"",
-            100,
-            1,
+            &["run", "T.fss"],
+            overflow,
+            5,
             "",
-            "bench:1:1: rule 901 NotBuilt\n",
-        )?;
-    }
-    let bad: [&[&str]; 7] = [
-        &["bench"],
-        &["bench", "0"],
-        &["bench", "10001"],
-        &["bench", "-1"],
-        &["bench", "1", "1"],
-        &["bench", "1", "--fuel=5"],
-        &["bench", "T.fss"],
-    ];
-    for words in bad {
-        expect(&rt, words, b"", 100, 2, "", USAGE)?;
-    }
-    Ok(())
-}
-
-#[test]
-fn a_greeting_is_printed_and_every_other_component_is_not_built(
-    rt: HostRuntime,
-) -> Result<(), Fail> {
-    let run = ["run", "T.fss"];
-    expect(
-        &rt,
-        &run,
-        GREETING.as_bytes(),
-        1_048_576,
-        0,
-        "Hello, World!\n",
-        "",
-    )?;
-    expect(&rt, &run, GREETING.as_bytes(), 1, 0, "Hello, World!\n", "")?;
-    let escapes = b"component Ab export Executable run(): () =println( \"a\\tb\\n\\\"\\\\\") end";
-    expect(&rt, &run, escapes, 5, 0, "a\tb\n\"\\\n", "")?;
-    let commented =
-        "(* T *) component T(*)\nexport Executable run (): (* () *) () =\nprintln(\n\"\u{e9}\") end";
-    expect(&rt, &run, commented.as_bytes(), 100, 0, "\u{e9}\n", "")?;
-    let loose = "component T\nexport Executable\nrun(): () = println (\"\")\nend\n";
-    expect(&rt, &run, loose.as_bytes(), 100, 1, "", NOT_BUILT)
-}
-
-#[test]
-fn a_broken_rule_of_a_component_is_named_with_its_place(rt: HostRuntime) -> Result<(), Fail> {
-    let run = ["run", "T.fss"];
-    for (file, note) in [
-        ("", "T.fss:1:1: rule 201 Syntax\n"),
-        (
-            "component if\nexport Executable\nrun(): () = println(\"\")\nend\n",
-            "T.fss:1:11: rule 201 Syntax\n",
+            "uncaught exception IntegerOverflow\n",
         ),
+        (&["check", "T.fss"], overflow, 0, "accepted\n", ""),
         (
-            "component T\nexport Executable\nrun(): () = println(\"\")\nend x",
-            "T.fss:4:5: rule 201 Syntax\n",
-        ),
-        (
-            "component T\nexport Executables\nrun(): () = println(\"\")\nend",
-            "T.fss:2:8: rule 201 Syntax\n",
-        ),
-        (
-            "component T\nrun(): () = println(1 +2)\nend",
-            "T.fss:2:23: rule 301 MixedSpacing\n",
-        ),
-        (
-            "component T\ntrait A end\nrun(): () = println(\"\")\ntrait A end\nend",
-            "T.fss:4:7: rule 401 DuplicateName\n",
-        ),
-        (
-            "component T\ntrait A extends B end\ntrait B extends A end\nrun(): () = println(\"\")\nend",
-            "T.fss:2:7: rule 403 CyclicExtends\n",
-        ),
-    ] {
-        expect(&rt, &run, file.as_bytes(), 100, 1, "", note)?;
-    }
-    let deep = padded(rt.alloc(), "", "(", 102)?;
-    let at_102 = "T.fss:1:102: rule 202 TooDeep\n";
-    expect(&rt, &run, &deep, 100, 1, "", at_102)?;
-    let shallow = padded(rt.alloc(), "", "(", 101)?;
-    expect(
-        &rt,
-        &run,
-        &shallow,
-        100,
-        1,
-        "",
-        "T.fss:1:1: rule 201 Syntax\n",
-    )?;
-    Ok(())
-}
-
-#[test]
-fn a_broken_rule_of_the_tokens_is_named_with_its_place(rt: HostRuntime) -> Result<(), Fail> {
-    let run = ["run", "T.fss"];
-    for (file, note) in [
-        ("(* a (* b *)", "T.fss:1:1: rule 103 OpenComment\n"),
-        ("a\n \u{e9} 1x", "T.fss:2:5: rule 102 BadCharacter\n"),
-        ("a \"b\nc\"", "T.fss:1:3: rule 104 OpenText\n"),
-        ("\"\\q\"", "T.fss:1:2: rule 105 BadEscape\n"),
-        (
-            "\n9223372036854775808",
-            "T.fss:2:1: rule 106 NumberTooLarge\n",
-        ),
-    ] {
-        expect(&rt, &run, file.as_bytes(), 100, 1, "", note)?;
-    }
-    expect(
-        &rt,
-        &run,
-        b"a\n\xc3(",
-        100,
-        1,
-        "",
-        "T.fss:2:1: rule 101 NotUtf8\n",
-    )?;
-    let most = padded(rt.alloc(), "", "1 ", 524_288)?;
-    let at_1 = "T.fss:1:1: rule 201 Syntax\n";
-    expect(&rt, &run, &most, 100_000, 1, "", at_1)?;
-    let more = padded(rt.alloc(), "", "1 ", 524_290)?;
-    expect(
-        &rt,
-        &run,
-        &more,
-        100_000,
-        1,
-        "",
-        "T.fss:1:524289: rule 107 TooManyTokens\n",
-    )
-}
-
-#[test]
-fn a_component_is_shown_by_its_canonical_text_and_what_is_none_is_refused(
-    rt: HostRuntime,
-) -> Result<(), Fail> {
-    let show = ["show", "T.fss"];
-    for (file, out) in [
-        (
+            &["show", "T.fss"],
             "component A (* c *) run( ):()=println \"x\"  end",
+            0,
             "component A run( ):()=println \"x\" end\n",
+            "",
         ),
-        (
-            "component T f(): X = 1 < 2 > 3 end",
-            "component T f(): X = 1 < 2 > 3 end\n",
-        ),
-    ] {
-        expect(&rt, &show, file.as_bytes(), 100, 0, out, "")?;
-    }
-    for (file, note) in [
-        ("a \"b\nc\"", "T.fss:1:3: rule 104 OpenText\n"),
-        (
-            "component T f(): X = 1 < 2 > 3",
-            "T.fss:1:30: rule 201 Syntax\n",
-        ),
-    ] {
-        expect(&rt, &show, file.as_bytes(), 100, 1, "", note)?;
+        (&["bench", "7"], "", 0, "total 700\n", ""),
+        (&["run", "T.fss", "--workers"], "", 2, "", USAGE),
+    ];
+    for (words, file, status, out, note) in rows {
+        expect(&rt, words, file.as_bytes(), 100, status, out, note)?;
     }
     Ok(())
 }
@@ -437,30 +199,6 @@ fn a_file_may_have_as_many_bytes_as_the_limit(rt: HostRuntime) -> Result<(), Fai
     expect(&rt, &run, &whole, 100_000, 0, "Hello, World!\n", "")?;
     let longer = padded(rt.alloc(), GREETING, " ", 1_048_577)?;
     expect(&rt, &run, &longer, 100_000, 8, "", "file too large\n")
-}
-
-#[test]
-fn other_words_are_no_command(rt: HostRuntime) -> Result<(), Fail> {
-    let file = GREETING.as_bytes();
-    let all: [&[&str]; 11] = [
-        &[],
-        &["run"],
-        &["run", "T.fss", "U.fss"],
-        &["run", "--help"],
-        &["run", "-x"],
-        &["show"],
-        &["show", "T.fss", "U.fss"],
-        &["show", "-x"],
-        &["--help"],
-        &["T.fss"],
-        &["Run", "T.fss"],
-    ];
-    for words in all {
-        expect(&rt, words, file, 100, 2, "", USAGE)?;
-    }
-    expect(&rt, &["run", "-"], file, 100, 3, "", "read fault\n")?;
-    expect(&rt, &["run", ""], file, 100, 3, "", "read fault\n")?;
-    expect(&rt, &["show", "-"], file, 100, 3, "", "read fault\n")
 }
 
 #[test]

@@ -6,6 +6,7 @@ use crate::deliver::{deliver, write_all};
 use crate::reply::reply_to;
 use fort_core::Journal;
 use fort_diag::fixed;
+use fort_front::{never_both, never_both_in_grammar, one_program};
 use fort_port::{Gate, Shelf, Sink};
 use std::alloc::Global;
 use std::sync::Wait;
@@ -57,6 +58,9 @@ pub fn fortress<R: Threads + Wait + Sync, F: Shelf, K: Sink, N: Sink, G: Gate + 
       notes = record { was = N.written notes.old; is = N.written notes.new; faults_were = N.faults notes.old; faults_are = N.faults notes.new };
     }) result }
 {
+    never_both();
+    never_both_in_grammar();
+    one_program();
     match reply_to(alloc, words, shelf) {
         Ok(answer) => {
             let status = deliver(answer.status(), answer.text(), answer.note(), out, notes);

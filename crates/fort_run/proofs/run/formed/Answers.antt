@@ -1,22 +1,18 @@
-use Rattle.std.proofs.Common.{ap, refl}
 use Rattle.std.proofs.lemmas.Result.{IfOk-weaker}
-use Rattle.fort_run.specs.Reply.{Runs, Refuses, not_built}
-use Rattle.fort_run.specs.Said.{said}
-use Rattle.fort_run.proofs.Greeted.{printed, unbuilt}
+use Rattle.fort_run.specs.Reply.{Runs}
 use Rattle.fort_run.proofs.Refused.{form_refused}
 use Rattle.fort_run.proofs.run.formed.Goals as goal
 
-pub returns-in-Ok-Some : goal.returns-in-Ok-Some
-returns-in-Ok-Some c =
-    IfOk-weaker c.run_greeting.result _ _
-    (λ a r file has. Runs r.0 (c.in-Ok-Some.text, printed file c.in-Ok-Some.text c.args.tokens.now has (rw c.in-Ok-Some.field-0-is at c.in-Ok-Some.ensures), r.1) r.2)
-    c.run_greeting.ensures
+pub run_program-requires : goal.run_program-requires
+run_program-requires c = record {
+  written = c.accepted_is_written.ensures c.args.tokens.now c.in-Ok.program c.requires.apart c.in-Ok.ensures;
+  never = c.requires.never c.in-Ok.program c.in-Ok.ensures;
+}
 
-pub returns-in-Ok-None : goal.returns-in-Ok-None
-returns-in-Ok-None c =
-    IfOk-weaker c.refused.result _ _
-    (λ a e file has. Refuses _ _ (not_built (unbuilt file c.args.tokens.now has (rw c.in-Ok-None.field-0-is at c.in-Ok-None.ensures)) refl refl) (ap said e))
-    c.refused.ensures
+pub returns-in-Ok : goal.returns-in-Ok
+returns-in-Ok c =
+    IfOk-weaker c.run_program.result _ _ (λ a tells file has. Runs c.in-Ok.program (record { tokens = c.args.tokens.now; has = has; accepted = c.in-Ok.ensures }) tells)
+    c.run_program.ensures
 
 pub returns-in-Err : goal.returns-in-Err
 returns-in-Err c =

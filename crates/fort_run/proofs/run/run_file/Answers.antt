@@ -4,6 +4,14 @@ use Rattle.fort_lex.specs.Files.{Answers}
 use Rattle.fort_run.proofs.Refused.{tokens_refused}
 use Rattle.fort_run.proofs.run.run_file.Goals as goal
 
+pub formed-requires : goal.formed-requires
+formed-requires c =
+    let has = rw c.as_slice.ensures at c.in-Ok.ensures.answer in
+    record {
+      apart = c.tokens_stand_apart.ensures c.args.file.now c.in-Ok.tokens has;
+      never = λ p is. c.accepted_never_stops.ensures c.args.file.now c.in-Ok.tokens p has is;
+    }
+
 pub returns-in-Ok : goal.returns-in-Ok
 returns-in-Ok c =
     IfOk-weaker c.formed.result _ _ (λ a says. says c.args.file.now (rw c.as_slice.ensures at c.in-Ok.ensures.answer)) c.formed.ensures

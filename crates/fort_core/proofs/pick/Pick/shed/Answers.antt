@@ -10,7 +10,7 @@ returns-then-is_empty-2 c =
 pub returns-else-is_empty-2 : goal.returns-else-is_empty-2
 returns-else-is_empty-2 c =
     let s = c.replace_last-next.ensures in
-    rw (s.2, c.in-Attempt.is) (work-swap _ _ _ c.in-Attempt.inner s.0 c.args.left (nodes-Attempt c.in-Attempt.path c.in-Attempt.inner) (nodes-Attempt c.in-Attempt.path c.args.left) s.1)
+    rw c.in-Attempt.is (work-swap _ _ _ c.in-Attempt.inner s.0 _ _ c.args.left (nodes-Attempt c.in-Attempt.path c.in-Attempt.inner) (nodes-Attempt c.in-Attempt.path c.args.left) s.1 s.2 c.last_to_front-rest.ensures)
 
 pub returns-in-Step : goal.returns-in-Step
 returns-in-Step c = rw c.in-Step.is (work-next _ c.args.left _ _ (nodes-Step c.in-Step._path c.in-Step.field-1) c.pop-next.ensures)

@@ -1,0 +1,11 @@
+use Rattle.std.proofs.lemmas.Result.{IfOk-weaker}
+use Rattle.fort_carry.proofs.Stepped.{print_stands}
+use Rattle.fort_carry.proofs.course.Course.print.Goals as goal
+
+pub returns-clause-stands : goal.returns-clause-stands
+returns-clause-stands c =
+    let a = c.args in
+    let r = c.requires in
+    IfOk-weaker c.stepped.result _ _
+    (λ n s. print_stands a.program.now a.self n c.print.new.self a.place.now a.next.now a.text a.cost r.may c.in_ok-print.ensures.ok r.affords s)
+    c.stepped.ensures

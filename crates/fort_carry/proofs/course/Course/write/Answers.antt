@@ -1,0 +1,12 @@
+use Rattle.std.proofs.lemmas.Result.{IfOk-weaker}
+use Rattle.fort_carry.proofs.Stepped.{write_stands}
+use Rattle.fort_carry.proofs.course.Course.write.Goals as goal
+
+pub returns-clause-stands : goal.returns-clause-stands
+returns-clause-stands c =
+    let a = c.args in
+    let r = c.requires in
+    let adds = rw c.if-not-branch.false at c.in_ok-write.ensures.ok in
+    IfOk-weaker c.stepped.result _ _
+    (λ n s. write_stands a.program.now a.self n c.write.new.self a.place.now a.next.now a.loc.0 a.value r.may adds r.affords s)
+    c.stepped.ensures

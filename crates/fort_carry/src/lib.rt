@@ -1,0 +1,14 @@
+//! How far a run has come: the picks of each machine, what they did, and what carries a run on.
+//! The chapters "Runs", "Atomic" and "Journals" of docs/MACHINE.md.
+#![tactic(auto)]
+
+mod attempts;
+mod course;
+mod ending;
+mod first;
+mod fuel;
+mod steps;
+
+pub use attempts::single;
+pub use course::{Course, Going, Waiting};
+pub use ending::Ran;

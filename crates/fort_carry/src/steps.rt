@@ -1,0 +1,172 @@
+//! A step of the innermost machine.
+ghost use Rattle.std.specs.Prelude.{◌≡◌, ◌+◌, ◌≤◌, ◌<◌, ◌^◌, IfOk, IsSome, Some, length};
+ghost use Rattle.fort_machine.specs.Effects.{making, printed, reading, writing};
+ghost use Rattle.fort_effects.specs.Levels.{levels_of, seen};
+ghost use Rattle.fort_carry.specs.Courses.{StandsAt};
+ghost use Rattle.fort_carry.specs.Calls.{MayStep, StepsTo};
+
+use crate::course::Course;
+use fort_base::{Bytes, List, Loc, Memory, Shared};
+use fort_core::{Pick, Program, Term, Value};
+use fort_frames::Place;
+use std::alloc::Global;
+
+impl Course {
+    /// A step that prints a text, at a cost.
+    ///
+    /// # Errors
+    ///
+    /// `Memory` where memory is wanting.
+    #[tactic(auto, using(crate::proofs::Stepped::known_spent))]
+    pub fn print(
+        self,
+        alloc: Global,
+        program: &Program,
+        place: &Place,
+        next: &Shared<Term>,
+        text: Bytes,
+        cost: u64,
+    ) -> Result<Course, Memory>
+        requires may { MayStep program.now self place.now 0 next.now (printed text cost) }
+        requires affords { self.spent + cost ≤ self.fuel }
+        ensures stands { IfOk result (λ course. StandsAt program.now course place.now next.now) }
+        ensures fuel { IfOk result (λ course. course.fuel ≡ self.fuel) }
+    {
+        let _program = program;
+        let _next = next;
+        let mut course = self;
+        course.layers.print(text, cost)?;
+        course.stepped(alloc, place, Loc(0), cost)
+    }
+
+    /// A step that reads a location, in which is this value, at the cost of 1.
+    ///
+    /// # Errors
+    ///
+    /// `Memory` where memory is wanting.
+    #[tactic(auto, using(crate::proofs::Stepped::known_spent))]
+    pub fn read(
+        self,
+        alloc: Global,
+        program: &Program,
+        place: &Place,
+        next: &Shared<Term>,
+        loc: Loc,
+        value: &Value,
+    ) -> Result<Course, Memory>
+        requires may { MayStep program.now self place.now 0 next.now (reading loc.0 value.now) }
+        requires there { seen (levels_of self.layers) loc.0 ≡ Some value.now }
+        requires affords { self.spent + 1 ≤ self.fuel }
+        ensures stands { IfOk result (λ course. StandsAt program.now course place.now next.now) }
+        ensures fuel { IfOk result (λ course. course.fuel ≡ self.fuel) }
+    {
+        let _program = program;
+        let _next = next;
+        let _value = value;
+        let mut course = self;
+        match course.layers.read(loc)? {
+            None => unreachable!(),
+            Some(_read) => course.stepped(alloc, place, Loc(0), 1),
+        }
+    }
+
+    /// A step that writes a value to a location that is there, at the cost of 1.
+    ///
+    /// # Errors
+    ///
+    /// `Memory` where memory is wanting.
+    #[tactic(auto, using(crate::proofs::Stepped::known_spent))]
+    pub fn write(
+        self,
+        alloc: Global,
+        program: &Program,
+        place: &Place,
+        next: &Shared<Term>,
+        loc: Loc,
+        value: Value,
+    ) -> Result<Course, Memory>
+        requires may { MayStep program.now self place.now 0 next.now (writing loc.0 value) }
+        requires there { IsSome (seen (levels_of self.layers) loc.0) }
+        requires affords { self.spent + 1 ≤ self.fuel }
+        ensures stands { IfOk result (λ course. StandsAt program.now course place.now next.now) }
+        ensures fuel { IfOk result (λ course. course.fuel ≡ self.fuel) }
+    {
+        let _program = program;
+        let _next = next;
+        let mut course = self;
+        if !course.layers.write(loc, value)? {
+            unreachable!()
+        }
+        course.stepped(alloc, place, Loc(0), 1)
+    }
+
+    /// A step that puts values into new locations, the first of which has the lowest number above
+    /// all others, at a cost.
+    ///
+    /// # Errors
+    ///
+    /// `Memory` where memory is wanting, or where the numbers of locations are at their end.
+    #[tactic(auto, using(crate::proofs::Stepped::known_spent, crate::proofs::Stepped::fresh_free))]
+    pub fn make(
+        self,
+        alloc: Global,
+        program: &Program,
+        place: &Place,
+        next: &Shared<Term>,
+        values: &List<Value>,
+        cost: u64,
+    ) -> Result<Course, Memory>
+        requires may { MayStep program.now self place.now self.fresh next.now (making self.fresh values.now cost) }
+        requires affords { self.spent + cost ≤ self.fuel }
+        ensures stands { IfOk result (λ course. StandsAt program.now course place.now next.now) }
+        ensures fuel { IfOk result (λ course. course.fuel ≡ self.fuel) }
+    {
+        let _program = program;
+        let _next = next;
+        let mut course = self;
+        let first = Loc(course.fresh);
+        let above = above(course.fresh, values)?;
+        course.layers.make(first, values, cost)?;
+        course.fresh = above;
+        course.stepped(alloc, place, first, cost)
+    }
+
+    // One pick more, a step at a place, at a cost.
+    pub(crate) fn stepped(
+        self,
+        alloc: Global,
+        place: &Place,
+        loc: Loc,
+        cost: u64,
+    ) -> Result<Course, Memory>
+        requires { self.spent + cost ≤ self.fuel }
+        ensures { IfOk result (StepsTo self place.now loc.0 cost) }
+    {
+        let mut course = self;
+        course.picks.push(Pick::Step(place.path.copy(alloc)?, loc))?;
+        course.clock = risen(course.clock)?;
+        course.spent += cost;
+        Ok(course)
+    }
+}
+
+// The clock after one pick more.
+pub(crate) fn risen(clock: u64) -> Result<u64, Memory>
+    ensures { IfOk result (λ later. clock < later) }
+{
+    match clock.checked_add(1) {
+        None => Err(Memory),
+        Some(later) => Ok(later),
+    }
+}
+
+// The lowest number above those of new locations, the first of a number.
+fn above(fresh: u64, values: &List<Value>) -> Result<u64, Memory>
+    ensures sum { IfOk result (λ above. above ≡ fresh + length values.now) }
+    ensures bounded { IfOk result (λ above. above < 2 ^ 64) }
+{
+    match fresh.checked_add(values.len() as u64) {
+        None => Err(Memory),
+        Some(above) => Ok(above),
+    }
+}

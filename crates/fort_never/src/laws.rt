@@ -1,0 +1,14 @@
+ghost use Rattle.fort_never.specs.Never.{AcceptedNeverStops};
+
+use fort_sound::accepted_is_sound;
+use fort_typed::{someone_may_go, stays_typed};
+
+/// A law: each run of the program of an accepted file goes on to its end, `()`, a throw that nobody
+/// catches, or the end of the fuel. The chapter is "What is claimed" of docs/SOUNDNESS.md.
+pub fn accepted_never_stops()
+    ensures { AcceptedNeverStops }
+{
+    accepted_is_sound();
+    stays_typed();
+    someone_may_go();
+}

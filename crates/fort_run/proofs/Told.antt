@@ -1,0 +1,32 @@
+-- What is said of a run tells it.
+use Rattle.std.proofs.Common.{◌≢◌, ℕ, subst, sym}
+use Rattle.fort_core.specs.declared.journal.Ending.TheVariants.{NotRun}
+use Rattle.fort_core.specs.declared.program.Program.{Program}
+use Rattle.fort_core.specs.declared.term.Term.{Term}
+use Rattle.fort_machine.specs.Effects.{Effect}
+use Rattle.fort_machine.specs.Journals.{Ends, Records}
+use Rattle.fort_carry.specs.Calls.{IsRun}
+use Rattle.fort_carry.specs.declared.ending.Ran.{Ran}
+use Rattle.fort_run.specs.Reply.{TellsEnding, TellsRun}
+use Rattle.fort_run.specs.Said.{said, status_of, note_of}
+use Rattle.fort_run.specs.declared.answer.Answer.TheVariants as answer
+use Rattle.fort_run.specs.declared.answer.Told.{Told}
+
+no_end : (p : Program) (fuel : ℕ) (t : Term) (d : Effect) → Ends p fuel t d NotRun → ⊥
+no_end p fuel t d none = none
+
+-- A run has an ending.
+pub has_end : (p : Program) (fuel : ℕ) (ran : Ran) → IsRun p fuel ran → ran.journal.ending ≢ NotRun
+has_end p fuel ran is none = no_end p fuel is.run.term is.run.effect (subst (λ e. Ends p fuel is.run.term is.run.effect e) none is.run.records.ends)
+
+-- What is said of a run, where it tells how that ended.
+pub run_told : (p : Program) (fuel : ℕ) (ran : Ran) (end : Told) → IsRun p fuel ran → TellsEnding p ran.journal.ending (status_of end) (note_of end)
+    → TellsRun p fuel (said (answer.Ran ran.journal ran.output end))
+run_told p fuel ran end is tells = record {
+  term = is.run.term;
+  effect = is.run.effect;
+  records = subst (λ n. Records p (record { fuel = n; picks = ran.journal.picks; ending = ran.journal.ending }) is.run.term is.run.effect) (sym is.is_fuel) is.run.records;
+  is_fuel = is.is_fuel;
+  is_output = is.run.is_output;
+  tells = tells;
+}

@@ -1,0 +1,4 @@
+pub mod Suited
+pub mod Fits
+pub mod Founded
+pub mod Accepted

@@ -1,0 +1,52 @@
+ghost use Rattle.fort_sound.specs.Accepted.{AcceptedIsSound, AcceptedRunsWell, KeepersAreSound};
+
+use fort_apart::tokens_stand_apart;
+use fort_defined::sets_keep_rules;
+use fort_figures::forms_have_figures;
+use fort_matched::component_is_written;
+use fort_numerals::file_numbers_fit;
+use fort_ready::forms_are_ready;
+use fort_sound_bodies::members_have_bodies;
+use fort_sound_program::{
+    program_has_bodies, program_is_complete, program_is_sound, program_sets_keep,
+};
+use fort_typed::{no_run_is_stuck, reached_is_one, reached_is_typed, rules_define};
+
+/// A law: the program of a component that keeps all the rules is sound and complete, and each call
+/// of typed values in it has one definition. So the laws of runs are so of it. The chapter is
+/// "Accepted programs" of docs/SOUNDNESS.md.
+pub fn keepers_are_sound()
+    ensures { KeepersAreSound }
+{
+    component_is_written();
+    forms_are_ready();
+    members_have_bodies();
+    program_has_bodies();
+    program_is_sound();
+    program_is_complete();
+    program_sets_keep();
+    sets_keep_rules();
+    rules_define();
+    forms_have_figures();
+}
+
+/// A law: so it is of the program of a file whose tokens the check accepts.
+pub fn accepted_is_sound()
+    ensures { AcceptedIsSound }
+{
+    keepers_are_sound();
+    tokens_stand_apart();
+    file_numbers_fit();
+}
+
+/// A law: so wherever a machine of an accepted program comes to, the term is typed, each call of
+/// values in it has exactly one declaration that it runs, and it isn't stuck. The chapter is "What
+/// is claimed" of docs/SOUNDNESS.md.
+pub fn accepted_runs_well()
+    ensures { AcceptedRunsWell }
+{
+    accepted_is_sound();
+    reached_is_typed();
+    reached_is_one();
+    no_run_is_stuck();
+}

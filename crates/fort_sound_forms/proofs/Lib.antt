@@ -1,0 +1,17 @@
+pub mod Figures
+pub mod Names
+pub mod Stands
+pub mod Built
+pub mod Makers
+pub mod Facts
+pub mod Values
+pub mod Plain
+pub mod Simple
+pub mod Scoped
+pub mod Choices
+pub mod Chains
+pub mod Targets
+pub mod Compound
+pub mod Runs
+pub mod Blocks
+pub mod Sound

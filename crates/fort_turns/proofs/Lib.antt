@@ -1,0 +1,9 @@
+pub mod Idle
+pub mod Tries
+pub mod Past
+pub mod Taking
+pub mod Watched
+pub mod Trying
+pub mod Giving
+pub mod Begins
+pub mod Dealing

@@ -1,0 +1,3 @@
+pub mod Stops
+pub mod Walks
+pub mod Idles

@@ -1,0 +1,3 @@
+pub mod Ending
+pub mod Odd
+pub mod Moving

@@ -1,0 +1,102 @@
+//! The end of a machine's term, or of a sweep through it.
+ghost use Rattle.std.specs.Prelude.{◌≡◌, ◌↔◌, ◌&&◌, ◌||◌, IfOk, IsTrue};
+ghost use Rattle.fort_machine.specs.Acts.{unit};
+ghost use Rattle.fort_machine.specs.Attempts.{goes};
+ghost use Rattle.fort_machine.specs.Ends.{throw_of};
+ghost use Rattle.fort_frames.specs.declared.state.At.TheVariants as a_place;
+ghost use Rattle.fort_carry.specs.Courses.{HasCome};
+ghost use Rattle.fort_turns.specs.Idles.{Follows, IsAtEndOf};
+
+use fort_base::{Memory, Shared};
+use fort_carry::{Course, Going};
+use fort_core::{Program, Term, Value};
+use fort_frames::{At, Place, State};
+use fort_turns::{Next, Sweep, Walked, Walking, closed};
+use std::alloc::Global;
+
+/// The whole term of the innermost machine is finished, or each thread of it was passed.
+pub fn at_end(
+    alloc: Global,
+    program: &Program,
+    course: Course,
+    sweep: Sweep,
+    at: At,
+) -> Result<Next, Memory>
+    requires { IsAtEndOf program.now course sweep at }
+    ensures { IfOk result (Follows program.now course.fuel) }
+{
+    match at {
+        At::Value(value) => at_value(alloc, program, course, value),
+        At::Throw(value) => at_throw(alloc, program, course, value),
+        At::Left(term) => Ok(again(alloc, program, course, sweep, term)),
+        At::Form(_) => Err(Memory),
+    }
+}
+
+fn at_value(alloc: Global, program: &Program, course: Course, value: Value) -> Result<Next, Memory>
+    requires { HasCome program.now course (goes (Term.Value value)) }
+    ensures { IfOk result (Follows program.now course.fuel) }
+{
+    match course.turn() {
+        Some(taken) => {
+            let going = course.complete(alloc, program, value)?;
+            Ok(closed(program, going, taken))
+        }
+        None => {
+            if is_unit(&value) {
+                Ok(Next::Ends(Walked::Ran(course.end_completed(program))))
+            } else {
+                Ok(Next::Ends(Walked::Stuck))
+            }
+        }
+    }
+}
+
+fn at_throw(alloc: Global, program: &Program, course: Course, thrown: Value) -> Result<Next, Memory>
+    requires { HasCome program.now course (goes (throw_of thrown)) }
+    ensures { IfOk result (Follows program.now course.fuel) }
+{
+    match course.turn() {
+        Some(taken) => {
+            let going = course.fail(alloc, program, thrown)?;
+            Ok(closed(program, going, taken))
+        }
+        None => Ok(Next::Ends(Walked::Ran(course.end_uncaught(program, thrown)))),
+    }
+}
+
+fn is_unit(value: &Value) -> bool
+    ensures { IsTrue result ↔ (value.now ≡ unit) }
+{
+    match value {
+        Value::Tuple(parts) => parts.get().is_empty(),
+        _ => false,
+    }
+}
+
+// Another sweep: from the left end of the term, where picks were taken since its last one; with
+// the sleepers, where all sleep; else nobody goes on.
+fn again(alloc: Global, program: &Program, course: Course, sweep: Sweep, term: Shared<Term>) -> Next
+    requires { IsAtEndOf program.now course sweep (a_place.Left term) }
+    ensures { Follows program.now course.fuel result }
+{
+    let _program = program;
+    if all_passed(sweep) {
+        return Next::Ends(Walked::Stuck);
+    }
+    let place = Place::root(alloc);
+    let at = At::Form(term);
+    let state = State { place, at };
+    Next::Goes(Walking {
+        going: Going { course, state },
+        sweep: Sweep::new(sweep.idle),
+    })
+}
+
+// Whether no pick was taken in a sweep, though a thread was met that is awake, or sleepers were
+// tried.
+fn all_passed(sweep: Sweep) -> bool
+    ensures { result ≡ (sweep.idle && (sweep.stuck || sweep.wakes)) }
+{
+    sweep.idle && (sweep.stuck || sweep.wakes)
+}

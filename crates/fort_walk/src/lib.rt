@@ -1,0 +1,10 @@
+//! Walks of programs: a run, one thread after another, with attempts at any depth. The chapters
+//! "Runs", "Atomic" and "Journals" of docs/MACHINE.md.
+#![tactic(auto)]
+
+mod ends;
+mod walking;
+
+pub use fort_carry::Ran;
+pub use fort_turns::Walked;
+pub use walking::walk;
