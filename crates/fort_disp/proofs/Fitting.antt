@@ -1,5 +1,5 @@
 -- Arguments fit a declaration, one after another, exactly where it is applicable to them.
-use Rattle.std.proofs.Common.{◌≡◌, ◌==◌, ℕ, zero, suc, ◌<◌, ◌≤◌, Bool, true, false, ◌&&◌, List, [], ◌∷◌, length, map, get_or, Option, Some, None, ◌⊎◌, inl, inr, refl, sym, ap, ◌∙◌, subst, arith}
+use Rattle.std.proofs.Common.{◌≡◌, ◌==◌, ℕ, zero, suc, ◌+◌, ◌<◌, ◌≤◌, Bool, true, false, ◌&&◌, List, [], ◌∷◌, length, map, get_or, Option, Some, None, ◌⊎◌, inl, inr, refl, sym, ap, ◌∙◌, subst, arith}
 use Rattle.std.specs.Prelude.{slice_get, MatchOption}
 use Rattle.std.proofs.lemmas.Bool.{cases_lt, cases_order}
 use Rattle.std.proofs.lemmas.Bool.Decides.{Decides-eqb}
@@ -11,7 +11,7 @@ use Rattle.fort_core.specs.declared.program.Program.{Program}
 use Rattle.fort_core.specs.declared.value.Value.{Value}
 use Rattle.fort_machine.specs.Types.{all_below, has_type, type_of}
 use Rattle.fort_disp.specs.Fits.{asked, applies, takes, fits_first, fits, HoldsNowhere, HoldsThere, IsFirst, IsNone}
-use Rattle.fort_disp.proofs.Bools.{left_true, right_true, both_true, left_false, untrue, clash, asked_there, asked_fails, asked_same}
+use Rattle.fort_disp.proofs.Bools.{left_true, right_true, both_true, left_false, untrue, clash, asked_fails, asked_same}
 
 module _ (p : Program) where
   abbrev TakesEach : List Value → List Ty → ℕ → Type 0
@@ -77,19 +77,16 @@ module _ (p : Program) where
       (λ decl f. left_false (fits_first p vs decl.parameters n) (takes p (slice_get vs n) (slice_get decl.parameters n)) f) e
 
   -- what fits none up to one place and none from there on fits none
-  pub none_more : (vs : List Value) (n : ℕ) (row : List DeclId) (a b : ℕ) → HoldsNowhere (fits p vs n) row 0 a → HoldsNowhere (fits p vs (suc n)) row a b → HoldsNowhere (fits p vs (suc n)) row 0 b
+  none_more : (vs : List Value) (n : ℕ) (row : List DeclId) (a b : ℕ) → HoldsNowhere (fits p vs n) row 0 a → HoldsNowhere (fits p vs (suc n)) row a b → HoldsNowhere (fits p vs (suc n)) row 0 b
   none_more vs n row a b f g k d h l e = go (cases_lt k a)
     where
       go : (k < a) ⊎ (a ≤ k) → fits p vs (suc n) d ≡ false
       go (inl m) = no_more vs n d (f k d (omega arith) m e)
       go (inr m) = g k d m l e
 
-  pub one_more : (vs : List Value) (n : ℕ) (row : List DeclId) (a b : ℕ) → ((d : DeclId) → slice_get row a ≡ Some d → fits p vs n d ≡ false) → HoldsNowhere (fits p vs n) row (suc a) b → HoldsNowhere (fits p vs n) row a b
-  one_more vs n row a b f g k d h l e = go (cases_lt a k)
-    where
-      go : (a < k) ⊎ (k ≤ a) → fits p vs n d ≡ false
-      go (inl m) = g k d (omega arith) l e
-      go (inr m) = let same : k ≡ a = omega arith in f d (subst (λ i. slice_get row i ≡ Some d) same e)
+  pub none_after : (vs : List Value) (n : ℕ) (row : List DeclId) (a b : ℕ) → HoldsNowhere (fits p vs n) row 0 a → HoldsNowhere (fits p vs (n + 1)) row a b → HoldsNowhere (fits p vs (n + 1)) row 0 b
+  none_after vs n row a b f g = let e : n + 1 ≡ suc n = omega arith in
+      subst (λ m. HoldsNowhere (fits p vs m) row 0 b) (sym e) (none_more vs n row a b f (subst (λ m. HoldsNowhere (fits p vs m) row a b) e g))
 
   -- the answer of the whole search
   pub first_is : (vs : List Value) (row : List DeclId) (a : ℕ) (d : DeclId) → HoldsNowhere (fits p vs (length vs)) row 0 a → HoldsThere (fits p vs (length vs)) row a → slice_get row a ≡ Some d → IsFirst p vs row d
@@ -111,13 +108,3 @@ module _ (p : Program) where
       → MatchOption o (IsNone p vs row) (IsFirst p vs row)
   answered vs row a f g None e = none_is vs row a f (sym e)
   answered vs row a f g (Some d) e = first_is vs row a d f g (sym e)
-
-  -- a declaration that the arguments before fit takes one more exactly where they fit with it
-  pub one_on : (vs : List Value) (n : ℕ) (d : DeclId) (decl : CoreDecl) → slice_get p.decls d.0 ≡ Some decl → fits p vs n d ≡ true
-      → takes p (slice_get vs n) (slice_get decl.parameters n) ≡ fits p vs (suc n) d
-  one_on vs n d decl e f =
-      let b : fits_first p vs decl.parameters n ≡ true = sym (asked_there (slice_get p.decls d.0) (λ x. fits_first p vs x.parameters n) decl e) ∙ f in
-      sym (asked_there (slice_get p.decls d.0) (λ x. fits_first p vs x.parameters (suc n)) decl e ∙ ap (λ c. c && takes p (slice_get vs n) (slice_get decl.parameters n)) b)
-
-  pub none_on : (vs : List Value) (n : ℕ) (d : DeclId) → slice_get p.decls d.0 ≡ None → false ≡ fits p vs n d
-  none_on vs n d e = sym (ap (λ (o : Option CoreDecl). asked o (λ x. fits_first p vs x.parameters n)) e)

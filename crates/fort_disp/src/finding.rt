@@ -1,5 +1,5 @@
 //! The search through a row.
-ghost use Rattle.std.specs.Prelude.{◌≡◌, ◌≤◌, ◌+◌, true, length, map, slice_get, Some, None, MatchOption};
+ghost use Rattle.std.specs.Prelude.{◌≡◌, ◌≤◌, ◌<◌, ◌+◌, ◌^◌, true, length, map, slice_get, Some, None, MatchOption};
 ghost use Rattle.std.specs.Option.{option_copied};
 ghost use Rattle.fort_base.specs.declared.ids.DeclId.{DeclId};
 ghost use Rattle.fort_core.specs.declared.program.CoreDecl.{CoreDecl};
@@ -100,14 +100,12 @@ fn advanced(
     place: usize,
     at: usize,
 ) -> usize
+    requires within { place + 1 < 2 ^ 64 }
     requires stands { HoldsThere (fits_it program.now values.now place) row.now at }
     ensures passed { HoldsNowhere (fits_it program.now values.now (place + 1)) row.now at result }
     ensures stands { HoldsThere (fits_it program.now values.now (place + 1)) row.now result }
 {
-    if at >= row.len() {
-        return at;
-    }
-    if goes_on(program, row, values, place, at) {
+    if at >= row.len() || goes_on(program, row, values, place, at) {
         return at;
     }
     next(program, row, values, place + 1, at + 1)

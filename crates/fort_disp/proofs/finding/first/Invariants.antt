@@ -3,7 +3,7 @@ use Rattle.fort_disp.specs.Fits.{fits, HoldsNowhere, HoldsThere}
 use Rattle.fort_disp.proofs.finding.first.Given as goal
 
 abbrev pub invariant-loop-place : goal.invariant-loop-place
-invariant-loop-place l =
+invariant-loop-place g l =
     HoldsNowhere (fits l.program l.values l.place) l.row 0 l.at
     × HoldsThere (fits l.program l.values l.place) l.row l.at
-    × (l.steps.new ≡ l.steps.old + 1 + l.place)
+    × (l.steps ≡ l.fn.steps + 1 + l.place)
