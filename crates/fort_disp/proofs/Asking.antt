@@ -1,5 +1,5 @@
 -- More specific goes through, and what it is to be asked.
-use Rattle.std.proofs.Common.{◌≡◌, Bool, true, false, ◌&&◌, List, [], ◌∷◌, Some, refl, sym, ◌∙◌, ap}
+use Rattle.std.proofs.Common.{◌≡◌, true, List, [], ◌∷◌, Some, refl, ◌∙◌}
 use Rattle.std.specs.Prelude.{slice_get}
 use Rattle.fort_base.specs.declared.ids.DeclId.{DeclId}
 use Rattle.fort_base.specs.declared.ty.Ty.{Ty}
@@ -9,7 +9,7 @@ use Rattle.fort_machine.specs.Types.{below, all_below}
 use Rattle.fort_machine.specs.Calls.{IsMoreSpecific}
 use Rattle.fort_disp.specs.Rows.{GoesThrough}
 use Rattle.fort_disp.specs.Fits.{asked, goes_before}
-use Rattle.fort_disp.proofs.Bools.{left_true, right_true, both_true, asked_is, asked_there, one_some}
+use Rattle.fort_disp.proofs.Bools.{left_true, right_true, both_true, asked_is, asked_there}
 
 -- lists of types go through a third one
 pub each_through : (p : Program) → GoesThrough p → (us vs ws : List Ty) → all_below p us vs ≡ true → all_below p vs ws ≡ true → all_below p us ws ≡ true

@@ -1,16 +1,15 @@
 -- Arguments fit a declaration, one after another, exactly where it is applicable to them.
-use Rattle.std.proofs.Common.{◌≡◌, ◌==◌, ℕ, zero, suc, ◌+◌, ◌<◌, ◌≤◌, Bool, true, false, ◌&&◌, List, [], ◌∷◌, length, map, get_or, Option, Some, None, ◌⊎◌, inl, inr, refl, sym, ap, ◌∙◌, subst, arith}
+use Rattle.std.proofs.Common.{◌≡◌, ℕ, zero, suc, ◌+◌, ◌<◌, ◌≤◌, Bool, true, false, List, [], ◌∷◌, length, map, get_or, Option, Some, None, ◌⊎◌, inl, inr, refl, sym, ap, ◌∙◌, subst, arith}
 use Rattle.std.specs.Prelude.{slice_get, MatchOption}
-use Rattle.std.proofs.lemmas.Bool.{cases_lt, cases_order}
+use Rattle.std.proofs.lemmas.Bool.{cases_lt}
 use Rattle.std.proofs.lemmas.Bool.Decides.{Decides-eqb}
 use Rattle.std.proofs.lemmas.Option.{slice_get_within, slice_get-get_or}
 use Rattle.fort_base.specs.declared.ids.DeclId.{DeclId}
 use Rattle.fort_base.specs.declared.ty.Ty.{Ty}
-use Rattle.fort_core.specs.declared.program.CoreDecl.{CoreDecl}
 use Rattle.fort_core.specs.declared.program.Program.{Program}
 use Rattle.fort_core.specs.declared.value.Value.{Value}
 use Rattle.fort_machine.specs.Types.{all_below, has_type, type_of}
-use Rattle.fort_disp.specs.Fits.{asked, applies, takes, fits_first, fits, HoldsNowhere, HoldsThere, IsFirst, IsNone}
+use Rattle.fort_disp.specs.Fits.{applies, takes, fits_first, fits, HoldsNowhere, HoldsThere, IsFirst, IsNone}
 use Rattle.fort_disp.proofs.Bools.{left_true, right_true, both_true, left_false, untrue, clash, asked_fails, asked_same}
 
 module _ (p : Program) where

@@ -1,5 +1,5 @@
 -- A row with one declaration more is in order, and the rows of sets are found by their numbers.
-use Rattle.std.proofs.Common.{◌≡◌, ℕ, zero, suc, ◌<◌, Bool, true, false, List, [], ◌∷◌, ◌++◌, length, take, drop, Some, None, ◌⊎◌, inl, inr, refl, sym, ap, ◌∙◌, subst, arith}
+use Rattle.std.proofs.Common.{◌≡◌, ℕ, zero, suc, ◌<◌, true, false, List, [], ◌∷◌, ◌++◌, Some, ◌⊎◌, inl, inr, refl, sym, ◌∙◌, subst, arith}
 use Rattle.std.specs.Prelude.{Contains, slice_get}
 use Rattle.std.specs.List.{insert}
 use Rattle.std.proofs.lemmas.List.Elements.{Contains-append_left, Contains-append_right, Contains-append_cases}
@@ -11,13 +11,10 @@ use Rattle.fort_machine.specs.Calls.{IsMoreSpecific}
 use Rattle.fort_disp.specs.Rows.{GoesThrough, MayPrecede, IsInOrder, IsRow, AreRows}
 use Rattle.fort_disp.specs.Fits.{goes_before, HoldsNowhere, HoldsThere}
 use Rattle.fort_disp.proofs.Bools.{clash, one_some}
-use Rattle.fort_disp.proofs.Places.{has_place, member, none_in, later, first_or_later, inserted, newest, older}
+use Rattle.fort_disp.proofs.Places.{member, none_in, first_or_later, inserted, newest, older}
 use Rattle.fort_disp.proofs.Asking.{each_through, before_is, specific_before}
 
 module _ (p : Program) where
-  abbrev Same : DeclId → CoreDecl → CoreDecl → Type 0
-  Same d a b = a ≡ b
-
   -- of one number there is one declaration
   one : (d : DeclId) (a b : CoreDecl) → slice_get p.decls d.0 ≡ Some a → slice_get p.decls d.0 ≡ Some b → a ≡ b
   one d a b e f = one_some a b (sym e ∙ f)

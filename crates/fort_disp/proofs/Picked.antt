@@ -1,5 +1,5 @@
 -- The first applicable declaration of a set's row is the one that a call runs, where it runs one.
-use Rattle.std.proofs.Common.{◌≡◌, ◌≢◌, ◌==◌, ℕ, ◌<◌, Bool, true, false, List, map, length, Option, Some, None, ◌⊎◌, inl, inr, refl, sym, ap, ◌∙◌, subst}
+use Rattle.std.proofs.Common.{◌≡◌, ◌≢◌, ◌==◌, ℕ, ◌<◌, Bool, true, false, List, map, Option, Some, None, ◌⊎◌, inl, inr, refl, sym, ap, ◌∙◌, subst}
 use Rattle.std.specs.Prelude.{Contains, slice_get, MatchOption}
 use Rattle.std.proofs.lemmas.Bool.{cases_order}
 use Rattle.std.proofs.lemmas.Bool.Decides.{Decides-eqb}
@@ -11,7 +11,7 @@ use Rattle.fort_core.specs.declared.program.CoreSet.{CoreSet}
 use Rattle.fort_core.specs.declared.program.Program.{Program}
 use Rattle.fort_core.specs.declared.value.Value.{Value}
 use Rattle.fort_machine.specs.Types.{all_below, type_of}
-use Rattle.fort_machine.specs.Calls.{IsApplicable, IsMoreSpecific, IsMostSpecific, Dispatches}
+use Rattle.fort_machine.specs.Calls.{IsApplicable, IsMoreSpecific, Dispatches}
 use Rattle.fort_disp.specs.Rows.{GoesThrough, IsRow, AreRows}
 use Rattle.fort_disp.specs.Fits.{applies, IsFirst, IsNone}
 use Rattle.fort_disp.proofs.Bools.{clash, asked_is, asked_there, one_some}
@@ -23,9 +23,6 @@ same_number : (d e : DeclId) → d.0 ≡ e.0 → d ≡ e
 same_number d e q = ap (λ (n : ℕ). let m : DeclId = record { 0 = n } in m) q
 
 module _ (p : Program) (set : SetId) (vs : List Value) (m : CoreSet) (q : slice_get p.sets set.0 ≡ Some m) (row : List DeclId) (r : IsRow p m.decls row) where
-  abbrev types : List Ty
-  types = map (type_of p) vs
-
   -- what is applicable has a place in the row, and applies
   placed : (d : DeclId) (decl : CoreDecl) → IsApplicable p set (map (type_of p) vs) d decl → (k : ℕ) × (slice_get row k ≡ Some d)
   placed d decl a = has_place row d (r.all d (subst (λ (n : CoreSet). Contains n.decls d) (one_some a.members m (sym a.is_set ∙ q)) a.is_member))

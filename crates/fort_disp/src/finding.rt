@@ -29,7 +29,8 @@ fn takes(program: &Program, decl: &CoreDecl, values: &List<Value>, place: usize)
     }
 }
 
-// Whether there are as many arguments as parameters, and the first so many have the parameters' types.
+// Whether there are as many arguments as parameters, and the first so many have the parameters'
+// types.
 fn suits(program: &Program, decl: &CoreDecl, values: &List<Value>, count: usize) -> bool
     ensures { result ≡ fits_first program.now values.now decl.now.parameters count }
 {
@@ -53,14 +54,9 @@ fn fits(program: &Program, number: DeclId, values: &List<Value>, count: usize) -
     }
 }
 
-// The first place from one on whose declaration the first so many arguments fit; the row's end where there is none.
-fn next(
-    program: &Program,
-    row: &[DeclId],
-    values: &List<Value>,
-    count: usize,
-    from: usize,
-) -> usize
+// The first place from one on whose declaration the first so many arguments fit; the row's end
+// where there is none.
+fn next(program: &Program, row: &[DeclId], values: &List<Value>, count: usize, from: usize) -> usize
     ensures passed { HoldsNowhere (fits_it program.now values.now count) row.now from result }
     ensures stands { HoldsThere (fits_it program.now values.now count) row.now result }
 {
@@ -73,13 +69,7 @@ fn next(
 }
 
 // Whether the declaration in a place of a row takes one argument more.
-fn goes_on(
-    program: &Program,
-    row: &[DeclId],
-    values: &List<Value>,
-    place: usize,
-    at: usize,
-) -> bool
+fn goes_on(program: &Program, row: &[DeclId], values: &List<Value>, place: usize, at: usize) -> bool
     ensures { (d : DeclId) → slice_get row.now at ≡ Some d → fits_it program.now values.now place d ≡ true → result ≡ fits_it program.now values.now (place + 1) d }
 {
     let number = match row.get(at) {
@@ -92,7 +82,8 @@ fn goes_on(
     }
 }
 
-// The first place of a row on whose declaration one argument more fits, from one on that the arguments before fit.
+// The first place of a row on whose declaration one argument more fits, from one on that the
+// arguments before fit.
 fn advanced(
     program: &Program,
     row: &[DeclId],
@@ -111,8 +102,8 @@ fn advanced(
     next(program, row, values, place + 1, at + 1)
 }
 
-// The first applicable declaration of a row: a step for the row's first declaration of as many parameters, and one for each
-// argument.
+// The first applicable declaration of a row: a step for the row's first declaration of as many
+// parameters, and one for each argument.
 fn first<L: Ledger>(
     program: &Program,
     row: &[DeclId],
@@ -131,11 +122,11 @@ fn first<L: Ledger>(
     row.get(at).copied()
 }
 
-/// The declaration that a call of values runs where it runs one, and else some applicable declaration, or `None` where none is
-/// applicable.
+/// The declaration that a call of values runs where it runs one, and else some applicable
+/// declaration, or `None` where none is applicable.
 ///
-/// At most as many steps are taken as there are values, and one; each is bounded by the size of the parameter types that are
-/// written in the set. It takes no memory. The chapter "Calls".
+/// At most as many steps are taken as there are values, and one; each is bounded by the size of
+/// the parameter types that are written in the set. It takes no memory. The chapter "Calls".
 pub fn found<L: Ledger>(
     tables: &Tables,
     set: SetId,
@@ -156,11 +147,11 @@ pub fn found<L: Ledger>(
     }
 }
 
-/// The declaration that a call of values runs: the one that is applicable to them and more specific than each other
-/// applicable one.
+/// The declaration that a call of values runs: the one that is applicable to them and more
+/// specific than each other applicable one.
 ///
-/// At most as many steps are taken as there are values, and one; each is bounded by the size of the parameter types that are
-/// written in the set. It takes no memory. The chapter "Calls".
+/// At most as many steps are taken as there are values, and one; each is bounded by the size of
+/// the parameter types that are written in the set. It takes no memory. The chapter "Calls".
 pub fn pick<L: Ledger>(
     tables: &Tables,
     set: SetId,

@@ -1,5 +1,5 @@
-//! The one declaration that a call of values runs, in few steps: the declarations of each set in an order, the more specific
-//! ones before those that are above them.
+//! The one declaration that a call of values runs, in few steps: the declarations of each set in
+//! an order, the more specific ones before those that are above them.
 #![tactic(auto)]
 
 mod finding;

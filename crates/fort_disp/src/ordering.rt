@@ -38,11 +38,7 @@ fn place(program: &Program, row: &[DeclId], number: DeclId) -> usize
 }
 
 // The row of a set.
-fn row_of(
-    alloc: Global,
-    program: &Program,
-    members: &[DeclId],
-) -> Result<List<DeclId>, Memory>
+fn row_of(alloc: Global, program: &Program, members: &[DeclId]) -> Result<List<DeclId>, Memory>
     ensures { IfOk result (IsRow program.now members.now) }
 {
     let mut row = Vec::new(alloc);
@@ -53,7 +49,8 @@ fn row_of(
     Ok(List::from_vec(row))
 }
 
-/// The tables of a program. At most half the square of a set's declarations is compared for it. The chapter "Calls".
+/// The tables of a program. At most half the square of a set's declarations is compared for it.
+/// The chapter "Calls".
 ///
 /// # Errors
 ///

@@ -13,11 +13,10 @@ advanced-at-requires g c = record { within = let t = c.loop-place-test.true in l
 pub loop-place-preserved : goal.loop-place-preserved
 loop-place-preserved g c =
     let t = c.tick-in-loop-place.ensures in
-    let i = c.loop-place.invariant.2 in
-    (
-    none_after c.args.program.now c.args.values.now c.loop-place.place c.args.row.now c.loop-place.at c.advanced-at.result c.loop-place.invariant.0 c.advanced-at.ensures.passed,
-    c.advanced-at.ensures.stands,
-    omega (arith, t, i),
+    let i = c.loop-place.invariant.2 in (
+      none_after c.args.program.now c.args.values.now c.loop-place.place c.args.row.now c.loop-place.at c.advanced-at.result c.loop-place.invariant.0 c.advanced-at.ensures.passed,
+      c.advanced-at.ensures.stands,
+      omega (arith, t, i),
     )
 
 pub returns-clause-first : goal.returns-clause-first

@@ -1,7 +1,6 @@
 use Rattle.std.proofs.Common.{◌≡◌, Option, Some, refl, sym, ◌∙◌, subst}
 use Rattle.std.specs.Option.{IsSome}
 use Rattle.fort_base.specs.declared.ids.DeclId.{DeclId}
-use Rattle.fort_core.specs.declared.program.CoreDecl.{CoreDecl}
 use Rattle.fort_machine.specs.Calls.{Dispatches}
 use Rattle.fort_disp.proofs.Bools.{one_some}
 use Rattle.fort_disp.proofs.finding.pick.Goals as goal

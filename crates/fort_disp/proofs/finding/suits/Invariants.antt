@@ -1,4 +1,4 @@
-use Rattle.std.proofs.Common.{◌≡◌, true, length}
+use Rattle.std.proofs.Common.{◌≡◌, true}
 use Rattle.fort_disp.specs.Fits.{fits_first}
 use Rattle.fort_disp.proofs.finding.suits.Given as goal
 

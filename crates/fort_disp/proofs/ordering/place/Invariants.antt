@@ -1,4 +1,3 @@
-use Rattle.std.proofs.Common.{ℕ}
 use Rattle.fort_disp.specs.Fits.{goes_before, HoldsNowhere}
 use Rattle.fort_disp.proofs.ordering.place.Given as goal
 
