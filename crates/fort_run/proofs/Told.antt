@@ -7,7 +7,7 @@ use Rattle.fort_machine.specs.Effects.{Effect}
 use Rattle.fort_machine.specs.Journals.{Ends, Records}
 use Rattle.fort_carry.specs.Calls.{IsRun}
 use Rattle.fort_carry.specs.declared.ending.Ran.{Ran}
-use Rattle.fort_run.specs.Reply.{AlwaysOne, TellsEnding, TellsRun}
+use Rattle.fort_run.specs.Reply.{AlwaysOne, TellsEnding, TellsRun, its_output}
 use Rattle.fort_run.specs.Said.{said, status_of, note_of}
 use Rattle.fort_run.specs.declared.answer.Answer.TheVariants as answer
 use Rattle.fort_run.specs.declared.answer.Told.{Told}
@@ -21,7 +21,7 @@ has_end p fuel ran is none = no_end p fuel is.run.term is.run.effect (subst (λ 
 
 -- What is said of a run, where it tells how that ended.
 pub run_told : (p : Program) (fuel : ℕ) (ran : Ran) (end : Told) → IsRun p fuel ran → AlwaysOne p → TellsEnding p ran.journal.ending (status_of end) (note_of end)
-    → TellsRun p fuel (said (answer.Ran ran.journal ran.output end))
+    → TellsRun its_output p fuel (said (answer.Ran ran.journal ran.output end))
 run_told p fuel ran end is one tells = record {
   term = is.run.term;
   effect = is.run.effect;
