@@ -14,4 +14,4 @@ returns-in-Ran c =
     c.recorded.ensures
 
 pub returns-in_default : goal.returns-in_default
-returns-in_default c = none_recorded c.args.name c.args.file.now c.args.fuel c.in_ok-other.field-0 c.in_default.not-Ran c.in_ok-other.ensures
+returns-in_default c = none_recorded c.args.name c.args.file.now c.args.fuel c.in_ok-other.other c.in_default.not-Ran c.in_ok-other.ensures
