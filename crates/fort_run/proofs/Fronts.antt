@@ -2,7 +2,7 @@
 use Rattle.std.proofs.Common.{◌≡◌, ℕ, ◌+◌, ◌*◌, ◌<◌, ◌≤◌, List, [], ◌∷◌, ◌++◌, length, drop, ap, sym, ◌∙◌, arith, refl, append_assoc, length-append, append-nil, Result, Ok, Err, IfErr}
 use Rattle.std.proofs.Math.Seq.{drop-append_seam}
 use Rattle.fort_port.specs.Outside.{Holding, Untold, Absent, Held, Gives}
-use Rattle.fort_run.specs.Reply.{IsFile, file_limit}
+use Rattle.fort_run.specs.Reply.{IsFile}
 use Rattle.fort_bench.specs.Bank.{bank}
 use Rattle.fort_cmd.specs.declared.command.Command.TheVariants.{Bench}
 use Rattle.fort_run.specs.Fronts.{IsFrontOf, IsTooLarge, StopsAt}

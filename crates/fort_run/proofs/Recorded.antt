@@ -1,7 +1,7 @@
 -- What is said of a run with its record in the place of its output.
-use Rattle.std.proofs.Common.{◌≡◌, ℕ, List, ap, sym, ◌∙◌, refl}
+use Rattle.std.proofs.Common.{◌≡◌, ℕ, List, ap, refl}
 use Rattle.fort_core.specs.declared.journal.Journal.{Journal}
-use Rattle.fort_run.specs.Reply.{Reply, RunSays, Runs, Refuses, TellsRun, its_output, its_record}
+use Rattle.fort_run.specs.Reply.{Reply, RunSays, Runs, Refuses, its_output, its_record}
 use Rattle.fort_run.specs.Said.{said, status_of}
 use Rattle.fort_run.specs.declared.answer.Answer.{Answer}
 use Rattle.fort_run.specs.declared.answer.Answer.TheVariants.{Ran, Accepted, Shown, Refused, NoCommand, Unread, TooLarge, RecordRefused}
