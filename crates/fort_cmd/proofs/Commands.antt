@@ -1,158 +1,217 @@
 -- The commands that words are.
-use Rattle.std.proofs.Common.{◌≡◌, ℕ, List, [], ◌∷◌, get_or, refl, ap, sym, ◌∙◌, subst, arith, inl, inr, true, false, Result, IfOk}
-use Rattle.std.specs.Prelude.{◌⊎◌, codes, Option, Some, None, MatchOption, is_some, option_map, unwrap_or}
-use Rattle.std.specs.Borrow.{Bor}
+use Rattle.std.proofs.Common.{◌≡◌, ℕ, ◌+◌, List, [], ◌∷◌, length, get_or, refl, ap, sym, ◌∙◌, subst, false, Result, IfOk, IfErr}
+use Rattle.std.proofs.lemmas.Bool.{eqb-false}
+use Rattle.std.specs.Prelude.{codes, nat_eq, unwrap_or}
 use Rattle.fort_cmd.specs.declared.command.CmdFault.{CmdFault}
 use Rattle.fort_cmd.specs.declared.command.Command.{Command}
-use Rattle.fort_cmd.specs.declared.command.Command.TheVariants.{Check, Show, Run, Bench}
-use Rattle.fort_cmd.specs.declared.asked.Asked.{Asked}
-use Rattle.fort_cmd.specs.Words.{IsNumber, Given, nothing, Gives, Stands, alone, IsRun, IsBench, IsCommand, IsNoCommand, OneCommand, default_workers, default_fuel, most_accounts}
-use Rattle.fort_cmd.specs.Asked.{given}
+use Rattle.fort_cmd.specs.declared.command.Command.TheVariants.{Check, Show, Run, Bench, Record, Audit}
+use Rattle.fort_cmd.specs.Words.{IsNumber, Given, nothing, Gives, only, AsksRun, AsksBank, word_of, Asks, IsCommand, IsNoCommand, Explains, OneCommand, default_workers, default_fuel, most_accounts}
 use Rattle.fort_cmd.proofs.Parts.{one_given}
 
-same_behind : (word : List ℕ) (one two : List (List ℕ)) → word ∷ one ≡ word ∷ two → two ≡ one
-same_behind word one two e = cc
+-- ---- the commands' own words
 
--- the first letter of the first word
-abbrev letter : List (List ℕ) → ℕ
-letter ws = get_or (get_or ws 0 []) 0 0
+same_word : (one two : List ℕ) (ws rest : List (List ℕ)) → one ∷ ws ≡ two ∷ rest → one ≡ two
+same_word one two ws rest e = cc
 
-check_bench : (one two : List (List ℕ)) → codes "check" ∷ one ≡ codes "bench" ∷ two → ⊥
-check_bench one two e = let z : 99 ≡ 98 = ap letter e in omega (arith, z)
+same_behind : (one two : List ℕ) (ws rest : List (List ℕ)) → one ∷ ws ≡ two ∷ rest → rest ≡ ws
+same_behind one two ws rest e = cc
 
-same_file : (a b : List ℕ) → alone a ≡ alone b → a ≡ b
-same_file a b e = let z : Some a ≡ Some b = ap (λ (g : Given). g.file) e in cc
+-- a number by which the commands' own words differ
+abbrev sum_of : List ℕ → ℕ
+sum_of word = length word + get_or word 0 0
 
-some_or_none : {A : Type 0} (o : Option A) → is_some o ≡ true → o ≡ None → ⊥
-some_or_none o p e = let z : true ≡ false = sym p ∙ ap is_some e in cc
+unlike : (one two : List ℕ) → nat_eq (sum_of one) (sum_of two) ≡ false → one ≡ two → ⊥
+unlike one two d e = eqb-false (sum_of one) (sum_of two) d (ap sum_of e)
 
--- ---- a file and no option
+-- ---- no command of a word
 
-pub optioned : (ws : List (List ℕ)) (a : Asked) → Gives ws nothing (given a) → (is_some a.workers ≡ true) ⊎ (is_some a.fuel ≡ true)
-    → (file : List ℕ) → Gives ws nothing (alone file) → ⊥
-optioned ws a x (inl w) file y = some_or_none a.workers w (ap (λ (g : Given). g.workers) (one_given ws nothing (given a) (alone file) x y))
-optioned ws a x (inr w) file y = some_or_none a.fuel w (ap (λ (g : Given). g.fuel) (one_given ws nothing (given a) (alone file) x y))
+none_asked : (word : List ℕ) (ws : List (List ℕ)) → ((c : Command) → word ≡ word_of c → Asks ws c → ⊥) → IsNoCommand (word ∷ ws)
+none_asked word ws none c is =
+    none c (same_word word (word_of c) ws is.behind is.words_are) (subst (λ x. Asks x c) (same_behind word (word_of c) ws is.behind is.words_are) is.asks)
 
-alone_by : (ws : List (List ℕ)) (file : Option (Bor (List ℕ))) (workers fuel : Option ℕ)
-    → Gives ws nothing (record { file = option_map (λ f. f.now) file; workers = workers; fuel = fuel }) → is_some workers ≡ false → is_some fuel ≡ false
-    → MatchOption file ((f : List ℕ) → Gives ws nothing (alone f) → ⊥) (λ f. Gives ws nothing (alone f.now))
-alone_by ws (Some f) None None x p q = x
-alone_by ws None None None x p q = λ f y. let z : None ≡ Some f = ap (λ (g : Given). g.file) (one_given ws nothing nothing (alone f) x y) in cc
-alone_by ws file (Some w) fuel x p q = absurd cc
-alone_by ws file None (Some w) x p q = absurd cc
+pub no_check_command : (ws : List (List ℕ)) → ((file : List ℕ) → Gives ws nothing (only (file ∷ [])) → ⊥)
+    → IsNoCommand (codes "check" ∷ ws)
+no_check_command ws none = none_asked (codes "check") ws go
+  where
+    go : (c : Command) → codes "check" ≡ word_of c → Asks ws c → ⊥
+    go (Check file) e x = none file x
+    go (Show file) e x = unlike (codes "check") (codes "show") refl e
+    go (Run file workers fuel) e x = unlike (codes "check") (codes "run") refl e
+    go (Bench n) e x = unlike (codes "check") (codes "bench") refl e
+    go (Record file workers fuel) e x = unlike (codes "check") (codes "record") refl e
+    go (Audit file kept) e x = unlike (codes "check") (codes "audit") refl e
 
-pub only_file : (ws : List (List ℕ)) (a : Asked) → Gives ws nothing (given a) → is_some a.workers ≡ false → is_some a.fuel ≡ false
-    → MatchOption a.file ((f : List ℕ) → Gives ws nothing (alone f) → ⊥) (λ f. Gives ws nothing (alone f.now))
-only_file ws a x p q = alone_by ws a.file a.workers a.fuel x p q
+pub no_show_command : (ws : List (List ℕ)) → ((file : List ℕ) → Gives ws nothing (only (file ∷ [])) → ⊥)
+    → IsNoCommand (codes "show" ∷ ws)
+no_show_command ws none = none_asked (codes "show") ws go
+  where
+    go : (c : Command) → codes "show" ≡ word_of c → Asks ws c → ⊥
+    go (Check file) e x = unlike (codes "show") (codes "check") refl e
+    go (Show file) e x = none file x
+    go (Run file workers fuel) e x = unlike (codes "show") (codes "run") refl e
+    go (Bench n) e x = unlike (codes "show") (codes "bench") refl e
+    go (Record file workers fuel) e x = unlike (codes "show") (codes "record") refl e
+    go (Audit file kept) e x = unlike (codes "show") (codes "audit") refl e
 
--- ---- no command of that word
+pub no_run_command : (ws : List (List ℕ)) → ((file : List ℕ) (workers fuel : ℕ) → AsksRun ws file workers fuel → ⊥)
+    → IsNoCommand (codes "run" ∷ ws)
+no_run_command ws none = none_asked (codes "run") ws go
+  where
+    go : (c : Command) → codes "run" ≡ word_of c → Asks ws c → ⊥
+    go (Check file) e x = unlike (codes "run") (codes "check") refl e
+    go (Show file) e x = unlike (codes "run") (codes "show") refl e
+    go (Run file workers fuel) e x = none file workers fuel x
+    go (Bench n) e x = unlike (codes "run") (codes "bench") refl e
+    go (Record file workers fuel) e x = unlike (codes "run") (codes "record") refl e
+    go (Audit file kept) e x = unlike (codes "run") (codes "audit") refl e
 
-pub no_run_command : (ws : List (List ℕ)) → ((g : Given) (file : List ℕ) → Gives ws nothing g → g.file ≡ Some file → ⊥) → IsNoCommand (codes "run" ∷ ws)
-no_run_command ws none (Run file workers fuel) is =
-    none is.given file (subst (λ x. Gives x nothing is.given) (same_behind (codes "run") ws is.stands.behind is.stands.words_are) is.stands.gives) is.file_is
-no_run_command ws none (Check file) is = let z : codes "run" ∷ ws ≡ codes "check" ∷ is.behind = is.words_are in cc
-no_run_command ws none (Show file) is = let z : codes "run" ∷ ws ≡ codes "show" ∷ is.behind = is.words_are in cc
-no_run_command ws none (Bench n) is = let z : codes "run" ∷ ws ≡ codes "bench" ∷ is.stands.behind = is.stands.words_are in cc
-
-pub no_check_command : (ws : List (List ℕ)) → ((file : List ℕ) → Gives ws nothing (alone file) → ⊥) → IsNoCommand (codes "check" ∷ ws)
-no_check_command ws none (Check file) is = none file (subst (λ x. Gives x nothing (alone file)) (same_behind (codes "check") ws is.behind is.words_are) is.gives)
-no_check_command ws none (Show file) is = let z : codes "check" ∷ ws ≡ codes "show" ∷ is.behind = is.words_are in cc
-no_check_command ws none (Run file workers fuel) is = let z : codes "check" ∷ ws ≡ codes "run" ∷ is.stands.behind = is.stands.words_are in cc
-no_check_command ws none (Bench n) is = check_bench ws is.stands.behind is.stands.words_are
-
-pub no_show_command : (ws : List (List ℕ)) → ((file : List ℕ) → Gives ws nothing (alone file) → ⊥) → IsNoCommand (codes "show" ∷ ws)
-no_show_command ws none (Show file) is = none file (subst (λ x. Gives x nothing (alone file)) (same_behind (codes "show") ws is.behind is.words_are) is.gives)
-no_show_command ws none (Check file) is = let z : codes "show" ∷ ws ≡ codes "check" ∷ is.behind = is.words_are in cc
-no_show_command ws none (Run file workers fuel) is = let z : codes "show" ∷ ws ≡ codes "run" ∷ is.stands.behind = is.stands.words_are in cc
-no_show_command ws none (Bench n) is = let z : codes "show" ∷ ws ≡ codes "bench" ∷ is.stands.behind = is.stands.words_are in cc
-
-pub no_bench_command : (ws : List (List ℕ)) → ((number : List ℕ) (n : ℕ) → Gives ws nothing (alone number) → IsNumber most_accounts number n → ⊥)
+pub no_bench_command : (ws : List (List ℕ)) → ((number : List ℕ) (n : ℕ) → Gives ws nothing (only (number ∷ [])) → IsNumber most_accounts number n → ⊥)
     → IsNoCommand (codes "bench" ∷ ws)
-no_bench_command ws none (Bench n) is =
-    none is.number n (subst (λ x. Gives x nothing (alone is.number)) (same_behind (codes "bench") ws is.stands.behind is.stands.words_are) is.stands.gives) is.is
-no_bench_command ws none (Check file) is = check_bench is.behind ws (sym is.words_are)
-no_bench_command ws none (Show file) is = let z : codes "bench" ∷ ws ≡ codes "show" ∷ is.behind = is.words_are in cc
-no_bench_command ws none (Run file workers fuel) is = let z : codes "bench" ∷ ws ≡ codes "run" ∷ is.stands.behind = is.stands.words_are in cc
+no_bench_command ws none = none_asked (codes "bench") ws go
+  where
+    go : (c : Command) → codes "bench" ≡ word_of c → Asks ws c → ⊥
+    go (Check file) e x = unlike (codes "bench") (codes "check") refl e
+    go (Show file) e x = unlike (codes "bench") (codes "show") refl e
+    go (Run file workers fuel) e x = unlike (codes "bench") (codes "run") refl e
+    go (Bench n) e x = none x.number n x.gives x.is
+    go (Record file workers fuel) e x = unlike (codes "bench") (codes "record") refl e
+    go (Audit file kept) e x = unlike (codes "bench") (codes "audit") refl e
 
--- Words that give no file are no command to run.
-pub without_file : (ws : List (List ℕ)) (a : Asked) → Gives ws nothing (given a) → a.file ≡ None → IsNoCommand (codes "run" ∷ ws)
-without_file ws a x e = no_run_command ws (λ g file y is.
-    let same : given a ≡ g = one_given ws nothing (given a) g x y in
-    let z : None ≡ Some file = sym (ap (option_map (λ (f : Bor (List ℕ)). f.now)) e) ∙ ap (λ (g : Given). g.file) same ∙ is in cc)
+pub no_record_command : (ws : List (List ℕ)) → ((file : List ℕ) (workers fuel : ℕ) → AsksRun ws file workers fuel → ⊥)
+    → IsNoCommand (codes "record" ∷ ws)
+no_record_command ws none = none_asked (codes "record") ws go
+  where
+    go : (c : Command) → codes "record" ≡ word_of c → Asks ws c → ⊥
+    go (Check file) e x = unlike (codes "record") (codes "check") refl e
+    go (Show file) e x = unlike (codes "record") (codes "show") refl e
+    go (Run file workers fuel) e x = unlike (codes "record") (codes "run") refl e
+    go (Bench n) e x = unlike (codes "record") (codes "bench") refl e
+    go (Record file workers fuel) e x = none file workers fuel x
+    go (Audit file kept) e x = unlike (codes "record") (codes "audit") refl e
+
+pub no_audit_command : (ws : List (List ℕ)) → ((file kept : List ℕ) → Gives ws nothing (only (file ∷ kept ∷ [])) → ⊥)
+    → IsNoCommand (codes "audit" ∷ ws)
+no_audit_command ws none = none_asked (codes "audit") ws go
+  where
+    go : (c : Command) → codes "audit" ≡ word_of c → Asks ws c → ⊥
+    go (Check file) e x = unlike (codes "audit") (codes "check") refl e
+    go (Show file) e x = unlike (codes "audit") (codes "show") refl e
+    go (Run file workers fuel) e x = unlike (codes "audit") (codes "run") refl e
+    go (Bench n) e x = unlike (codes "audit") (codes "bench") refl e
+    go (Record file workers fuel) e x = unlike (codes "audit") (codes "record") refl e
+    go (Audit file kept) e x = none file kept x
+
+same_file : (a b : List ℕ) → only (a ∷ []) ≡ only (b ∷ []) → a ≡ b
+same_file a b e = let z : a ∷ [] ≡ b ∷ [] = ap (λ (g : Given). g.files) e in cc
 
 -- Words that give one word which is no number of accounts are no bank.
-pub without_number : (ws : List (List ℕ)) (number : List ℕ) → Gives ws nothing (alone number) → ((n : ℕ) → IsNumber most_accounts number n → ⊥)
+pub without_number : (ws : List (List ℕ)) (number : List ℕ) → Gives ws nothing (only (number ∷ [])) → ((n : ℕ) → IsNumber most_accounts number n → ⊥)
     → IsNoCommand (codes "bench" ∷ ws)
 without_number ws number x none = no_bench_command ws (λ other n y is.
-    none n (subst (λ w. IsNumber most_accounts w n) (sym (same_file number other (one_given ws nothing (alone number) (alone other) x y))) is))
+    none n (subst (λ w. IsNumber most_accounts w n) (sym (same_file number other (one_given ws nothing (only (number ∷ [])) (only (other ∷ [])) x y))) is))
 
--- ---- a command of that word
+-- ---- a command of a word
 
-pub is_stands : (ws : List (List ℕ)) (word : List ℕ) (g : Given) → Gives ws nothing g → Stands (word ∷ ws) word g
-is_stands ws word g x = record { behind = ws; words_are = refl; gives = x }
+pub is_command : (c : Command) (ws : List (List ℕ)) → Asks ws c → IsCommand (word_of c ∷ ws) c
+is_command c ws x = record { behind = ws; words_are = refl; asks = x }
 
-pub is_run_command : (ws : List (List ℕ)) (a : Asked) (file : List ℕ) (workers fuel : ℕ) → Gives ws nothing (given a) → option_map (λ f. f.now) a.file ≡ Some file
-    → workers ≡ unwrap_or a.workers default_workers → fuel ≡ unwrap_or a.fuel default_fuel → IsRun (codes "run" ∷ ws) file workers fuel
-is_run_command ws a file workers fuel x e w f =
-    record { given = given a; stands = is_stands ws (codes "run") (given a) x; file_is = e; workers_are = w; fuel_is = f }
-
-pub is_bench_command : (ws : List (List ℕ)) (number : List ℕ) (n : ℕ) → Gives ws nothing (alone number) → IsNumber most_accounts number n → IsBench (codes "bench" ∷ ws) n
-is_bench_command ws number n x is = record { number = number; stands = is_stands ws (codes "bench") (alone number) x; is = is }
+pub is_bench_command : (ws : List (List ℕ)) (number : List ℕ) (n : ℕ) → Gives ws nothing (only (number ∷ [])) → IsNumber most_accounts number n
+    → IsCommand (codes "bench" ∷ ws) (Bench n)
+is_bench_command ws number n x is = is_command (Bench n) ws (record { number = number; gives = x; is = is })
 
 -- ---- any word
 
 pub no_words : IsNoCommand []
-no_words (Check file) is = let z : [] ≡ codes "check" ∷ is.behind = is.words_are in cc
-no_words (Show file) is = let z : [] ≡ codes "show" ∷ is.behind = is.words_are in cc
-no_words (Run file workers fuel) is = let z : [] ≡ codes "run" ∷ is.stands.behind = is.stands.words_are in cc
-no_words (Bench n) is = let z : [] ≡ codes "bench" ∷ is.stands.behind = is.stands.words_are in cc
+no_words c is = let z : [] ≡ word_of c ∷ is.behind = is.words_are in cc
 
-pub no_such_word : (word : List ℕ) (ws : List (List ℕ)) → (word ≡ codes "run" → ⊥) → (word ≡ codes "check" → ⊥) → (word ≡ codes "show" → ⊥) → (word ≡ codes "bench" → ⊥)
+pub no_such_word : (word : List ℕ) (ws : List (List ℕ)) → (word ≡ codes "run" → ⊥) → (word ≡ codes "check" → ⊥) → (word ≡ codes "show" → ⊥)
+    → (word ≡ codes "bench" → ⊥) → (word ≡ codes "record" → ⊥) → (word ≡ codes "audit" → ⊥)
     → IsNoCommand (word ∷ ws)
-no_such_word word ws run check show bench (Check file) is = let z : word ∷ ws ≡ codes "check" ∷ is.behind = is.words_are in check cc
-no_such_word word ws run check show bench (Show file) is = let z : word ∷ ws ≡ codes "show" ∷ is.behind = is.words_are in show cc
-no_such_word word ws run check show bench (Run file workers fuel) is = let z : word ∷ ws ≡ codes "run" ∷ is.stands.behind = is.stands.words_are in run cc
-no_such_word word ws run check show bench (Bench n) is = let z : word ∷ ws ≡ codes "bench" ∷ is.stands.behind = is.stands.words_are in bench cc
+no_such_word word ws no_run no_check no_show no_bench no_record no_audit = none_asked word ws go
+  where
+    go : (c : Command) → word ≡ word_of c → Asks ws c → ⊥
+    go (Check file) e x = no_check e
+    go (Show file) e x = no_show e
+    go (Run file workers fuel) e x = no_run e
+    go (Bench n) e x = no_bench e
+    go (Record file workers fuel) e x = no_record e
+    go (Audit file kept) e x = no_audit e
 
 -- ---- one command at most
-
-same_given : (words one two : List (List ℕ)) (word : List ℕ) (g h : Given) → words ≡ word ∷ one → words ≡ word ∷ two → Gives one nothing g → Gives two nothing h → g ≡ h
-same_given words one two word g h p q x y =
-    one_given one nothing g h x (subst (λ ws. Gives ws nothing h) (same_behind word one two (sym p ∙ q)) y)
 
 same_number : (most : ℕ) (a b : List ℕ) (n m : ℕ) → a ≡ b → IsNumber most a n → IsNumber most b m → n ≡ m
 same_number most a b n m e f g = f.value ∙ sym (subst (λ w. IsNumber most w m) (sym e) g).value
 
-same_run : (words : List (List ℕ)) (a b : List ℕ) (v w n m : ℕ) → IsRun words a v n → IsRun words b w m → Run a v n ≡ Run b w m
-same_run words a b v w n m p q =
-    let same = same_given words p.stands.behind q.stands.behind (codes "run") p.given q.given p.stands.words_are q.stands.words_are p.stands.gives q.stands.gives in
-    let z : Some a ≡ Some b = sym p.file_is ∙ ap (λ (g : Given). g.file) same ∙ q.file_is in
+same_only : (ws : List (List ℕ)) (a b : List ℕ) → Gives ws nothing (only (a ∷ [])) → Gives ws nothing (only (b ∷ [])) → a ≡ b
+same_only ws a b x y = same_file a b (one_given ws nothing (only (a ∷ [])) (only (b ∷ [])) x y)
+
+same_bank : (ws : List (List ℕ)) (n m : ℕ) → AsksBank ws n → AsksBank ws m → n ≡ m
+same_bank ws n m p q = same_number most_accounts p.number q.number n m (same_only ws p.number q.number p.gives q.gives) p.is q.is
+
+same_two : (ws : List (List ℕ)) (a b c d : List ℕ) → Gives ws nothing (only (a ∷ c ∷ [])) → Gives ws nothing (only (b ∷ d ∷ [])) → Audit a c ≡ Audit b d
+same_two ws a b c d x y =
+    let z : a ∷ c ∷ [] ≡ b ∷ d ∷ [] = ap (λ (g : Given). g.files) (one_given ws nothing (only (a ∷ c ∷ [])) (only (b ∷ d ∷ [])) x y) in
+    let file : a ≡ b = cc in
+    let kept : c ≡ d = cc in (λ i. Audit (file i) (kept i))
+
+same_run : (make : List ℕ → ℕ → ℕ → Command) (ws : List (List ℕ)) (a b : List ℕ) (v w n m : ℕ) → AsksRun ws a v n → AsksRun ws b w m → make a v n ≡ make b w m
+same_run make ws a b v w n m p q =
+    let same = one_given ws nothing p.given q.given p.gives q.gives in
+    let z : a ∷ [] ≡ b ∷ [] = sym p.files_are ∙ ap (λ (g : Given). g.files) same ∙ q.files_are in
     let file : a ≡ b = cc in
     let workers : v ≡ w = p.workers_are ∙ ap (λ (g : Given). unwrap_or g.workers default_workers) same ∙ sym q.workers_are in
-    let fuel : n ≡ m = p.fuel_is ∙ ap (λ (g : Given). unwrap_or g.fuel default_fuel) same ∙ sym q.fuel_is in (λ i. Run (file i) (workers i) (fuel i))
+    let fuel : n ≡ m = p.fuel_is ∙ ap (λ (g : Given). unwrap_or g.fuel default_fuel) same ∙ sym q.fuel_is in (λ i. make (file i) (workers i) (fuel i))
 
-same_alone : (words : List (List ℕ)) (word a b : List ℕ) → Stands words word (alone a) → Stands words word (alone b) → a ≡ b
-same_alone words word a b p q = same_file a b (same_given words p.behind q.behind word (alone a) (alone b) p.words_are q.words_are p.gives q.gives)
+same_asked : (ws : List (List ℕ)) (a b : Command) → word_of a ≡ word_of b → Asks ws a → Asks ws b → a ≡ b
+same_asked ws (Check a) (Check b) e p q = ap Check (same_only ws a b p q)
+same_asked ws (Check a) (Show b) e p q = absurd (unlike (codes "check") (codes "show") refl e)
+same_asked ws (Check a) (Run b w m) e p q = absurd (unlike (codes "check") (codes "run") refl e)
+same_asked ws (Check a) (Bench m) e p q = absurd (unlike (codes "check") (codes "bench") refl e)
+same_asked ws (Check a) (Record b w m) e p q = absurd (unlike (codes "check") (codes "record") refl e)
+same_asked ws (Check a) (Audit b d) e p q = absurd (unlike (codes "check") (codes "audit") refl e)
+same_asked ws (Show a) (Check b) e p q = absurd (unlike (codes "show") (codes "check") refl e)
+same_asked ws (Show a) (Show b) e p q = ap Show (same_only ws a b p q)
+same_asked ws (Show a) (Run b w m) e p q = absurd (unlike (codes "show") (codes "run") refl e)
+same_asked ws (Show a) (Bench m) e p q = absurd (unlike (codes "show") (codes "bench") refl e)
+same_asked ws (Show a) (Record b w m) e p q = absurd (unlike (codes "show") (codes "record") refl e)
+same_asked ws (Show a) (Audit b d) e p q = absurd (unlike (codes "show") (codes "audit") refl e)
+same_asked ws (Run a v n) (Check b) e p q = absurd (unlike (codes "run") (codes "check") refl e)
+same_asked ws (Run a v n) (Show b) e p q = absurd (unlike (codes "run") (codes "show") refl e)
+same_asked ws (Run a v n) (Run b w m) e p q = same_run Run ws a b v w n m p q
+same_asked ws (Run a v n) (Bench m) e p q = absurd (unlike (codes "run") (codes "bench") refl e)
+same_asked ws (Run a v n) (Record b w m) e p q = absurd (unlike (codes "run") (codes "record") refl e)
+same_asked ws (Run a v n) (Audit b d) e p q = absurd (unlike (codes "run") (codes "audit") refl e)
+same_asked ws (Bench n) (Check b) e p q = absurd (unlike (codes "bench") (codes "check") refl e)
+same_asked ws (Bench n) (Show b) e p q = absurd (unlike (codes "bench") (codes "show") refl e)
+same_asked ws (Bench n) (Run b w m) e p q = absurd (unlike (codes "bench") (codes "run") refl e)
+same_asked ws (Bench n) (Bench m) e p q = ap Bench (same_bank ws n m p q)
+same_asked ws (Bench n) (Record b w m) e p q = absurd (unlike (codes "bench") (codes "record") refl e)
+same_asked ws (Bench n) (Audit b d) e p q = absurd (unlike (codes "bench") (codes "audit") refl e)
+same_asked ws (Record a v n) (Check b) e p q = absurd (unlike (codes "record") (codes "check") refl e)
+same_asked ws (Record a v n) (Show b) e p q = absurd (unlike (codes "record") (codes "show") refl e)
+same_asked ws (Record a v n) (Run b w m) e p q = absurd (unlike (codes "record") (codes "run") refl e)
+same_asked ws (Record a v n) (Bench m) e p q = absurd (unlike (codes "record") (codes "bench") refl e)
+same_asked ws (Record a v n) (Record b w m) e p q = same_run Record ws a b v w n m p q
+same_asked ws (Record a v n) (Audit b d) e p q = absurd (unlike (codes "record") (codes "audit") refl e)
+same_asked ws (Audit a c) (Check b) e p q = absurd (unlike (codes "audit") (codes "check") refl e)
+same_asked ws (Audit a c) (Show b) e p q = absurd (unlike (codes "audit") (codes "show") refl e)
+same_asked ws (Audit a c) (Run b w m) e p q = absurd (unlike (codes "audit") (codes "run") refl e)
+same_asked ws (Audit a c) (Bench m) e p q = absurd (unlike (codes "audit") (codes "bench") refl e)
+same_asked ws (Audit a c) (Record b w m) e p q = absurd (unlike (codes "audit") (codes "record") refl e)
+same_asked ws (Audit a c) (Audit b d) e p q = same_two ws a b c d p q
 
 pub one_command : OneCommand
-one_command words (Check a) (Check b) p q = ap Check (same_alone words (codes "check") a b p q)
-one_command words (Check a) (Show b) p q = let z : codes "check" ∷ p.behind ≡ codes "show" ∷ q.behind = sym p.words_are ∙ q.words_are in absurd cc
-one_command words (Check a) (Run b w m) p q = let z : codes "check" ∷ p.behind ≡ codes "run" ∷ q.stands.behind = sym p.words_are ∙ q.stands.words_are in absurd cc
-one_command words (Check a) (Bench m) p q = absurd (check_bench p.behind q.stands.behind (sym p.words_are ∙ q.stands.words_are))
-one_command words (Show a) (Check b) p q = let z : codes "show" ∷ p.behind ≡ codes "check" ∷ q.behind = sym p.words_are ∙ q.words_are in absurd cc
-one_command words (Show a) (Show b) p q = ap Show (same_alone words (codes "show") a b p q)
-one_command words (Show a) (Run b w m) p q = let z : codes "show" ∷ p.behind ≡ codes "run" ∷ q.stands.behind = sym p.words_are ∙ q.stands.words_are in absurd cc
-one_command words (Show a) (Bench m) p q = let z : codes "show" ∷ p.behind ≡ codes "bench" ∷ q.stands.behind = sym p.words_are ∙ q.stands.words_are in absurd cc
-one_command words (Run a v n) (Check b) p q = let z : codes "run" ∷ p.stands.behind ≡ codes "check" ∷ q.behind = sym p.stands.words_are ∙ q.words_are in absurd cc
-one_command words (Run a v n) (Show b) p q = let z : codes "run" ∷ p.stands.behind ≡ codes "show" ∷ q.behind = sym p.stands.words_are ∙ q.words_are in absurd cc
-one_command words (Run a v n) (Run b w m) p q = same_run words a b v w n m p q
-one_command words (Run a v n) (Bench m) p q = let z : codes "run" ∷ p.stands.behind ≡ codes "bench" ∷ q.stands.behind = sym p.stands.words_are ∙ q.stands.words_are in absurd cc
-one_command words (Bench n) (Check b) p q = absurd (check_bench q.behind p.stands.behind (sym q.words_are ∙ p.stands.words_are))
-one_command words (Bench n) (Show b) p q = let z : codes "bench" ∷ p.stands.behind ≡ codes "show" ∷ q.behind = sym p.stands.words_are ∙ q.words_are in absurd cc
-one_command words (Bench n) (Run b w m) p q = let z : codes "bench" ∷ p.stands.behind ≡ codes "run" ∷ q.stands.behind = sym p.stands.words_are ∙ q.stands.words_are in absurd cc
-one_command words (Bench n) (Bench m) p q = ap Bench (same_number most_accounts p.number q.number n m (same_alone words (codes "bench") p.number q.number p.stands q.stands) p.is q.is)
+one_command words a b p q =
+    let e : word_of a ∷ p.behind ≡ word_of b ∷ q.behind = sym p.words_are ∙ q.words_are in
+    same_asked p.behind a b (same_word (word_of a) (word_of b) p.behind q.behind e) p.asks
+    (subst (λ ws. Asks ws b) (same_behind (word_of a) (word_of b) p.behind q.behind e) q.asks)
 
 -- What is a command of words is one of the same words.
 pub same_words : (r : Result Command CmdFault) (ws rest : List (List ℕ)) (word shown name : List ℕ) → ws ≡ word ∷ rest → shown ≡ word → shown ≡ name
     → IfOk r (IsCommand (name ∷ rest)) → IfOk r (IsCommand ws)
 same_words r ws rest word shown name e q p k = subst (λ x. IfOk r (IsCommand x)) (ap (λ w. w ∷ rest) (sym p ∙ q) ∙ sym e) k
+
+-- What is none is none of the same words.
+pub same_fault : (r : Result Command CmdFault) (ws rest : List (List ℕ)) (word shown name : List ℕ) → ws ≡ word ∷ rest → shown ≡ word → shown ≡ name
+    → IfErr r (Explains (name ∷ rest)) → IfErr r (Explains ws)
+same_fault r ws rest word shown name e q p k = subst (λ x. IfErr r (Explains x)) (ap (λ w. w ∷ rest) (sym p ∙ q) ∙ sym e) k

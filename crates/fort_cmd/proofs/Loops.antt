@@ -2,7 +2,7 @@
 use Rattle.std.proofs.Common.{◌≡◌, ◌≢◌, ℕ, zero, suc, ◌+◌, ◌-◌, ◌<◌, ◌≤◌, List, [], ◌∷◌, map, length, take, drop, get_or, refl, ap, sym, ◌∙◌, subst, arith}
 use Rattle.std.specs.Prelude.{codes, Option, Some, None, MatchOption}
 use Rattle.std.proofs.lemmas.List.{drop-drop}
-use Rattle.fort_cmd.specs.Words.{Choice, name_of, most_of, BeginsWith, NamesFile, Given, AddsFile, AddsFiles, AddsNumber, Adds, AddsMarked, AddsNamed, AddsOption, Gives, nothing}
+use Rattle.fort_cmd.specs.Words.{Choice, name_of, most_of, BeginsWith, NamesFile, Given, AddsFiles, AddsNumber, Adds, AddsMarked, AddsNamed, AddsOption, Gives, nothing}
 use Rattle.fort_cmd.specs.Asked.{given}
 use Rattle.fort_cmd.specs.declared.asked.Front.{Front}
 use Rattle.fort_cmd.proofs.Splits.{first_of, sliced}
@@ -30,11 +30,11 @@ module _ {A : Type 0} (f : A → List ℕ) where
 
   -- None is there.
   pub no_part_there : (xs : List A) (done : ℕ) (now : Given) → done < length xs → Continues (map f xs) (drop done (map f xs)) now
-      → ((after : Given) (rest : List (List ℕ)) → Adds (map f (take (length xs - done) (drop done xs))) now after rest → ⊥)
-      → (g : Given) → Gives (map f xs) nothing g → ⊥
+      → ((after : Given) (rest : List (List ℕ)) → length after.files ≤ 2 → Adds (map f (take (length xs - done) (drop done xs))) now after rest → ⊥)
+      → (g : Given) → length g.files ≤ 2 → Gives (map f xs) nothing g → ⊥
   no_part_there xs done now l k none =
       stopped (map f xs) (drop done (map f xs)) now k
-      (λ after rest a. none after rest (subst (λ ws. Adds ws now after rest) (sym (sliced f done xs)) a)) (more_left done xs l)
+      (λ after rest m a. none after rest m (subst (λ ws. Adds ws now after rest) (sym (sliced f done xs)) a)) (more_left done xs l)
 
   pub all_read : (xs : List A) (done : ℕ) (now : Given) → length xs ≤ done → Continues (map f xs) (drop done (map f xs)) now → Gives (map f xs) nothing now
   all_read xs done now l k = ended (map f xs) (drop done (map f xs)) now k (none_left done xs l)
@@ -55,19 +55,19 @@ module _ {A : Type 0} (f : A → List ℕ) where
   )
 
   pub named_added : (xs : List A) (x : A) (shown told : List ℕ) (now more : Given) → 1 ≤ length xs → x ≡ get_or xs 0 x → shown ≡ f x → NamesFile shown → told ≡ f x
-      → AddsFile now told more → (1 ≤ 1) × (1 ≤ length xs) × Adds (map f xs) now more (drop 1 (map f xs))
+      → AddsFiles now (told ∷ []) more → (1 ≤ 1) × (1 ≤ length xs) × Adds (map f xs) now more (drop 1 (map f xs))
   named_added xs x shown told now more l e s names t a =
-      (omega arith, l, AddsNamed (f x) (subst NamesFile s names) (behind_first xs x l e) (subst (λ w. AddsFile now w more) t a))
+      (omega arith, l, AddsNamed (f x) (subst NamesFile s names) (behind_first xs x l e) (subst (λ w. AddsFiles now (w ∷ []) more) t a))
 
   pub option_added : (r : Option Front) (xs : List A) (x : A) (now : Given) → 1 ≤ length xs → x ≡ get_or xs 0 x → (f x ≡ codes "--" → ⊥) → (NamesFile (f x) → ⊥)
       → MatchOption r
       ((choice : Choice) (n : ℕ) (rest : List (List ℕ)) (after : Given) → BeginsWith (name_of choice) (most_of choice) (map f xs) n rest → AddsNumber choice now n after → ⊥)
       (λ front. (1 ≤ front.taken) × (front.taken ≤ length xs) × (choice : Choice) × (n : ℕ)
       × BeginsWith (name_of choice) (most_of choice) (map f xs) n (drop front.taken (map f xs)) × AddsNumber choice now n (given front.asked))
-      → MatchOption r ((after : Given) (rest : List (List ℕ)) → Adds (map f xs) now after rest → ⊥)
+      → MatchOption r ((after : Given) (rest : List (List ℕ)) → length after.files ≤ 2 → Adds (map f xs) now after rest → ⊥)
       (λ front. (1 ≤ front.taken) × (front.taken ≤ length xs) × Adds (map f xs) now (given front.asked) (drop front.taken (map f xs)))
   option_added (Some front) xs x now l e no_mark no_name k = (k.0, k.1, AddsOption k.2 k.3 k.4 k.5)
-  option_added None xs x now l e no_mark no_name k = go
+  option_added None xs x now l e no_mark no_name k = λ after rest m. go after rest
     where
       go : (after : Given) (rest : List (List ℕ)) → Adds (map f xs) now after rest → ⊥
       go after rest (AddsMarked files q r a) =

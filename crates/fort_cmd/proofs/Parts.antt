@@ -1,8 +1,8 @@
 -- The parts of words: words begin with one part at most, and give one thing at most.
-use Rattle.std.proofs.Common.{◌≡◌, ◌≢◌, ℕ, ◌+◌, List, [], ◌∷◌, ◌++◌, length, get_or, refl, ap, sym, ◌∙◌, subst, arith, inl, inr, true, false, length-append}
-use Rattle.std.specs.Prelude.{◌⊎◌, codes, nat_eq}
+use Rattle.std.proofs.Common.{◌≡◌, ◌≢◌, ℕ, ◌+◌, ◌≤◌, List, [], ◌∷◌, ◌++◌, length, get_or, refl, ap, sym, ◌∙◌, subst, arith, inl, inr, true, false, length-append}
+use Rattle.std.specs.Prelude.{codes, nat_eq}
 use Rattle.std.specs.List.{starts_with}
-use Rattle.fort_cmd.specs.Words.{IsNumber, BeginsWith, InTwo, InOne, Choice, Workers, Fuel, name_of, most_of, NamesFile, Given, nothing, AddsFile, AddsFiles, AddsNumber, Adds, AddsMarked, AddsNamed, AddsOption, Gives, GivesNoMore, GivesPart}
+use Rattle.fort_cmd.specs.Words.{IsNumber, BeginsWith, InTwo, InOne, Choice, Workers, Fuel, name_of, most_of, NamesFile, Given, nothing, AddsFiles, AddsNumber, Adds, AddsMarked, AddsNamed, AddsOption, Gives, GivesNoMore, GivesPart}
 
 -- ---- the first word
 
@@ -86,13 +86,8 @@ first_word name most ws rest n (InOne number f e) = (name ++ codes "=" ++ number
 
 -- ---- a part
 
-same_file : (before : Given) (file : List ℕ) (one two : Given) → AddsFile before file one → AddsFile before file two → one ≡ two
-same_file before file one two a b = a.1 ∙ sym b.1
-
 same_files : (before : Given) (files : List (List ℕ)) (one two : Given) → AddsFiles before files one → AddsFiles before files two → one ≡ two
-same_files before [] one two a b = a ∙ sym b
-same_files before (file ∷ []) one two a b = same_file before file one two a b
-same_files before (file ∷ other ∷ files) one two a b = absurd a
+same_files before files one two a b = a ∙ sym b
 
 same_numbered : (choice : Choice) (before : Given) (n : ℕ) (one two : Given) → AddsNumber choice before n one → AddsNumber choice before n two → one ≡ two
 same_numbered Workers before n one two a b = a.1 ∙ sym b.1
@@ -119,7 +114,7 @@ one_part ws before one two rest others (AddsNamed file names e a) (AddsMarked fi
     let z : file ∷ rest ≡ codes "--" ∷ files = sym e ∙ e' in absurd (mark_named file names cc)
 one_part ws before one two rest others (AddsNamed file names e a) (AddsNamed file' names' e' a') =
     let z : file ∷ rest ≡ file' ∷ others = sym e ∙ e' in
-    let same : file' ≡ file = cc in (same_file before file one two a (subst (λ x. AddsFile before x two) same a'), cc)
+    let same : file' ≡ file = cc in (same_files before (file ∷ []) one two a (subst (λ x. AddsFiles before (x ∷ []) two) same a'), cc)
 one_part ws before one two rest others (AddsNamed file names e a) (AddsOption choice n b a') =
     absurd (option_not_file choice file (option_word choice ws others n file rest b e) names)
 one_part ws before one two rest others (AddsOption choice n b a) (AddsMarked files e r a') =
@@ -145,6 +140,28 @@ one_given ws before one two (GivesPart more rest p g) (GivesPart more' rest' p' 
     let s = one_part ws before more more' rest rest' p p' in
     one_given rest more one two g (subst (λ b. Gives rest b two) (sym s.0) (subst (λ r. Gives r more' two) (sym s.1) g'))
 
+-- ---- files stay
+
+more_files : (before after : Given) (files : List (List ℕ)) → AddsFiles before files after → length before.files ≤ length after.files
+more_files before after files a =
+    let l : length after.files ≡ length before.files + length files = ap (λ (g : Given). length g.files) a ∙ length-append before.files files in omega (arith, l)
+
+as_many_files : (choice : Choice) (before after : Given) (n : ℕ) → AddsNumber choice before n after → length before.files ≤ length after.files
+as_many_files Workers before after n a = let l : length after.files ≡ length before.files = ap (λ (g : Given). length g.files) a.1 in omega (arith, l)
+as_many_files Fuel before after n a = let l : length after.files ≡ length before.files = ap (λ (g : Given). length g.files) a.1 in omega (arith, l)
+
+files_stay_by : (ws : List (List ℕ)) (before after : Given) (rest : List (List ℕ)) → Adds ws before after rest → length before.files ≤ length after.files
+files_stay_by ws before after rest (AddsMarked files e r a) = more_files before after files a
+files_stay_by ws before after rest (AddsNamed file names e a) = more_files before after (file ∷ []) a
+files_stay_by ws before after rest (AddsOption choice n b a) = as_many_files choice before after n a
+
+files_stay : (ws : List (List ℕ)) (before after : Given) → Gives ws before after → length before.files ≤ length after.files
+files_stay ws before after (GivesNoMore e a) = let l : length after.files ≡ length before.files = ap (λ (g : Given). length g.files) a in omega (arith, l)
+files_stay ws before after (GivesPart more rest p g) =
+    omega (arith, files_stay_by ws before more rest p, files_stay rest more after g)
+
+-- ---- what words from some place on give
+
 -- What words give is what their rest gives beside what is given so far.
 abbrev pub Continues : List (List ℕ) → List (List ℕ) → Given → Type 0
 Continues ws rest now = (g : Given) → (Gives ws nothing g → Gives rest now g) × (Gives rest now g → Gives ws nothing g)
@@ -160,13 +177,14 @@ gone_on ws rest now more behind k p = λ g. (λ x. go g ((k g).0 x), λ x. (k g)
     go g (GivesPart other rest' p' h) =
         let s = one_part rest now other more rest' behind p' p in subst (λ b. Gives behind b g) s.0 (subst (λ r. Gives r other g) s.1 h)
 
-pub stopped : (ws rest : List (List ℕ)) (now : Given) → Continues ws rest now → ((after : Given) (behind : List (List ℕ)) → Adds rest now after behind → ⊥)
-    → rest ≢ [] → (g : Given) → Gives ws nothing g → ⊥
-stopped ws rest now k none some g x = go ((k g).0 x)
+pub stopped : (ws rest : List (List ℕ)) (now : Given) → Continues ws rest now
+    → ((after : Given) (behind : List (List ℕ)) → length after.files ≤ 2 → Adds rest now after behind → ⊥)
+    → rest ≢ [] → (g : Given) → length g.files ≤ 2 → Gives ws nothing g → ⊥
+stopped ws rest now k none some g l x = go ((k g).0 x)
   where
     go : Gives rest now g → ⊥
     go (GivesNoMore e a) = some e
-    go (GivesPart more behind p h) = none more behind p
+    go (GivesPart more behind p h) = none more behind (omega (arith, l, files_stay behind more g h)) p
 
 pub ended : (ws rest : List (List ℕ)) (now : Given) → Continues ws rest now → rest ≡ [] → Gives ws nothing now
 ended ws rest now k e = (k now).1 (GivesNoMore e refl)

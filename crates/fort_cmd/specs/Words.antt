@@ -4,7 +4,7 @@ use Rattle.std.specs.Prelude.{◌≡◌, ℕ, ◌≤◌, false, List, [], ◌∷
 use Rattle.std.specs.List.{starts_with}
 use Rattle.std.specs.Str.Parse.{IsNumeral, digits_value, without_leading_plus}
 use Rattle.fort_cmd.specs.declared.command.Command.{Command}
-use Rattle.fort_cmd.specs.declared.command.Command.TheVariants.{Check, Show, Run, Bench}
+use Rattle.fort_cmd.specs.declared.command.Command.TheVariants.{Check, Show, Run, Bench, Record, Audit}
 use Rattle.fort_cmd.specs.declared.command.CmdFault.{CmdFault}
 use Rattle.fort_cmd.specs.declared.command.CmdFault.TheVariants as a_fault
 
@@ -41,24 +41,18 @@ NamesFile word = (word ≡ codes "-") ⊎ (starts_with nat_eq word (codes "-") �
 
 -- ---- what words give
 
--- a file, and the numbers of the options
+-- the files, in the order of the words, and the numbers of the options
 pub record Given : Type 0 where
-  pub file : Option (List ℕ)
+  pub files : List (List ℕ)
   pub workers : Option ℕ
   pub fuel : Option ℕ
 
 abbrev pub nothing : Given
-nothing = record { file = None; workers = None; fuel = None }
+nothing = record { files = []; workers = None; fuel = None }
 
--- A file is given, and none before.
-abbrev pub AddsFile : Given → List ℕ → Given → Type 0
-AddsFile before file after = (before.file ≡ None) × (after ≡ record before { file = Some file })
-
--- The files behind the mark: none, or one where none is given before.
+-- Files are given, behind those before.
 abbrev pub AddsFiles : Given → List (List ℕ) → Given → Type 0
-AddsFiles before [] after = after ≡ before
-AddsFiles before (file ∷ []) after = AddsFile before file after
-AddsFiles before (file ∷ other ∷ files) after = ⊥
+AddsFiles before files after = after ≡ record before { files = before.files ++ files }
 
 -- The number of an option is given, and none before.
 abbrev pub AddsNumber : Choice → Given → ℕ → Given → Type 0
@@ -68,7 +62,7 @@ AddsNumber Fuel before n after = (before.fuel ≡ None) × (after ≡ record bef
 -- Words begin with a part, which adds to what is given before, and go on with the rest. Behind the mark `--` every word is a file.
 pub data Adds (words : List (List ℕ)) (before after : Given) (rest : List (List ℕ)) : Type 0 where
   AddsMarked : (files : List (List ℕ)) → words ≡ codes "--" ∷ files → rest ≡ [] → AddsFiles before files after → Adds words before after rest
-  AddsNamed : (file : List ℕ) → NamesFile file → words ≡ file ∷ rest → AddsFile before file after → Adds words before after rest
+  AddsNamed : (file : List ℕ) → NamesFile file → words ≡ file ∷ rest → AddsFiles before (file ∷ []) after → Adds words before after rest
   AddsOption : (choice : Choice) (n : ℕ) → BeginsWith (name_of choice) (most_of choice) words n rest → AddsNumber choice before n after → Adds words before after rest
 
 -- Words give what their parts add, one behind another.
@@ -89,43 +83,56 @@ default_fuel = 2000000
 abbrev pub most_accounts : ℕ
 most_accounts = 10000
 
--- The words are a command's own word, and behind it words that give this.
-pub record Stands (words : List (List ℕ)) (word : List ℕ) (given : Given) : Type 0 where
-  pub behind : List (List ℕ)
-  pub words_are : words ≡ word ∷ behind
-  pub gives : Gives behind nothing given
+-- these files, and no option
+abbrev pub only : List (List ℕ) → Given
+only files = record nothing { files = files }
 
--- a file and no option
-abbrev pub alone : List ℕ → Given
-alone file = record nothing { file = Some file }
-
--- The words are the command to run this file with so many workers and this fuel.
-pub record IsRun (words : List (List ℕ)) (file : List ℕ) (workers fuel : ℕ) : Type 0 where
+-- Words ask for a run of this file, with so many workers and this fuel.
+pub record AsksRun (words : List (List ℕ)) (file : List ℕ) (workers fuel : ℕ) : Type 0 where
   pub given : Given
-  pub stands : Stands words (codes "run") given
-  pub file_is : given.file ≡ Some file
+  pub gives : Gives words nothing given
+  pub files_are : given.files ≡ file ∷ []
   pub workers_are : workers ≡ unwrap_or given.workers default_workers
   pub fuel_is : fuel ≡ unwrap_or given.fuel default_fuel
 
--- The words are the command to run the bank of so many accounts; their number stands where a file would.
-pub record IsBench (words : List (List ℕ)) (accounts : ℕ) : Type 0 where
+-- Words ask for the bank of so many accounts; their number stands where a file would.
+pub record AsksBank (words : List (List ℕ)) (accounts : ℕ) : Type 0 where
   pub number : List ℕ
-  pub stands : Stands words (codes "bench") (alone number)
+  pub gives : Gives words nothing (only (number ∷ []))
   pub is : IsNumber most_accounts number accounts
 
--- The words are this command.
-abbrev pub IsCommand : List (List ℕ) → Command → Type 0
-IsCommand words (Check file) = Stands words (codes "check") (alone file)
-IsCommand words (Show file) = Stands words (codes "show") (alone file)
-IsCommand words (Run file workers fuel) = IsRun words file workers fuel
-IsCommand words (Bench accounts) = IsBench words accounts
+-- a command's own word
+abbrev pub word_of : Command → List ℕ
+word_of (Check file) = codes "check"
+word_of (Show file) = codes "show"
+word_of (Run file workers fuel) = codes "run"
+word_of (Bench accounts) = codes "bench"
+word_of (Record file workers fuel) = codes "record"
+word_of (Audit file kept) = codes "audit"
 
--- the file that a command reads, if it reads one
+-- The words behind a command's own ask for it.
+abbrev pub Asks : List (List ℕ) → Command → Type 0
+Asks words (Check file) = Gives words nothing (only (file ∷ []))
+Asks words (Show file) = Gives words nothing (only (file ∷ []))
+Asks words (Run file workers fuel) = AsksRun words file workers fuel
+Asks words (Bench accounts) = AsksBank words accounts
+Asks words (Record file workers fuel) = AsksRun words file workers fuel
+Asks words (Audit file kept) = Gives words nothing (only (file ∷ kept ∷ []))
+
+-- The words are this command: its own word, and behind it words that ask for it.
+pub record IsCommand (words : List (List ℕ)) (command : Command) : Type 0 where
+  pub behind : List (List ℕ)
+  pub words_are : words ≡ word_of command ∷ behind
+  pub asks : Asks behind command
+
+-- the file of a command's component, if it reads one
 abbrev pub file_of : Command → Option (List ℕ)
 file_of (Check file) = Some file
 file_of (Show file) = Some file
 file_of (Run file workers fuel) = Some file
 file_of (Bench accounts) = None
+file_of (Record file workers fuel) = Some file
+file_of (Audit file kept) = Some file
 
 -- The words are no command.
 abbrev pub IsNoCommand : List (List ℕ) → Type 0

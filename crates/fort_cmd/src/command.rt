@@ -3,16 +3,10 @@ ghost use Rattle.std.specs.Prelude.{◌≡◌, ◌∷◌, map, codes, string_byt
 ghost use Rattle.fort_cmd.specs.Words.{Explains, IsCommand, file_of};
 ghost use Rattle.fort_cmd.specs.declared.command.CmdFault.TheVariants as a_fault;
 
-use crate::asked::{file_alone, gathered};
+use crate::asked::{file_alone, run_asked, two_alone};
 use crate::word::{is_word, number_of};
 use fort_base::{Bytes, List, Memory};
 use std::alloc::Global;
-
-/// The workers of a run where no word gives them.
-const DEFAULT_WORKERS: u32 = 4;
-
-/// The fuel of a run where no word gives it.
-const DEFAULT_FUEL: u32 = 2_000_000;
 
 /// The most accounts of the bank.
 const MOST_ACCOUNTS: u32 = 10_000;
@@ -29,6 +23,10 @@ pub enum Command {
     Run(Bytes, u32, u64),
     /// `bench N`: the accounts of the bank, from 1 to 10,000.
     Bench(u32),
+    /// `record FILE [--workers N] [--fuel N]`: as `run`.
+    Record(Bytes, u32, u64),
+    /// `audit FILE RECORD`: the component's file, and that of the record.
+    Audit(Bytes, Bytes),
 }
 
 /// Why there is no command.
@@ -49,7 +47,7 @@ impl From<Memory> for CmdFault {
 impl Command {
     ghost use Rattle.std.specs.Prelude.{◌≡◌, option_map};
 
-    /// The name of the file that the command reads; `bench` reads none.
+    /// The name of the component's file that the command reads; `bench` reads none.
     pub fn file(&self) -> Option<&Bytes>
         ensures { option_map (λ f. f.now) result ≡ file_of self.now }
     {
@@ -58,13 +56,16 @@ impl Command {
             Command::Show(file) => Some(file),
             Command::Run(file, _, _) => Some(file),
             Command::Bench(_) => None,
+            Command::Record(file, _, _) => Some(file),
+            Command::Audit(file, _) => Some(file),
         }
     }
 }
 
 /// The command that the words after the program's name are: `check FILE`, `show FILE`, `run FILE
-/// [--workers N] [--fuel N]` or `bench N`. Options and FILE stand in any order, each once at most;
-/// `--name N` and `--name=N` mean the same, and behind the first `--` every word is a FILE.
+/// [--workers N] [--fuel N]`, `bench N`, `record FILE [--workers N] [--fuel N]` or `audit FILE
+/// RECORD`. Options and files stand in any order, each once at most, but RECORD behind FILE;
+/// `--name N` and `--name=N` mean the same, and behind the first `--` every word is a file.
 /// Without the options there are 4 workers, and the fuel is 2,000,000. The chapter "The command
 /// line".
 ///
@@ -91,6 +92,12 @@ pub fn command_of(alloc: Global, words: &[String]) -> Result<Command, CmdFault>
     if is_word(word, b"bench") {
         return bench_of(behind);
     }
+    if is_word(word, b"record") {
+        return record_of(alloc, behind);
+    }
+    if is_word(word, b"audit") {
+        return audit_of(alloc, behind);
+    }
     Err(CmdFault::NotACommand)
 }
 
@@ -99,16 +106,11 @@ fn run_of(alloc: Global, behind: &[String]) -> Result<Command, CmdFault>
     ensures ok { IfOk result (IsCommand (codes "run" ∷ map string_bytes behind.now)) }
     ensures cause { IfErr result (Explains (codes "run" ∷ map string_bytes behind.now)) }
 {
-    let Some(asked) = gathered(behind) else {
+    let Some(run) = run_asked(behind) else {
         return Err(CmdFault::NotACommand);
     };
-    let Some(file) = asked.file else {
-        return Err(CmdFault::NotACommand);
-    };
-    let workers = asked.workers.unwrap_or(DEFAULT_WORKERS);
-    let fuel = asked.fuel.unwrap_or(DEFAULT_FUEL);
-    let file = List::from_slice(alloc, file.as_bytes())?;
-    Ok(Command::Run(file, workers, u64::from(fuel)))
+    let file = List::from_slice(alloc, run.file.as_bytes())?;
+    Ok(Command::Run(file, run.workers, u64::from(run.fuel)))
 }
 
 /// The command to check that stands behind its word.
@@ -145,4 +147,29 @@ fn bench_of(behind: &[String]) -> Result<Command, CmdFault>
         return Err(CmdFault::NotACommand);
     };
     Ok(Command::Bench(accounts))
+}
+
+/// The command to record that stands behind its word.
+fn record_of(alloc: Global, behind: &[String]) -> Result<Command, CmdFault>
+    ensures ok { IfOk result (IsCommand (codes "record" ∷ map string_bytes behind.now)) }
+    ensures cause { IfErr result (Explains (codes "record" ∷ map string_bytes behind.now)) }
+{
+    let Some(run) = run_asked(behind) else {
+        return Err(CmdFault::NotACommand);
+    };
+    let file = List::from_slice(alloc, run.file.as_bytes())?;
+    Ok(Command::Record(file, run.workers, u64::from(run.fuel)))
+}
+
+/// The command to audit that stands behind its word.
+fn audit_of(alloc: Global, behind: &[String]) -> Result<Command, CmdFault>
+    ensures ok { IfOk result (IsCommand (codes "audit" ∷ map string_bytes behind.now)) }
+    ensures cause { IfErr result (Explains (codes "audit" ∷ map string_bytes behind.now)) }
+{
+    let Some(two) = two_alone(behind) else {
+        return Err(CmdFault::NotACommand);
+    };
+    let file = List::from_slice(alloc, two.file.as_bytes())?;
+    let kept = List::from_slice(alloc, two.kept.as_bytes())?;
+    Ok(Command::Audit(file, kept))
 }

@@ -10,7 +10,7 @@ use Rattle.fort_machine.specs.Texts.{text}
 -- ---- the notes that are the same at each call
 
 abbrev pub usage : List ℕ
-usage = codes "usage: fortress check FILE | show FILE | run FILE [--workers N] [--fuel N] | bench N\n"
+usage = codes "usage: fortress check FILE | show FILE | run FILE [--workers N] [--fuel N] | bench N | record FILE [--workers N] [--fuel N] | audit FILE RECORD\n"
 
 abbrev pub read_fault : List ℕ
 read_fault = codes "read fault\n"

@@ -7,6 +7,11 @@ use fort_value::text;
 use itoa::Buffer;
 use std::alloc::Global;
 
+/// What the words may be. It stands in one line.
+const USAGE: &str = "usage: fortress check FILE | show FILE \
+    | run FILE [--workers N] [--fuel N] | bench N \
+    | record FILE [--workers N] [--fuel N] | audit FILE RECORD\n";
+
 /// The note of a refusal: the file's name as it was given, the place, and the rule with its name. It ends with a line feed. The
 /// chapter "Statuses and notes".
 ///
@@ -51,8 +56,7 @@ pub fn fixed(status: u8) -> &'static str
     ensures { result.now ≡ notes.fixed status }
 {
     match status {
-        2 =>
-            "usage: fortress check FILE | show FILE | run FILE [--workers N] [--fuel N] | bench N\n",
+        2 => USAGE,
         3 => "read fault\n",
         4 => "write fault\n",
         6 => "out of fuel\n",

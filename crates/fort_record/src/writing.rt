@@ -1,6 +1,6 @@
 //! Records are written.
 ghost use Rattle.std.specs.Prelude.{◌≡◌, [], ◌∷◌, ◌++◌, codes, decimal, IfOk, OnOk};
-ghost use Rattle.fort_record.specs.Text.{ending_text, further, path_text, pick_text, picks_text, record_text, thrown_text, FitEnding};
+ghost use Rattle.fort_record.specs.Text.{ending_text, further, path_text, pick_text, picks_text, record_text, thrown_text};
 ghost use Rattle.fort_core.specs.declared.value.Value.{out-Value};
 
 use fort_base::{Bytes, List, Memory};
@@ -8,13 +8,14 @@ use fort_core::{Ending, Journal, Path, Pick, Value};
 use itoa::Buffer;
 use std::alloc::Global;
 
-/// The text of a journal and an output, in bytes. The chapter "The text of a record".
+/// The text of a journal and an output, in bytes. It is that of a record where the journal has an
+/// ending, and one that is uncaught has an object that was thrown, as those of runs have. The
+/// chapter "The text of a record".
 ///
 /// # Errors
 ///
 /// `Memory` where memory is wanting.
 pub fn record_of(alloc: Global, journal: &Journal, output: &Bytes) -> Result<Bytes, Memory>
-    requires { FitEnding journal.now.ending }
     ensures { IfOk result (λ text. text ≡ record_text journal.now output.now) }
 {
     let mut out = List::new(alloc);

@@ -5,13 +5,17 @@ use Rattle.fort_base.specs.declared.refusal.Place.{Place}
 use Rattle.fort_lex.proofs.Uniqueness.{one_list_of_tokens, list_or_fault}
 use Rattle.fort_core.specs.declared.program.Program.{Program}
 use Rattle.fort_front.specs.Front.{IsAccepted, BreaksGrammar, Breaks, NeverBoth, NeverBothInGrammar, OneProgram}
+use Rattle.fort_record.specs.Text.{OneRecord}
+use Rattle.fort_audit.specs.Audits.{OneAnswer}
 use Rattle.fort_run.specs.Reply.{IsAcceptedAs, BreaksOne, in_text, behind, IsShownAs, IsNoComponent, in_tokens, in_grammar}
 
--- The laws of the front that make answers exact.
+-- The laws of the front, of records and of audits that make answers exact.
 pub record Fronts : Type 0 where
   pub apart : NeverBoth
   pub grammar : NeverBothInGrammar
   pub one : OneProgram
+  pub one_record : OneRecord
+  pub one_answer : OneAnswer
 
 pub accepted_apart : Fronts → (file : List ℕ) (program : Program) (rule : Rule) (place : Place) → IsAcceptedAs file program → BreaksOne file rule place → ⊥
 accepted_apart laws file program rule place a (in_text b) = list_or_fault file a.tokens rule place a.has b

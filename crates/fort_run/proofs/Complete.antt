@@ -7,12 +7,15 @@ use Rattle.fort_core.specs.declared.program.Program.{Program}
 use Rattle.fort_core.specs.declared.journal.Journal.{Journal}
 use Rattle.fort_machine.specs.Journals.{Records}
 use Rattle.fort_cmd.specs.declared.command.Command.{Command}
-use Rattle.fort_cmd.specs.declared.command.Command.TheVariants.{Check, Show, Run, Bench}
+use Rattle.fort_cmd.specs.declared.command.Command.TheVariants.{Check, Show, Run, Bench, Record, Audit}
 use Rattle.fort_run.specs.declared.top.Finish.{Finish}
 use Rattle.fort_cmd.specs.Words.{IsCommand, IsNoCommand}
-use Rattle.fort_run.specs.Reply.{Reply, IsFile, IsText, IsAcceptedAs, BreaksOne, TellsEnding, TellsRun, RunSays, Runs, Refuses, CheckSays, Accepts, AcceptsNone, accepted, bench_name, IsShownAs, IsNoComponent, ShowSays, Shows, ShowsNone, CommandSays, Judged, NoCommand, Unread, TooLarge, file_limit}
+use Rattle.fort_port.specs.Outside.{Held, Rose}
+use Rattle.fort_audit.specs.Audits.{Prints}
+use Rattle.fort_audit.specs.declared.answer.Audited.TheVariants.{Yes, NotARun, OtherOutput}
+use Rattle.fort_run.specs.Reply.{Reply, IsFile, IsText, IsAcceptedAs, BreaksOne, Writing, its_output, its_record, TellsEnding, TellsRun, RunSays, Runs, Refuses, CheckSays, Accepts, AcceptsNone, accepted, bench_name, bench_fuel, IsShownAs, IsNoComponent, ShowSays, Shows, ShowsNone, AuditMeans, OfProgram, OfNone, RecordMeans, RecordRead, RecordUnread, RecordTooLarge, RecordSays, IsKept, Formless, audited, record_limit, IsOfOneFile, CommandSays, Judged, JudgedBoth, NoCommand, Unread, TooLarge, file_limit}
 use Rattle.fort_run.specs.Delivery.{Takes, Whole, OutFailed, NotesFailed}
-use Rattle.fort_run.specs.Outcome.{Outside, MeansToSay, Ends, Said, WantsMemory, IsCalm, IsAbout, Asks, RunsWith, IsWhole, Answers}
+use Rattle.fort_run.specs.Outcome.{Outside, MeansToSay, Ends, Said, WantsMemory, IsCalm, IsAbout, Asks, RunsWith, AsksAll, IsWhole, AsksAudit, Keeps, Answers}
 use Rattle.fort_run.proofs.Apart.{Fronts, accepted_apart, one_program_of, shown_apart}
 use Rattle.fort_cmd.proofs.Commands.{one_command}
 
@@ -30,40 +33,62 @@ same_text_of o (Check name) file found about is = subst (λ h. IsFile h found) a
 same_text_of o (Show name) file found about is = subst (λ h. IsFile h found) about is
 same_text_of o (Run name workers fuel) file found about is = subst (λ h. IsFile h found) about is
 same_text_of o (Bench accounts) file found about is = is ∙ sym about
+same_text_of o (Record name workers fuel) file found about is = subst (λ h. IsFile h found) about is
+same_text_of o (Audit name kept) file found about is = subst (λ h. IsFile h found) about is
 
 same_file : (o : Outside) (a b : Command) (file found : List ℕ) → Asks o a file → IsCommand o.words b → IsText o.holding b found → found ≡ file
 same_file o a b file found asks q is =
     same_text_of o a file found asks.about (subst (λ c. IsText o.holding c found) (one_command o.words b a q asks.is) is)
 
 -- What is said of a file within the limit is what its command says of it.
-judged : (o : Outside) (reply : Reply) (command : Command) (file : List ℕ) → IsCalm o → Asks o command file → length file ≤ file_limit → MeansToSay o reply
+judged : (o : Outside) (reply : Reply) (command : Command) (file : List ℕ) → IsOfOneFile command → IsCalm o → Asks o command file → length file ≤ file_limit → MeansToSay o reply
     → CommandSays command file reply
-judged o reply command file c asks within (Judged command' file' is read within' calm says) =
+judged o reply command file one c asks within (JudgedBoth name kept file' is read within' means) =
+    absurd (subst IsOfOneFile (one_command o.words command (Audit name kept) asks.is is) one)
+judged o reply command file one c asks within (Judged command' file' is read within' calm says) =
     subst (λ x. CommandSays command x reply) (same_file o command command' file file' asks is read)
     (subst (λ x. CommandSays x file' reply) (one_command o.words command' command is asks.is) says)
-judged o reply command file c asks within (NoCommand none calm e) = absurd (none command asks.is)
-judged o reply command file c asks within (Unread command' is rose e) = absurd (c.shelf rose)
-judged o reply command file c asks within (TooLarge command' file' is read long calm e) =
+judged o reply command file one c asks within (NoCommand none calm e) = absurd (none command asks.is)
+judged o reply command file one c asks within (Unread command' is rose e) = absurd (c.shelf rose)
+judged o reply command file one c asks within (TooLarge command' file' is read long calm e) =
     absurd (let same : length file' ≡ length file = ap length (same_file o command command' file file' asks is read) in omega arith)
 
--- What is said of an accepted file tells a run of its program.
-run_of : Fronts → (name file : List ℕ) (fuel : ℕ) (p : Program) (reply : Reply) → IsAcceptedAs file p → RunSays name file fuel reply → TellsRun p fuel reply
-run_of laws name file fuel p reply is (Runs q accepted says) = subst (λ x. TellsRun x fuel reply) (one_program_of laws file q p accepted is) says
-run_of laws name file fuel p reply is (Refuses rule place broken e) = absurd (accepted_apart laws file p rule place is broken)
+-- What is meant to say of the files of an audit.
+audit_of : (o : Outside) (reply : Reply) (name kept file : List ℕ) → IsCalm o → Asks o (Audit name kept) file → length file ≤ file_limit → MeansToSay o reply
+    → AuditMeans name file (o.holding kept) o.faults_were o.faults_are reply
+audit_of o reply name kept file c asks within (Judged command' file' is read within' calm says) =
+    absurd (subst (λ x. CommandSays x file' reply) (one_command o.words command' (Audit name kept) is asks.is) says)
+audit_of o reply name kept file c asks within (JudgedBoth name' kept' file' is read within' means) =
+    let same : Audit name' kept' ≡ Audit name kept = one_command o.words (Audit name' kept') (Audit name kept) is asks.is in
+    let n : name' ≡ name = cc in
+    let k : kept' ≡ kept = cc in
+    let f : file' ≡ file = same_file o (Audit name kept) (Audit name' kept') file file' asks is read in
+    subst (λ x. AuditMeans x file (o.holding kept) o.faults_were o.faults_are reply) n
+    (subst (λ x. AuditMeans name' x (o.holding kept) o.faults_were o.faults_are reply) f
+    (subst (λ x. AuditMeans name' file' (o.holding x) o.faults_were o.faults_are reply) k means))
+audit_of o reply name kept file c asks within (NoCommand none calm e) = absurd (none (Audit name kept) asks.is)
+audit_of o reply name kept file c asks within (Unread command' is rose e) = absurd (c.shelf rose)
+audit_of o reply name kept file c asks within (TooLarge command' file' is read long calm e) =
+    absurd (let same : length file' ≡ length file = ap length (same_file o (Audit name kept) command' file file' asks is read) in omega arith)
 
-refused : Fronts → (name file : List ℕ) (fuel : ℕ) (rule : Rule) (place : Place) (reply : Reply) → BreaksOne file rule place → RunSays name file fuel reply → reply.status ≡ 1
-refused laws name file fuel rule place reply b (Runs p is says) = absurd (accepted_apart laws file p rule place is b)
-refused laws name file fuel rule place reply b (Refuses rule' place' broken e) = ap (λ (x : Reply). x.status) e
+-- What is said of an accepted file tells a run of its program.
+run_of : Fronts → (writes : Writing) (name file : List ℕ) (fuel : ℕ) (p : Program) (reply : Reply) → IsAcceptedAs file p → RunSays writes name file fuel reply → TellsRun writes p fuel reply
+run_of laws writes name file fuel p reply is (Runs q accepted says) = subst (λ x. TellsRun writes x fuel reply) (one_program_of laws file q p accepted is) says
+run_of laws writes name file fuel p reply is (Refuses rule place broken e) = absurd (accepted_apart laws file p rule place is broken)
+
+refused : Fronts → (writes : Writing) (name file : List ℕ) (fuel : ℕ) (rule : Rule) (place : Place) (reply : Reply) → BreaksOne file rule place → RunSays writes name file fuel reply → reply.status ≡ 1
+refused laws writes name file fuel rule place reply b (Runs p is says) = absurd (accepted_apart laws file p rule place is b)
+refused laws writes name file fuel rule place reply b (Refuses rule' place' broken e) = ap (λ (x : Reply). x.status) e
 
 -- A run that was told is whole.
-whole : (o : Outside) (finish : Finish) (p : Program) (fuel : ℕ) (reply : Reply) → TellsRun p fuel reply → Takes o.out reply.out → Takes o.notes reply.note
-    → finish.status ≡ reply.status → finish.journal ≡ reply.journal → IsWhole o finish p fuel
-whole o finish p fuel reply tells out note status journal = record {
+whole : (o : Outside) (finish : Finish) (writes : Writing) (p : Program) (fuel : ℕ) (reply : Reply) → TellsRun writes p fuel reply → Takes o.out reply.out → Takes o.notes reply.note
+    → finish.status ≡ reply.status → finish.journal ≡ reply.journal → IsWhole o finish writes p fuel
+whole o finish writes p fuel reply tells out note status journal = record {
   term = tells.term;
   effect = tells.effect;
   records = subst (λ j. Records p j tells.term tells.effect) (sym journal) tells.records;
   is_fuel = ap (λ (j : Journal). j.fuel) journal ∙ tells.is_fuel;
-  is_written = subst (λ x. Takes o.out x) tells.is_output out;
+  is_written = subst (λ j. Takes o.out (writes j tells.effect.output)) (sym journal) (subst (λ x. Takes o.out x) tells.is_output out);
   note = reply.note;
   is_noted = note;
   tells = subst (λ j. TellsEnding p j.ending finish.status reply.note) (sym journal) (subst (λ n. TellsEnding p reply.journal.ending n reply.note) (sym status) tells.tells);
@@ -83,11 +108,85 @@ accepts_none laws name file rule place reply b (Accepts program a e) = absurd (a
 accepts_none laws name file rule place reply b (AcceptsNone rule' place' b' e) = ap (λ (x : Reply). x.status) e
 
 -- What a command that runs its text says of it.
-runs : (command : Command) (file : List ℕ) (fuel : ℕ) (reply : Reply) → RunsWith command fuel → CommandSays command file reply → (name : List ℕ) × RunSays name file fuel reply
-runs (Check name) file fuel reply w says = absurd w
-runs (Show name) file fuel reply w says = absurd w
-runs (Run name workers given) file fuel reply w says = (name, subst (λ n. RunSays name file n reply) (sym w) says)
-runs (Bench accounts) file fuel reply w says = (bench_name, subst (λ n. RunSays bench_name file n reply) (sym w) says)
+runs : (command : Command) (file : List ℕ) (fuel : ℕ) (writes : Writing) (reply : Reply) → RunsWith command fuel writes → CommandSays command file reply
+    → (name : List ℕ) × RunSays writes name file fuel reply
+runs (Check name) file fuel writes reply w says = absurd w
+runs (Show name) file fuel writes reply w says = absurd w
+runs (Run name workers given) file fuel writes reply w says =
+    (name, subst (λ x. RunSays x name file fuel reply) (sym w.1) (subst (λ n. RunSays its_output name file n reply) (sym w.0) says))
+runs (Bench accounts) file fuel writes reply w says =
+    (bench_name, subst (λ x. RunSays x bench_name file fuel reply) (sym w.1) (subst (λ n. RunSays its_output bench_name file n reply) (sym w.0) says))
+runs (Record name workers given) file fuel writes reply w says =
+    (name, subst (λ x. RunSays x name file fuel reply) (sym w.1) (subst (λ n. RunSays its_record name file n reply) (sym w.0) says))
+runs (Audit name kept) file fuel writes reply w says = absurd w
+
+runs_one : (command : Command) (fuel : ℕ) (writes : Writing) → RunsWith command fuel writes → IsOfOneFile command
+runs_one (Check name) fuel writes w = tt
+runs_one (Show name) fuel writes w = tt
+runs_one (Run name workers given) fuel writes w = tt
+runs_one (Bench accounts) fuel writes w = tt
+runs_one (Record name workers given) fuel writes w = tt
+runs_one (Audit name kept) fuel writes w = absurd w
+
+-- What is said of a file that breaks a rule, where all rules are asked of it.
+audit_refused : Fronts → (o : Outside) (name kept file : List ℕ) (rule : Rule) (place : Place) (reply : Reply) → BreaksOne file rule place
+    → AuditMeans name file (o.holding kept) o.faults_were o.faults_are reply → reply.status ≡ 1
+audit_refused laws o name kept file rule place reply b (OfProgram p is means) = absurd (accepted_apart laws file p rule place is b)
+audit_refused laws o name kept file rule place reply b (OfNone rule' place' b' calm e) = ap (λ (x : Reply). x.status) e
+
+all_refused : Fronts → (o : Outside) (reply : Reply) (command : Command) (file : List ℕ) (rule : Rule) (place : Place) → IsCalm o → Asks o command file → AsksAll command
+    → length file ≤ file_limit → BreaksOne file rule place → MeansToSay o reply → reply.status ≡ 1
+all_refused laws o reply (Check name) file rule place c asks all within b m = accepts_none laws name file rule place reply b (judged o reply (Check name) file tt c asks within m)
+all_refused laws o reply (Show name) file rule place c asks all within b m = absurd all
+all_refused laws o reply (Run name workers fuel) file rule place c asks all within b m =
+    refused laws its_output name file fuel rule place reply b (judged o reply (Run name workers fuel) file tt c asks within m)
+all_refused laws o reply (Bench accounts) file rule place c asks all within b m =
+    refused laws its_output bench_name file bench_fuel rule place reply b (judged o reply (Bench accounts) file tt c asks within m)
+all_refused laws o reply (Record name workers fuel) file rule place c asks all within b m =
+    refused laws its_record name file fuel rule place reply b (judged o reply (Record name workers fuel) file tt c asks within m)
+all_refused laws o reply (Audit name kept) file rule place c asks all within b m =
+    audit_refused laws o name kept file rule place reply b (audit_of o reply name kept file c asks within m)
+
+-- ---- audits
+
+-- What is meant to say of the record that an audit is about.
+record_of : Fronts → (o : Outside) (reply : Reply) (p : Program) (bytes : List ℕ) → IsCalm o → AsksAudit o p bytes → MeansToSay o reply
+    → RecordMeans p (Held bytes) o.faults_were o.faults_are reply
+record_of laws o reply p bytes c a m = go (audit_of o reply a.name a.kept a.file c a.asks a.within m)
+  where
+    go : AuditMeans a.name a.file (o.holding a.kept) o.faults_were o.faults_are reply → RecordMeans p (Held bytes) o.faults_were o.faults_are reply
+    go (OfProgram q is means) =
+        subst (λ x. RecordMeans x (Held bytes) o.faults_were o.faults_are reply) (one_program_of laws a.file q p is a.accepted)
+        (subst (λ h. RecordMeans q h o.faults_were o.faults_are reply) a.held means)
+    go (OfNone rule place broken calm e) = absurd (accepted_apart laws a.file p rule place a.accepted broken)
+
+says_yes : Fronts → (p : Program) (bytes output : List ℕ) (reply : Reply) → Keeps p bytes output → RecordSays p bytes reply → (reply.status ≡ 0) × (reply.out ≡ output)
+says_yes laws p bytes output reply k (IsKept r answer text found e) =
+    let same = laws.one_record bytes k.journal r.journal output r.output k.is_text text in
+    let prints : Prints p r.journal r.output = subst (λ j. Prints p j r.output) same.0 (subst (λ x. Prints p k.journal x) same.1 k.prints) in
+    let yes : answer ≡ Yes = laws.one_answer p r answer Yes found prints in
+    let is : reply ≡ audited r Yes = e ∙ ap (audited r) yes in
+    (ap (λ (x : Reply). x.status) is, ap (λ (x : Reply). x.out) is ∙ sym same.1)
+says_yes laws p bytes output reply k (Formless at fault e) = absurd (fault.no_record k.journal output k.is_text)
+
+says_no : (p : Program) (bytes : List ℕ) (reply : Reply) → ((output : List ℕ) → Keeps p bytes output → ⊥) → RecordSays p bytes reply → reply.status ≡ 9
+says_no p bytes reply none (IsKept r Yes text found e) = absurd (none r.output (record { journal = r.journal; is_text = text; prints = found }))
+says_no p bytes reply none (IsKept r (NotARun n) text found e) = ap (λ (x : Reply). x.status) e
+says_no p bytes reply none (IsKept r (OtherOutput n) text found e) = ap (λ (x : Reply). x.status) e
+says_no p bytes reply none (Formless at fault e) = ap (λ (x : Reply). x.status) e
+
+-- What is said of a record within its limit, and of one behind it.
+read_record : (p : Program) (bytes : List ℕ) (before after : ℕ) (reply : Reply) → (Rose before after → ⊥) → length bytes ≤ record_limit → RecordMeans p (Held bytes) before after reply
+    → RecordSays p bytes reply
+read_record p bytes before after reply calm within (RecordRead found is w same says) = subst (λ x. RecordSays p x reply) is says
+read_record p bytes before after reply calm within (RecordUnread rose e) = absurd (calm rose)
+read_record p bytes before after reply calm within (RecordTooLarge found is long same e) = absurd (let l : length found ≡ length bytes = ap length is in omega arith)
+
+long_record : (p : Program) (bytes : List ℕ) (before after : ℕ) (reply : Reply) → (Rose before after → ⊥) → record_limit < length bytes → RecordMeans p (Held bytes) before after reply
+    → reply.status ≡ 8
+long_record p bytes before after reply calm long (RecordRead found is w same says) = absurd (let l : length found ≡ length bytes = ap length is in omega arith)
+long_record p bytes before after reply calm long (RecordUnread rose e) = absurd (calm rose)
+long_record p bytes before after reply calm long (RecordTooLarge found is l same e) = ap (λ (x : Reply). x.status) e
 
 no_component : Fronts → (name file : List ℕ) (rule : Rule) (place : Place) (reply : Reply) → IsNoComponent file rule place → ShowSays name file reply → reply.status ≡ 1
 no_component laws name file rule place reply n (Shows text s e) = absurd (shown_apart laws file text rule place s n)
@@ -95,6 +194,7 @@ no_component laws name file rule place reply n (ShowsNone rule' place' none e) =
 
 no_command : (o : Outside) (reply : Reply) → IsNoCommand o.words → MeansToSay o reply → reply.status ≡ 2
 no_command o reply none (Judged command file is read within calm says) = absurd (none command is)
+no_command o reply none (JudgedBoth name kept file is read within means) = absurd (none (Audit name kept) is)
 no_command o reply none (NoCommand out calm e) = ap (λ (x : Reply). x.status) e
 no_command o reply none (Unread command is rose e) = absurd (none command is)
 no_command o reply none (TooLarge command file is read long calm e) = absurd (none command is)
@@ -103,6 +203,8 @@ too_large : (o : Outside) (reply : Reply) (command : Command) (file : List ℕ) 
     → reply.status ≡ 8
 too_large o reply command file c asks long (Judged command' file' is read within calm says) =
     absurd (let same : length file' ≡ length file = ap length (same_file o command command' file file' asks is read) in omega arith)
+too_large o reply command file c asks long (JudgedBoth name kept file' is read within means) =
+    absurd (let same : length file' ≡ length file = ap length (same_file o command (Audit name kept) file file' asks is read) in omega arith)
 too_large o reply command file c asks long (NoCommand none calm e) = absurd (none command asks.is)
 too_large o reply command file c asks long (Unread command' is rose e) = absurd (c.shelf rose)
 too_large o reply command file c asks long (TooLarge command' file' is read long' calm e) = ap (λ (x : Reply). x.status) e
@@ -121,20 +223,24 @@ answers laws o finish ends = record {
   ends = ends;
   complete = λ c. record {
     no_command = λ none. either o finish 2 c ends (λ r m. no_command o r none m);
-    runs = λ command file fuel program asks goes within is. elim (settled o finish c ends) [
-      | inl w ↦ let says = runs command file fuel w.0 goes (judged o w.0 command file c asks within w.1) in
-          inl (whole o finish program fuel w.0 (run_of laws says.0 file fuel program w.0 is says.1) w.2 w.4 w.3 w.5)
+    runs = λ command file fuel writes program asks goes within is. elim (settled o finish c ends) [
+      | inl w ↦ let says = runs command file fuel writes w.0 goes (judged o w.0 command file (runs_one command fuel writes goes) c asks within w.1) in
+          inl (whole o finish writes program fuel w.0 (run_of laws writes says.0 file fuel program w.0 is says.1) w.2 w.4 w.3 w.5)
       | inr e ↦ inr e
     ];
-    refused = λ command file fuel rule place asks goes within none.
-        either o finish 1 c ends (λ r m.
-        let says = runs command file fuel r goes (judged o r command file c asks within m) in refused laws says.0 file fuel rule place r none says.1);
+    refused = λ command file rule place asks all within broken.
+        either o finish 1 c ends (λ r m. all_refused laws o r command file rule place c asks all within broken m);
     accepts = λ name file program asks within is.
-        either_with o finish 0 accepted c ends (λ r m. accepts laws name file program r is (judged o r (Check name) file c asks within m));
-    accepts_none = λ name file rule place asks within none.
-        either o finish 1 c ends (λ r m. accepts_none laws name file rule place r none (judged o r (Check name) file c asks within m));
-    shown = λ name file text asks within is. either o finish 0 c ends (λ r m. shown laws name file text r is (judged o r (Show name) file c asks within m));
-    no_component = λ name file rule place asks within none. either o finish 1 c ends (λ r m. no_component laws name file rule place r none (judged o r (Show name) file c asks within m));
+        either_with o finish 0 accepted c ends (λ r m. accepts laws name file program r is (judged o r (Check name) file tt c asks within m));
+    shown = λ name file text asks within is. either o finish 0 c ends (λ r m. shown laws name file text r is (judged o r (Show name) file tt c asks within m));
+    no_component = λ name file rule place asks within none. either o finish 1 c ends (λ r m. no_component laws name file rule place r none (judged o r (Show name) file tt c asks within m));
     too_large = λ command file asks long. either o finish 8 c ends (λ r m. too_large o r command file c asks long m);
+    audits = λ p bytes output asks within keeps.
+        either_with o finish 0 output c ends (λ r m.
+        says_yes laws p bytes output r keeps (read_record p bytes o.faults_were o.faults_are r c.shelf within (record_of laws o r p bytes c asks m)));
+    audits_none = λ p bytes asks within none.
+        either o finish 9 c ends (λ r m. says_no p bytes r none (read_record p bytes o.faults_were o.faults_are r c.shelf within (record_of laws o r p bytes c asks m)));
+    record_too_large = λ p bytes asks long.
+        either o finish 8 c ends (λ r m. long_record p bytes o.faults_were o.faults_are r c.shelf long (record_of laws o r p bytes c asks m));
   };
 }

@@ -2,7 +2,7 @@
 use Rattle.std.proofs.Common.{◌≡◌, ℕ, ◌+◌, ◌*◌, ◌<◌, ◌≤◌, List, [], ◌∷◌, ◌++◌, length, drop, ap, sym, ◌∙◌, arith, refl, append_assoc, length-append, append-nil, Result, Ok, Err, IfErr}
 use Rattle.std.proofs.Math.Seq.{drop-append_seam}
 use Rattle.fort_port.specs.Outside.{Holding, Untold, Absent, Held, Gives}
-use Rattle.fort_run.specs.Reply.{IsFile, file_limit}
+use Rattle.fort_run.specs.Reply.{IsFile}
 use Rattle.fort_bench.specs.Bank.{bank}
 use Rattle.fort_cmd.specs.declared.command.Command.TheVariants.{Bench}
 use Rattle.fort_run.specs.Fronts.{IsFrontOf, IsTooLarge, StopsAt}
@@ -42,11 +42,11 @@ front_whole (Held file) front piece room f g none some =
     sym (f.1 ∙ (ap (λ r. front ++ r) last ∙ append-nil front))
 
 -- A front longer than a limit is one of a file longer than it.
-pub front_long : (h : Holding) (front : List ℕ) → IsFrontOf h front → file_limit < length front
-    → (file : List ℕ) × IsFile h file × (file_limit < length file)
-front_long Untold front f long = (front, tt, long)
-front_long Absent front f long = absurd (let none : length front ≡ 0 = ap length f in omega arith)
-front_long (Held file) front f long = (file, refl, (let whole : length file ≡ length front + length f.0 = ap length f.1 ∙ length-append front f.0 in omega arith))
+pub front_long : (limit : ℕ) (h : Holding) (front : List ℕ) → IsFrontOf h front → limit < length front
+    → (file : List ℕ) × IsFile h file × (limit < length file)
+front_long limit Untold front f long = (front, tt, long)
+front_long limit Absent front f long = absurd (let none : length front ≡ 0 = ap length f in omega arith)
+front_long limit (Held file) front f long = (file, refl, (let whole : length file ≡ length front + length f.0 = ap length f.1 ∙ length-append front f.0 in omega arith))
 
 -- why there is no text of a bank: it would be larger than a file may be, or memory was wanting
 bank_stop : (holding : List ℕ → Holding) (accounts faults : ℕ) (why : Unread) → IsTooLarge (bank accounts (4 * accounts)) why

@@ -5,3 +5,5 @@ pub mod Complete
 pub mod Meaning
 pub mod Refused
 pub mod Told
+pub mod Recorded
+pub mod Audited

@@ -3,7 +3,7 @@ use Rattle.std.proofs.Common.{◌≡◌, ℕ, ◌≤◌, List, length, Result, O
 use Rattle.fort_base.specs.declared.refusal.Memory.{Memory}
 use Rattle.fort_port.specs.Outside.{Holding}
 use Rattle.fort_cmd.specs.declared.command.Command.{Command}
-use Rattle.fort_cmd.specs.declared.command.Command.TheVariants.{Check, Show, Run, Bench}
+use Rattle.fort_cmd.specs.declared.command.Command.TheVariants.{Check, Show, Run, Bench, Record, Audit}
 use Rattle.fort_cmd.specs.Words.{IsCommand}
 use Rattle.fort_run.specs.Reply.{IsText, IsBounded, CommandSays, Means, Judged, file_limit, no_run}
 use Rattle.fort_run.specs.Said.{said}
@@ -14,6 +14,14 @@ use Rattle.fort_run.specs.declared.answer.Answer.{Answer}
 use Rattle.fort_run.specs.declared.top.Finish.{Finish}
 use Rattle.fort_run.proofs.Apart.{Fronts}
 use Rattle.fort_run.proofs.Complete.{answers}
+
+-- What is meant to say is the same from where the shelf stood before its first file was read.
+pub from_before : (held holding : List ℕ → Holding) (mid before after : ℕ) (command : Command) (r : Result Answer Memory) → held ≡ holding → mid ≡ before
+    → IfOk r (λ a. (words : List (List ℕ)) → IsCommand words command → Means words held mid after (said a))
+    → IfOk r (λ a. (words : List (List ℕ)) → IsCommand words command → Means words holding before after (said a))
+from_before held holding mid before after command r e f means =
+    subst (λ h. IfOk r (λ a. (words : List (List ℕ)) → IsCommand words command → Means words h before after (said a))) e
+    (subst (λ n. IfOk r (λ a. (words : List (List ℕ)) → IsCommand words command → Means words held n after (said a))) f means)
 
 -- What a command says of a text that was read whole is what the call means to say.
 pub read_means : (holding : List ℕ → Holding) (before after : ℕ) (command : Command) (text : List ℕ) (r : Result Answer Memory)
@@ -38,13 +46,15 @@ memory_wanted o finish notes s j = record {
   ends = WantsMemory notes s j;
   complete = λ c. record {
     no_command = λ none. inr s;
-    runs = λ command file fuel program asks goes within is. inr s;
-    refused = λ command file fuel rule place asks goes within broken. inr s;
+    runs = λ command file fuel writes program asks goes within is. inr s;
+    refused = λ command file rule place asks all within broken. inr s;
     accepts = λ name file program asks within is. inr s;
-    accepts_none = λ name file rule place asks within broken. inr s;
     shown = λ name file text asks within is. inr s;
     no_component = λ name file rule place asks within none. inr s;
     too_large = λ command file asks long. inr s;
+    audits = λ p bytes output asks within keeps. inr s;
+    audits_none = λ p bytes asks within none. inr s;
+    record_too_large = λ p bytes asks long. inr s;
   };
 }
 
@@ -53,4 +63,6 @@ pub bounded : (words : List (List ℕ)) (command : Command) → IsCommand words 
 bounded words (Check name) is = tt
 bounded words (Show name) is = tt
 bounded words (Run name workers fuel) is = tt
-bounded words (Bench accounts) is = is.is.within
+bounded words (Bench accounts) is = is.asks.is.within
+bounded words (Record name workers fuel) is = tt
+bounded words (Audit name kept) is = tt

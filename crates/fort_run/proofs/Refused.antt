@@ -1,23 +1,24 @@
 -- A file that breaks a rule is refused by it.
-use Rattle.std.proofs.Common.{ℕ, List, Err, ap}
+use Rattle.std.proofs.Common.{ℕ, List, Err, ap, refl}
 use Rattle.fort_base.specs.declared.refusal.CheckFault.{CheckFault}
 use Rattle.fort_base.specs.declared.refusal.CheckFault.TheVariants as a_fault
 use Rattle.fort_token.specs.declared.token.Tokens.{Tokens}
 use Rattle.fort_lex.specs.Files.{Answers, HasTokens}
 use Rattle.fort_front.specs.Front as front
-use Rattle.fort_run.specs.Reply.{RunSays, Refuses, in_text, behind, CheckSays, AcceptsNone, ShowSays, ShowsNone, in_tokens, in_grammar}
+use Rattle.fort_port.specs.Outside.{Holding}
+use Rattle.fort_run.specs.Reply.{RunSays, Refuses, its_output, AuditMeans, OfNone, in_text, behind, CheckSays, AcceptsNone, ShowSays, ShowsNone, in_tokens, in_grammar}
 use Rattle.fort_run.specs.Said.{said, RefusedBy}
 use Rattle.fort_run.specs.declared.answer.Answer.{Answer}
 
 -- A file to run that breaks a rule of its tokens.
 pub tokens_refused : (name file : List ℕ) (fuel : ℕ) (fault : CheckFault) (answer : Answer) → Answers file (Err fault) → RefusedBy name fault answer
-    → RunSays name file fuel (said answer)
+    → RunSays its_output name file fuel (said answer)
 tokens_refused name file fuel (a_fault.Refused rule place) answer broken e = Refuses rule place (in_text broken) (ap said e)
 tokens_refused name file fuel a_fault.Memory answer broken e = absurd e
 
 -- A file to run whose tokens break a rule behind those of tokens.
 pub form_refused : (name file : List ℕ) (fuel : ℕ) (tokens : Tokens) (fault : CheckFault) (answer : Answer) → HasTokens file tokens
-    → front.Checks tokens (Err fault) → RefusedBy name fault answer → RunSays name file fuel (said answer)
+    → front.Checks tokens (Err fault) → RefusedBy name fault answer → RunSays its_output name file fuel (said answer)
 form_refused name file fuel tokens (a_fault.Refused rule place) answer has broken e =
     Refuses rule place (behind tokens has broken) (ap said e)
 form_refused name file fuel tokens a_fault.Memory answer has broken e = absurd e
@@ -46,3 +47,16 @@ pub form_unaccepted : (name file : List ℕ) (tokens : Tokens) (fault : CheckFau
 form_unaccepted name file tokens (a_fault.Refused rule place) answer has broken e =
     AcceptsNone rule place (behind tokens has broken) (ap said e)
 form_unaccepted name file tokens a_fault.Memory answer has broken e = absurd e
+
+-- A file to audit a record against that breaks a rule of its tokens.
+pub tokens_unaudited : (name file : List ℕ) (holding : Holding) (faults : ℕ) (fault : CheckFault) (answer : Answer) → Answers file (Err fault) → RefusedBy name fault answer
+    → AuditMeans name file holding faults faults (said answer)
+tokens_unaudited name file holding faults (a_fault.Refused rule place) answer broken e = OfNone rule place (in_text broken) refl (ap said e)
+tokens_unaudited name file holding faults a_fault.Memory answer broken e = absurd e
+
+-- A file to audit a record against whose tokens break a rule behind those of tokens.
+pub form_unaudited : (name file : List ℕ) (holding : Holding) (faults : ℕ) (tokens : Tokens) (fault : CheckFault) (answer : Answer) → HasTokens file tokens
+    → front.Checks tokens (Err fault) → RefusedBy name fault answer → AuditMeans name file holding faults faults (said answer)
+form_unaudited name file holding faults tokens (a_fault.Refused rule place) answer has broken e =
+    OfNone rule place (behind tokens has broken) refl (ap said e)
+form_unaudited name file holding faults tokens a_fault.Memory answer has broken e = absurd e

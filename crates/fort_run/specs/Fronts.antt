@@ -6,11 +6,11 @@ use Rattle.fort_run.specs.Reply.{IsFile, IsText, file_limit}
 use Rattle.fort_run.specs.declared.file.Unread.{Unread}
 use Rattle.fort_run.specs.declared.file.Unread.TheVariants as an_unread
 
--- The shelf failed and its count rose; or the file goes on behind the limit; or memory was wanting.
-abbrev pub Stops : Holding → ℕ → ℕ → Unread → Type 0
-Stops holding before after an_unread.Failed = Rose before after
-Stops holding before after an_unread.TooLarge = (after ≡ before) × ((file : List ℕ) × IsFile holding file × (file_limit < length file))
-Stops holding before after an_unread.Memory = Unit {0}
+-- The shelf failed and its count rose; or the file goes on behind a limit; or memory was wanting.
+abbrev pub Stops : ℕ → Holding → ℕ → ℕ → Unread → Type 0
+Stops limit holding before after an_unread.Failed = Rose before after
+Stops limit holding before after an_unread.TooLarge = (after ≡ before) × ((file : List ℕ) × IsFile holding file × (limit < length file))
+Stops limit holding before after an_unread.Memory = Unit {0}
 
 -- These bytes are a front of the file, where the shelf tells it; of a name that it hasn't nothing is read.
 abbrev pub IsFrontOf : Holding → List ℕ → Type 0

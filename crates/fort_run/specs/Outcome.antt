@@ -5,14 +5,17 @@ use Rattle.fort_base.specs.declared.refusal.Place.{Place}
 use Rattle.fort_core.specs.declared.program.Program.{Program}
 use Rattle.fort_port.specs.Outside.{Holding, Held, Rose}
 use Rattle.fort_cmd.specs.declared.command.Command.{Command}
-use Rattle.fort_cmd.specs.declared.command.Command.TheVariants.{Check, Show, Run, Bench}
+use Rattle.fort_cmd.specs.declared.command.Command.TheVariants.{Check, Show, Run, Bench, Record, Audit}
 use Rattle.fort_cmd.specs.Words.{IsCommand, IsNoCommand}
 use Rattle.fort_bench.specs.Bank.{bank}
 use Rattle.fort_core.specs.declared.term.Term.{Term}
 use Rattle.fort_machine.specs.Effects.{Effect}
 use Rattle.fort_machine.specs.Journals.{Records}
+use Rattle.fort_record.specs.Text.{IsRecordText}
+use Rattle.fort_core.specs.declared.journal.Journal.{Journal}
+use Rattle.fort_audit.specs.Audits.{Prints}
 use Rattle.fort_diag.specs.Notes.{want_of_memory}
-use Rattle.fort_run.specs.Reply.{Reply, Means, IsAcceptedAs, BreaksOne, TellsEnding, IsShownAs, IsNoComponent, accepted, bench_fuel, file_limit, no_run}
+use Rattle.fort_run.specs.Reply.{Reply, Means, IsAcceptedAs, BreaksOne, Writing, its_output, its_record, TellsEnding, IsShownAs, IsNoComponent, accepted, bench_fuel, file_limit, record_limit, no_run}
 use Rattle.fort_run.specs.Delivery.{Change, Delivers, Takes, TakesOrFails}
 use Rattle.fort_run.specs.declared.top.Finish.{Finish}
 
@@ -40,51 +43,79 @@ pub record IsCalm (o : Outside) : Type 0 where
   pub out : Rose o.out.faults_were o.out.faults_are → ⊥
   pub notes : Rose o.notes.faults_were o.notes.faults_are → ⊥
 
--- The text that a command is about: the file that the shelf has under its name; or the bank.
+-- The text that a command is about: the component's file that the shelf has under its name; or the bank.
 abbrev pub IsAbout : (List ℕ → Holding) → Command → List ℕ → Type 0
 IsAbout holding (Check name) text = holding name ≡ Held text
 IsAbout holding (Show name) text = holding name ≡ Held text
 IsAbout holding (Run name workers fuel) text = holding name ≡ Held text
 IsAbout holding (Bench accounts) text = text ≡ bank accounts (4 * accounts)
+IsAbout holding (Record name workers fuel) text = holding name ≡ Held text
+IsAbout holding (Audit name kept) text = holding name ≡ Held text
 
 -- The words are this command, and this is the text that it is about.
 pub record Asks (o : Outside) (command : Command) (text : List ℕ) : Type 0 where
   pub is : IsCommand o.words command
   pub about : IsAbout o.holding command text
 
--- The command runs its text, with this fuel.
-abbrev pub RunsWith : Command → ℕ → Type 0
-RunsWith (Check name) fuel = ⊥
-RunsWith (Show name) fuel = ⊥
-RunsWith (Run name workers given) fuel = fuel ≡ given
-RunsWith (Bench accounts) fuel = fuel ≡ bench_fuel
+-- The command runs its text, with this fuel, and writes this of the run.
+abbrev pub RunsWith : Command → ℕ → Writing → Type 0
+RunsWith (Check name) fuel writes = ⊥
+RunsWith (Show name) fuel writes = ⊥
+RunsWith (Run name workers given) fuel writes = (fuel ≡ given) × (writes ≡ its_output)
+RunsWith (Bench accounts) fuel writes = (fuel ≡ bench_fuel) × (writes ≡ its_output)
+RunsWith (Record name workers given) fuel writes = (fuel ≡ given) × (writes ≡ its_record)
+RunsWith (Audit name kept) fuel writes = ⊥
 
--- A run of a program with this fuel, whole: the journal is its, all of its output was written, and the status says how it ended.
-pub record IsWhole (o : Outside) (finish : Finish) (p : Program) (fuel : ℕ) : Type 0 where
+-- The command asks all the rules of its text.
+abbrev pub AsksAll : Command → Type 0
+AsksAll (Show name) = ⊥
+AsksAll other = Unit {0}
+
+-- A run of a program with this fuel, whole: the journal is its, all that is written of it was written, and the status says how it ended.
+pub record IsWhole (o : Outside) (finish : Finish) (writes : Writing) (p : Program) (fuel : ℕ) : Type 0 where
   pub term : Term
   pub effect : Effect
   pub records : Records p finish.journal term effect
   pub is_fuel : finish.journal.fuel ≡ fuel
-  pub is_written : Takes o.out effect.output
+  pub is_written : Takes o.out (writes finish.journal effect.output)
   pub note : List ℕ
   pub is_noted : Takes o.notes note
   pub tells : TellsEnding p finish.journal.ending finish.status note
 
--- Where no count rose and the shelf tells its bytes, the words and the text that they are about decide the status; want of memory aside.
+-- The words ask for an audit of an accepted component's program, and the shelf has the record.
+pub record AsksAudit (o : Outside) (p : Program) (bytes : List ℕ) : Type 0 where
+  pub name : List ℕ
+  pub kept : List ℕ
+  pub file : List ℕ
+  pub asks : Asks o (Audit name kept) file
+  pub within : length file ≤ file_limit
+  pub accepted : IsAcceptedAs file p
+  pub held : o.holding kept ≡ Held bytes
+
+-- Bytes are the record of a run of a program, which printed this output.
+pub record Keeps (p : Program) (bytes output : List ℕ) : Type 0 where
+  pub journal : Journal
+  pub is_text : IsRecordText bytes journal output
+  pub prints : Prints p journal output
+
+-- Where no count rose and the shelf tells its bytes, the words and the files that they are about decide the status; want of memory aside.
 pub record IsComplete (o : Outside) (finish : Finish) : Type 0 where
   pub no_command : IsNoCommand o.words → (finish.status ≡ 2) ⊎ (finish.status ≡ 7)
-  pub runs : (command : Command) (file : List ℕ) (fuel : ℕ) (program : Program) → Asks o command file → RunsWith command fuel → length file ≤ file_limit
-      → IsAcceptedAs file program → IsWhole o finish program fuel ⊎ (finish.status ≡ 7)
-  pub refused : (command : Command) (file : List ℕ) (fuel : ℕ) (rule : Rule) (place : Place) → Asks o command file → RunsWith command fuel → length file ≤ file_limit
+  pub runs : (command : Command) (file : List ℕ) (fuel : ℕ) (writes : Writing) (program : Program) → Asks o command file → RunsWith command fuel writes
+      → length file ≤ file_limit → IsAcceptedAs file program → IsWhole o finish writes program fuel ⊎ (finish.status ≡ 7)
+  pub refused : (command : Command) (file : List ℕ) (rule : Rule) (place : Place) → Asks o command file → AsksAll command → length file ≤ file_limit
       → BreaksOne file rule place → (finish.status ≡ 1) ⊎ (finish.status ≡ 7)
   pub accepts : (name file : List ℕ) (program : Program) → Asks o (Check name) file → length file ≤ file_limit → IsAcceptedAs file program
       → ((finish.status ≡ 0) × Takes o.out accepted) ⊎ (finish.status ≡ 7)
-  pub accepts_none : (name file : List ℕ) (rule : Rule) (place : Place) → Asks o (Check name) file → length file ≤ file_limit
-      → BreaksOne file rule place → (finish.status ≡ 1) ⊎ (finish.status ≡ 7)
   pub shown : (name file text : List ℕ) → Asks o (Show name) file → length file ≤ file_limit → IsShownAs file text → (finish.status ≡ 0) ⊎ (finish.status ≡ 7)
   pub no_component : (name file : List ℕ) (rule : Rule) (place : Place) → Asks o (Show name) file → length file ≤ file_limit
       → IsNoComponent file rule place → (finish.status ≡ 1) ⊎ (finish.status ≡ 7)
   pub too_large : (command : Command) (file : List ℕ) → Asks o command file → file_limit < length file → (finish.status ≡ 8) ⊎ (finish.status ≡ 7)
+  pub audits : (p : Program) (bytes output : List ℕ) → AsksAudit o p bytes → length bytes ≤ record_limit → Keeps p bytes output
+      → ((finish.status ≡ 0) × Takes o.out output) ⊎ (finish.status ≡ 7)
+  pub audits_none : (p : Program) (bytes : List ℕ) → AsksAudit o p bytes → length bytes ≤ record_limit → ((output : List ℕ) → Keeps p bytes output → ⊥)
+      → (finish.status ≡ 9) ⊎ (finish.status ≡ 7)
+  pub record_too_large : (p : Program) (bytes : List ℕ) → AsksAudit o p bytes → record_limit < length bytes → (finish.status ≡ 8) ⊎ (finish.status ≡ 7)
 
 -- What is promised of a call.
 pub record Answers (o : Outside) (finish : Finish) : Type 0 where

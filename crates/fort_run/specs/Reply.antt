@@ -1,6 +1,12 @@
 -- What a call means to say. It restates the chapters "The command line" and "Statuses and notes" of docs/LANGUAGE.md.
 -- The code finds the reply by reading in pieces; the words below speak of whole files.
-use Rattle.std.specs.Prelude.{◌≡◌, ℕ, ◌*◌, ◌<◌, ◌≤◌, List, [], ◌∷◌, ◌++◌, codes, length}
+use Rattle.std.specs.Prelude.{◌≡◌, ℕ, Bool, ◌*◌, ◌<◌, ◌≤◌, List, [], ◌∷◌, ◌++◌, codes, length}
+use Rattle.fort_audit.specs.Audits.{Audits}
+use Rattle.fort_audit.specs.Notes.{note_of}
+use Rattle.fort_audit.specs.declared.answer.Audited.{Audited}
+use Rattle.fort_audit.specs.declared.answer.Audited.TheVariants.{Yes, NotARun, OtherOutput}
+use Rattle.fort_audit.specs.declared.refusal.Why.{Why}
+use Rattle.fort_audit.specs.declared.refusal.Why.TheVariants as why
 use Rattle.fort_base.specs.declared.refusal.Rule.{Rule}
 use Rattle.fort_base.specs.declared.refusal.Place.{Place}
 use Rattle.fort_token.specs.declared.token.Tokens.{Tokens}
@@ -9,7 +15,7 @@ use Rattle.fort_front.specs.Front.{IsGrammatical, BreaksGrammar, IsAccepted, Bre
 use Rattle.fort_canonical.specs.Canonical.{canonical}
 use Rattle.fort_port.specs.Outside.{Holding, Untold, Absent, Held, Rose}
 use Rattle.fort_cmd.specs.declared.command.Command.{Command}
-use Rattle.fort_cmd.specs.declared.command.Command.TheVariants.{Check, Show, Run, Bench}
+use Rattle.fort_cmd.specs.declared.command.Command.TheVariants.{Check, Show, Run, Bench, Record, Audit}
 use Rattle.fort_cmd.specs.Words.{IsCommand, IsNoCommand, most_accounts}
 use Rattle.fort_bench.specs.Bank.{bank}
 use Rattle.fort_core.specs.declared.journal.Ending.{Ending}
@@ -17,8 +23,12 @@ use Rattle.fort_core.specs.declared.journal.Ending.TheVariants.{NotRun, Complete
 use Rattle.fort_core.specs.declared.journal.Journal.{Journal}
 use Rattle.fort_core.specs.declared.program.Program.{Program}
 use Rattle.fort_core.specs.declared.term.Term.{Term}
-use Rattle.fort_machine.specs.Effects.{Effect}
+use Rattle.fort_machine.specs.Effects.{Store, Effect}
 use Rattle.fort_machine.specs.Journals.{Records}
+use Rattle.fort_machine.specs.OneDefinition.{IsOne}
+use Rattle.fort_machine.specs.Proper.{Reached}
+use Rattle.fort_record.specs.Text.{IsFormFault, IsRecordText, record_text}
+use Rattle.fort_record.specs.declared.reading.Record as a_record
 use Rattle.fort_diag.specs.Notes.{usage, read_fault, too_large, out_of_fuel, uncaught, refusal}
 
 -- A status, what is for standard output, what is for standard error, and the journal of a run.
@@ -60,6 +70,16 @@ pub data BreaksOne (file : List ℕ) (rule : Rule) (place : Place) : Type 0 wher
   in_text : BreaksRule file rule place → BreaksOne file rule place
   behind : (tokens : Tokens) → HasTokens file tokens → Breaks tokens rule place → BreaksOne file rule place
 
+-- What is written of a run, by its journal and what it printed: that output, or the record of both.
+abbrev pub Writing : Type 0
+Writing = Journal → List ℕ → List ℕ
+
+abbrev pub its_output : Writing
+its_output journal output = output
+
+abbrev pub its_record : Writing
+its_record journal output = record_text journal output
+
 -- The status and the note of a run's ending: 0 and none where it is completed; 5 and the exception where one is uncaught; 6 and a note where it is out of fuel.
 abbrev pub TellsEnding : Program → Ending → ℕ → List ℕ → Type 0
 TellsEnding p NotRun status note = ⊥
@@ -67,22 +87,29 @@ TellsEnding p Completed status note = (status ≡ 0) × (note ≡ [])
 TellsEnding p (Uncaught v) status note = (status ≡ 5) × (note ≡ uncaught p v)
 TellsEnding p (OutOfFuel pick) status note = (status ≡ 6) × (note ≡ out_of_fuel)
 
--- The reply tells a run of a program with this fuel: its journal is the run's, its output what the run printed, and status and note tell how the run ended.
-pub record TellsRun (p : Program) (fuel : ℕ) (reply : Reply) : Type 0 where
+-- Wherever a machine of a program comes to, the root's or an attempt's at any depth, each call of values has exactly one most specific applicable declaration, and
+-- that one isn't abstract. So it is in each term of a run.
+abbrev pub AlwaysOne : Program → Type 0
+AlwaysOne p = (inner : Bool) (s : Store) (t : Term) → Reached p inner s t → IsOne p t
+
+-- The reply tells a run of a program with this fuel: its journal is the run's, what is written is of that journal and what the run printed, and status and note
+-- tell how the run ended; and in each of its terms each call has its one declaration.
+pub record TellsRun (writes : Writing) (p : Program) (fuel : ℕ) (reply : Reply) : Type 0 where
   pub term : Term
   pub effect : Effect
   pub records : Records p reply.journal term effect
   pub is_fuel : reply.journal.fuel ≡ fuel
-  pub is_output : reply.out ≡ effect.output
+  pub is_output : reply.out ≡ writes reply.journal effect.output
   pub tells : TellsEnding p reply.journal.ending reply.status reply.note
+  pub one : AlwaysOne p
 
 -- What is said of a file to run with this fuel.
-pub data RunSays (name file : List ℕ) (fuel : ℕ) (reply : Reply) : Type 0 where
+pub data RunSays (writes : Writing) (name file : List ℕ) (fuel : ℕ) (reply : Reply) : Type 0 where
   -- The component is accepted: a run of its program.
-  Runs : (p : Program) → IsAcceptedAs file p → TellsRun p fuel reply → RunSays name file fuel reply
+  Runs : (p : Program) → IsAcceptedAs file p → TellsRun writes p fuel reply → RunSays writes name file fuel reply
   -- The component is refused: 1, and where and by which rule.
   Refuses : (rule : Rule) (place : Place) → BreaksOne file rule place → reply ≡ record { status = 1; out = []; note = refusal name rule place; journal = no_run }
-      → RunSays name file fuel reply
+      → RunSays writes name file fuel reply
 
 -- ---- check
 
@@ -120,6 +147,47 @@ pub data ShowSays (name file : List ℕ) (reply : Reply) : Type 0 where
   ShowsNone : (rule : Rule) (place : Place) → IsNoComponent file rule place → reply ≡ record { status = 1; out = []; note = refusal name rule place; journal = no_run }
       → ShowSays name file reply
 
+-- ---- audit
+
+-- the most bytes that a record may have
+abbrev pub record_limit : ℕ
+record_limit = 1073741824
+
+-- A record is refused: 9, and why.
+abbrev pub refused_record : Why → Reply
+refused_record w = record { status = 9; out = []; note = note_of w; journal = no_run }
+
+-- The reply to a record, by what its audit answers: 0, and the output that it records; or why it is refused.
+abbrev pub audited : a_record.Record → Audited → Reply
+audited r Yes = record { status = 0; out = r.output; note = []; journal = no_run }
+audited r (NotARun n) = refused_record (why.Pick n)
+audited r (OtherOutput n) = refused_record (why.Output n)
+
+-- What is said of the bytes of a record, for a program.
+pub data RecordSays (p : Program) (bytes : List ℕ) (reply : Reply) : Type 0 where
+  -- They are a record: what its audit answers.
+  IsKept : (r : a_record.Record) (answer : Audited) → IsRecordText bytes r.journal r.output → Audits p r answer → reply ≡ audited r answer → RecordSays p bytes reply
+  -- They are none: 9, and from which byte on.
+  Formless : (at : ℕ) → IsFormFault bytes at → reply ≡ refused_record (why.Form at) → RecordSays p bytes reply
+
+-- What is meant to say of a record, for a program, what the shelf tells of the record's name, and its counts of faults before and after.
+pub data RecordMeans (p : Program) (holding : Holding) (before after : ℕ) (reply : Reply) : Type 0 where
+  -- It was read to its end.
+  RecordRead : (bytes : List ℕ) → IsFile holding bytes → length bytes ≤ record_limit → after ≡ before → RecordSays p bytes reply → RecordMeans p holding before after reply
+  -- The shelf's count of faults rose: 3.
+  RecordUnread : Rose before after → reply ≡ record { status = 3; out = []; note = read_fault; journal = no_run } → RecordMeans p holding before after reply
+  -- It goes on behind its limit: 8.
+  RecordTooLarge : (bytes : List ℕ) → IsFile holding bytes → record_limit < length bytes → after ≡ before
+      → reply ≡ record { status = 8; out = []; note = too_large; journal = no_run } → RecordMeans p holding before after reply
+
+-- What is meant to say of a component's file, for what the shelf tells of the record's name.
+pub data AuditMeans (name file : List ℕ) (holding : Holding) (before after : ℕ) (reply : Reply) : Type 0 where
+  -- The component is accepted: what is said of the record, for its program.
+  OfProgram : (p : Program) → IsAcceptedAs file p → RecordMeans p holding before after reply → AuditMeans name file holding before after reply
+  -- It is refused, before the record is read: 1, and where and by which rule.
+  OfNone : (rule : Rule) (place : Place) → BreaksOne file rule place → after ≡ before
+      → reply ≡ record { status = 1; out = []; note = refusal name rule place; journal = no_run } → AuditMeans name file holding before after reply
+
 -- ---- all commands
 
 -- the fuel of the bank, and the name that its notes call it by
@@ -129,12 +197,14 @@ bench_fuel = 20000000
 abbrev pub bench_name : List ℕ
 bench_name = codes "bench"
 
--- These are the bytes that a command is about: those of its file, where the shelf tells them, or the bank's text.
+-- These are the bytes that a command is about: those of its component's file, where the shelf tells them, or the bank's text.
 abbrev pub IsText : (List ℕ → Holding) → Command → List ℕ → Type 0
 IsText holding (Check name) text = IsFile (holding name) text
 IsText holding (Show name) text = IsFile (holding name) text
 IsText holding (Run name workers fuel) text = IsFile (holding name) text
 IsText holding (Bench accounts) text = text ≡ bank accounts (4 * accounts)
+IsText holding (Record name workers fuel) text = IsFile (holding name) text
+IsText holding (Audit name kept) text = IsFile (holding name) text
 
 -- The number of accounts is one that words may give.
 abbrev pub IsBounded : Command → Type 0
@@ -142,19 +212,31 @@ IsBounded (Check name) = Unit {0}
 IsBounded (Show name) = Unit {0}
 IsBounded (Run name workers fuel) = Unit {0}
 IsBounded (Bench accounts) = accounts ≤ most_accounts
+IsBounded (Record name workers fuel) = Unit {0}
+IsBounded (Audit name kept) = Unit {0}
 
--- What a command says of its text, once that is there. How many workers there are is not asked.
+-- A command that isn't an audit is about one text alone.
+abbrev pub IsOfOneFile : Command → Type 0
+IsOfOneFile (Audit name kept) = ⊥
+IsOfOneFile other = Unit {0}
+
+-- What a command says of its text, once that is there; an audit has two files, and isn't here. How many workers there are is not asked.
 abbrev pub CommandSays : Command → List ℕ → Reply → Type 0
 CommandSays (Check name) text reply = CheckSays name text reply
 CommandSays (Show name) text reply = ShowSays name text reply
-CommandSays (Run name workers fuel) text reply = RunSays name text fuel reply
-CommandSays (Bench accounts) text reply = RunSays bench_name text bench_fuel reply
+CommandSays (Run name workers fuel) text reply = RunSays its_output name text fuel reply
+CommandSays (Bench accounts) text reply = RunSays its_output bench_name text bench_fuel reply
+CommandSays (Record name workers fuel) text reply = RunSays its_record name text fuel reply
+CommandSays (Audit name kept) text reply = ⊥
 
 -- What a call means to say, for its words, what the shelf tells, and its counts of faults before and after.
 pub data Means (words : List (List ℕ)) (holding : List ℕ → Holding) (before after : ℕ) (reply : Reply) : Type 0 where
   -- The text was read to its end: what the command says of it.
   Judged : (command : Command) (text : List ℕ) → IsCommand words command → IsText holding command text → length text ≤ file_limit
       → after ≡ before → CommandSays command text reply → Means words holding before after reply
+  -- They ask for an audit, and the component's file was read to its end: what is meant to say of both files.
+  JudgedBoth : (name kept file : List ℕ) → IsCommand words (Audit name kept) → IsFile (holding name) file → length file ≤ file_limit
+      → AuditMeans name file (holding kept) before after reply → Means words holding before after reply
   -- The words are no command: 2, and no file is asked for.
   NoCommand : IsNoCommand words → after ≡ before → reply ≡ record { status = 2; out = []; note = usage; journal = no_run } → Means words holding before after reply
   -- The shelf's count of faults rose: 3.

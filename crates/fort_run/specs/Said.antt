@@ -5,7 +5,7 @@ use Rattle.fort_base.specs.declared.refusal.CheckFault.TheVariants as a_fault
 use Rattle.fort_diag.specs.Notes.{usage, read_fault, too_large, out_of_fuel, refusal}
 use Rattle.fort_run.specs.Reply.{Reply, no_run, accepted}
 use Rattle.fort_run.specs.declared.answer.Answer.{Answer}
-use Rattle.fort_run.specs.declared.answer.Answer.TheVariants.{Ran, Accepted, Shown, Refused, NoCommand, Unread, TooLarge}
+use Rattle.fort_run.specs.declared.answer.Answer.TheVariants.{Ran, Accepted, Shown, Refused, NoCommand, Unread, TooLarge, RecordRefused}
 use Rattle.fort_run.specs.declared.answer.Told.{Told}
 use Rattle.fort_run.specs.declared.answer.Told.TheVariants as told
 
@@ -28,6 +28,7 @@ said (Refused note) = record { status = 1; out = []; note = note; journal = no_r
 said NoCommand = record { status = 2; out = []; note = usage; journal = no_run }
 said Unread = record { status = 3; out = []; note = read_fault; journal = no_run }
 said TooLarge = record { status = 8; out = []; note = too_large; journal = no_run }
+said (RecordRefused note) = record { status = 9; out = []; note = note; journal = no_run }
 
 -- The refusal of a file by the fault of its check; want of memory is no refusal.
 abbrev pub RefusedBy : List ℕ → CheckFault → Answer → Type 0

@@ -46,17 +46,19 @@ impl Told {
 /// What a call means to say.
 #[derive(Drop)]
 pub(crate) enum Answer {
-    /// A run: its journal, what it printed, and how it ended.
+    /// A run: its journal, what is to be written of it, and how it ended.
     Ran(Journal, Bytes, Told),
     /// A component is accepted.
     Accepted,
-    /// A component's text.
+    /// A text: a component's, or what a record has for the output.
     Shown(Bytes),
     /// A component is refused; the note.
     Refused(Bytes),
     NoCommand,
     Unread,
     TooLarge,
+    /// A record is refused; the note.
+    RecordRefused(Bytes),
 }
 
 impl Answer {
@@ -73,6 +75,7 @@ impl Answer {
             Answer::NoCommand => 2,
             Answer::Unread => 3,
             Answer::TooLarge => 8,
+            Answer::RecordRefused(_) => 9,
         }
     }
 
@@ -98,6 +101,7 @@ impl Answer {
             Answer::NoCommand => fixed(2).as_bytes(),
             Answer::Unread => fixed(3).as_bytes(),
             Answer::TooLarge => fixed(8).as_bytes(),
+            Answer::RecordRefused(note) => note.as_slice(),
         }
     }
 
@@ -113,6 +117,7 @@ impl Answer {
             Answer::NoCommand => no_run(alloc),
             Answer::Unread => no_run(alloc),
             Answer::TooLarge => no_run(alloc),
+            Answer::RecordRefused(_) => no_run(alloc),
         }
     }
 }

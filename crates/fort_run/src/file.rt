@@ -1,5 +1,5 @@
 ghost use Rattle.std.specs.Prelude.{◌≡◌, ◌+◌, ◌<◌, ◌≤◌, true, false, length, vec_len, Ok, IfOk, IfErr, OnOk};
-ghost use Rattle.fort_run.specs.Reply.{IsFile, file_limit};
+ghost use Rattle.fort_run.specs.Reply.{IsFile, record_limit};
 ghost use Rattle.fort_run.specs.Fronts.{IsFrontOf, Stops};
 ghost use Rattle.fort_run.specs.declared.file.Unread.TheVariants as an_unread;
 
@@ -7,8 +7,11 @@ use fort_base::{Bytes, List, Memory};
 use fort_port::{Failed, Shelf};
 use std::alloc::{AllocError, Global};
 
-/// The most bytes that a file may have.
+/// The most bytes that a component's file may have.
 pub(crate) const FILE_LIMIT: usize = 1_048_576;
+
+/// The most bytes that a record may have.
+pub(crate) const RECORD_LIMIT: usize = 1_073_741_824;
 
 /// The most bytes that are asked for at once.
 const PIECE: usize = 65_536;
@@ -45,23 +48,25 @@ impl From<AllocError> for Unread {
     }
 }
 
-/// Reads a file to its end, or up to the first byte behind the limit.
+/// Reads a file to its end, or up to the first byte behind a limit.
 pub(crate) fn read_file<F: Shelf>(
     alloc: Global,
     shelf: &mut F,
     name: &Bytes,
+    limit: usize,
 ) -> Result<Bytes, Unread>
+    requires { limit ≤ record_limit }
     ensures kept { F.holding shelf.new ≡ F.holding shelf.old }
     ensures file { IfOk result (λ file. IsFile (F.holding shelf.old name.now) file) }
-    ensures within { IfOk result (λ file. length file ≤ file_limit) }
+    ensures within { IfOk result (λ file. length file ≤ limit) }
     ensures calm { OnOk result (F.faults shelf.new ≡ F.faults shelf.old) }
-    ensures stops { IfErr result (Stops (F.holding shelf.old name.now) (F.faults shelf.old) (F.faults shelf.new)) }
+    ensures stops { IfErr result (Stops limit (F.holding shelf.old name.now) (F.faults shelf.old) (F.faults shelf.new)) }
 {
     let mut piece = buffer(alloc)?;
     let mut file = List::new(alloc);
-    while file.len() <= FILE_LIMIT {
-        let room = (FILE_LIMIT + 1 - file.len()).min(PIECE);
-        if read_more(shelf, name, &mut file, &mut piece[..room])? {
+    while file.len() <= limit {
+        let room = (limit + 1 - file.len()).min(PIECE);
+        if read_more(shelf, name, limit, &mut file, &mut piece[..room])? {
             return Ok(file);
         }
     }
@@ -79,19 +84,21 @@ fn buffer(alloc: Global) -> Result<Vec<u8>, AllocError>
 fn read_more<F: Shelf>(
     shelf: &mut F,
     name: &Bytes,
+    limit: usize,
     file: &mut Bytes,
     into: &mut [u8],
 ) -> Result<bool, Unread>
     requires some { 0 < length into.old }
     requires front { IsFrontOf (F.holding shelf.old name.now) file.old }
-    requires within { length file.old ≤ file_limit }
+    requires within { length file.old ≤ limit }
     ensures kept { F.holding shelf.new ≡ F.holding shelf.old }
     ensures calm { OnOk result (F.faults shelf.new ≡ F.faults shelf.old) }
     ensures front { OnOk result (IsFrontOf (F.holding shelf.old name.now) file.new) }
     ensures end { result ≡ Ok true → (file.new ≡ file.old) × IsFile (F.holding shelf.old name.now) file.old }
     ensures more { result ≡ Ok false → (length file.old < length file.new) × (length file.new ≤ length file.old + length into.old) }
-    ensures stops { IfErr result (Stops (F.holding shelf.old name.now) (F.faults shelf.old) (F.faults shelf.new)) }
+    ensures stops { IfErr result (Stops limit (F.holding shelf.old name.now) (F.faults shelf.old) (F.faults shelf.new)) }
 {
+    let _limit = limit;
     let count = shelf.read_at(name, file.len() as u64, into)?;
     if count == 0 {
         return Ok(true);

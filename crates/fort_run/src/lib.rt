@@ -2,9 +2,11 @@
 #![tactic(auto)]
 
 mod answer;
+mod audit;
 mod check;
 mod deliver;
 mod file;
+mod record;
 mod reply;
 mod run;
 mod show;

@@ -3,12 +3,14 @@ ghost use Rattle.std.specs.Prelude.{◌≡◌, ◌≤◌, ◌*◌, ℕ, List as 
 ghost use Rattle.fort_cmd.specs.Words.{IsCommand, most_accounts};
 ghost use Rattle.fort_bench.specs.Bank as the;
 ghost use Rattle.fort_run.specs.Fronts.{StopsAt, IsTooLarge};
-ghost use Rattle.fort_run.specs.Reply.{Means, CommandSays, RunSays, IsText, IsBounded, bench_fuel, bench_name, file_limit};
+ghost use Rattle.fort_run.specs.Reply.{Means, CommandSays, RunSays, IsText, IsBounded, IsOfOneFile, bench_fuel, bench_name, file_limit, its_output};
 ghost use Rattle.fort_run.specs.Said.{said};
 
 use crate::answer::Answer;
+use crate::audit::audit_file;
 use crate::check::check_file;
 use crate::file::{FILE_LIMIT, Unread, read_file};
+use crate::record::record_file;
 use crate::run::run_file;
 use crate::show::show_file;
 use fort_base::{Bytes, List, Memory};
@@ -20,7 +22,7 @@ use std::alloc::Global;
 /// The fuel of the bank.
 const BENCH_FUEL: u64 = 20_000_000;
 
-/// What the call with these words means to say; the file is read to its end, or to the first byte
+/// What the call with these words means to say; a file is read to its end, or to the first byte
 /// behind the limit, before anything of it is judged.
 pub(crate) fn reply_to<F: Shelf>(
     alloc: Global,
@@ -44,14 +46,14 @@ fn asked<F: Shelf>(alloc: Global, command: Command, shelf: &mut F) -> Result<Ans
     ensures means { IfOk result (λ a. (words : Seq (Seq ℕ)) → IsCommand words command → Means words (F.holding shelf.old) (F.faults shelf.old) (F.faults shelf.new) (said a)) }
 {
     match read_text(alloc, &command, shelf) {
-        Ok(text) => judged(alloc, command, &text),
+        Ok(text) => judged(alloc, command, &text, shelf),
         Err(Unread::Failed) => Ok(Answer::Unread),
         Err(Unread::TooLarge) => Ok(Answer::TooLarge),
         Err(Unread::Memory) => Err(Memory),
     }
 }
 
-/// The text that a command is about: its file, or the bank.
+/// The text that a command is about: its component's file, or the bank.
 fn read_text<F: Shelf>(alloc: Global, command: &Command, shelf: &mut F) -> Result<Bytes, Unread>
     requires { IsBounded command.now }
     ensures kept { F.holding shelf.new ≡ F.holding shelf.old }
@@ -61,10 +63,12 @@ fn read_text<F: Shelf>(alloc: Global, command: &Command, shelf: &mut F) -> Resul
     ensures stops { IfErr result (StopsAt (F.holding shelf.old) command.now (F.faults shelf.old) (F.faults shelf.new)) }
 {
     match command {
-        Command::Check(name) => read_file(alloc, shelf, name),
-        Command::Show(name) => read_file(alloc, shelf, name),
-        Command::Run(name, _, _) => read_file(alloc, shelf, name),
+        Command::Check(name) => read_file(alloc, shelf, name, FILE_LIMIT),
+        Command::Show(name) => read_file(alloc, shelf, name, FILE_LIMIT),
+        Command::Run(name, _, _) => read_file(alloc, shelf, name, FILE_LIMIT),
         Command::Bench(accounts) => bank_within(alloc, *accounts),
+        Command::Record(name, _, _) => read_file(alloc, shelf, name, FILE_LIMIT),
+        Command::Audit(name, _) => read_file(alloc, shelf, name, FILE_LIMIT),
     }
 }
 
@@ -82,9 +86,28 @@ fn bank_within(alloc: Global, accounts: u32) -> Result<Bytes, Unread>
     Ok(text)
 }
 
-/// What a command says of its text.
-fn judged(alloc: Global, command: Command, text: &Bytes) -> Result<Answer, Memory>
-    requires { length text.now ≤ file_limit }
+/// What is meant to say of a command's text; an audit has a second file to read.
+fn judged<F: Shelf>(
+    alloc: Global,
+    command: Command,
+    text: &Bytes,
+    shelf: &mut F,
+) -> Result<Answer, Memory>
+    requires is_text { IsText (F.holding shelf.old) command text.now }
+    requires within { length text.now ≤ file_limit }
+    ensures kept { F.holding shelf.new ≡ F.holding shelf.old }
+    ensures means { IfOk result (λ a. (words : Seq (Seq ℕ)) → IsCommand words command → Means words (F.holding shelf.old) (F.faults shelf.old) (F.faults shelf.new) (said a)) }
+{
+    match command {
+        Command::Audit(name, kept) => audit_file(alloc, name, &kept, text, shelf),
+        other => say(alloc, other, text),
+    }
+}
+
+/// What a command says of its text, where that is its only file.
+fn say(alloc: Global, command: Command, text: &Bytes) -> Result<Answer, Memory>
+    requires one { IsOfOneFile command }
+    requires within { length text.now ≤ file_limit }
     ensures { IfOk result (λ a. CommandSays command text.now (said a)) }
 {
     match command {
@@ -92,13 +115,15 @@ fn judged(alloc: Global, command: Command, text: &Bytes) -> Result<Answer, Memor
         Command::Show(name) => show_file(alloc, name, text),
         Command::Run(name, _, fuel) => run_file(alloc, name, text, fuel),
         Command::Bench(_) => run_bank(alloc, text),
+        Command::Record(name, _, fuel) => record_file(alloc, name, text, fuel),
+        Command::Audit(_, _) => unreachable!(),
     }
 }
 
 /// What is to say of the bank's text.
 fn run_bank(alloc: Global, text: &Bytes) -> Result<Answer, Memory>
     requires { length text.now ≤ file_limit }
-    ensures { IfOk result (λ a. RunSays bench_name text.now bench_fuel (said a)) }
+    ensures { IfOk result (λ a. RunSays its_output bench_name text.now bench_fuel (said a)) }
 {
     let name = List::from_slice(alloc, b"bench")?;
     run_file(alloc, name, text, BENCH_FUEL)

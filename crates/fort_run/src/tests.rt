@@ -15,8 +15,12 @@ use std::thread::Threads;
 const GREETING: &str =
     "component T\nexport Executable\nrun(): () = println(\"Hello, World!\")\nend\n";
 
-const USAGE: &str =
-    "usage: fortress check FILE | show FILE | run FILE [--workers N] [--fuel N] | bench N\n";
+const USAGE: &str = "usage: fortress check FILE | show FILE \
+    | run FILE [--workers N] [--fuel N] | bench N \
+    | record FILE [--workers N] [--fuel N] | audit FILE RECORD\n";
+
+/// The record of a run of `LETTER` with a fuel of 4.
+const RECORD: &str = "fortress record 1\nfuel 4\ns - 0\ns - 0\ncompleted\noutput 2\na\n";
 
 // An inner attempt that fails gives back what is older than itself.
 const NESTED: &str = "component T
@@ -159,6 +163,60 @@ fn a_run_costs_what_its_steps_cost(rt: HostRuntime) -> Result<(), Fail> {
     )?;
     assert!(rt; refused.journal.picks.is_empty());
     assert!(rt; matches!(refused.journal.ending, Ending::NotRun));
+    Ok(())
+}
+
+/// Audits a record of `LETTER`, and compares all that comes out.
+fn expect_audit<R: Threads + Wait + Sync + Abort + AllocGlobal>(
+    rt: &R,
+    record: &str,
+    status: u8,
+    out: &str,
+    note: &str,
+) -> Result<(), Fail> {
+    let alloc = rt.alloc();
+    let mut files = Vec::new(alloc);
+    files.push((bytes(alloc, b"T.fss")?, bytes(alloc, LETTER)?))?;
+    files.push((bytes(alloc, b"R")?, bytes(alloc, record.as_bytes())?))?;
+    let mut shelf = CalmShelf::new(List::from_vec(files), 10);
+    let mut printed = CalmSink::new(alloc, 1000, 3).map_err(|_| AllocError)?;
+    let mut notes = CalmSink::new(alloc, 1000, 1000).map_err(|_| AllocError)?;
+    let finish = fortress(
+        rt,
+        alloc,
+        &texts(alloc, &["audit", "T.fss", "R"])?,
+        &mut shelf,
+        &mut printed,
+        &mut notes,
+        &IdleGate,
+    );
+    assert_eq!(rt; finish.status, status, "{record}");
+    assert_eq!(rt; printed.bytes(), out.as_bytes(), "{record}");
+    assert_eq!(rt; notes.bytes(), note.as_bytes(), "{record}");
+    assert!(rt; matches!(finish.journal.ending, Ending::NotRun));
+    Ok(())
+}
+
+#[test]
+fn a_run_is_recorded_and_its_record_audited(rt: HostRuntime) -> Result<(), Fail> {
+    let words = ["record", "T.fss", "--fuel", "4"];
+    let kept = expect_finish(&rt, &words, LETTER, 100, 0, RECORD, "")?;
+    assert_eq!(rt; kept.journal.picks.len(), 2);
+    expect_audit(&rt, RECORD, 0, "a\n", "")?;
+    let rows = [
+        ("", "record refused: form at byte 0\n"),
+        (
+            "fortress record 1\nfuel 4\ns - 0\ncompleted\noutput 2\na\n",
+            "record refused: pick 1\n",
+        ),
+        (
+            "fortress record 1\nfuel 4\ns - 0\ns - 0\ncompleted\noutput 2\nb\n",
+            "record refused: output at byte 0\n",
+        ),
+    ];
+    for (record, note) in rows {
+        expect_audit(&rt, record, 9, "", note)?;
+    }
     Ok(())
 }
 

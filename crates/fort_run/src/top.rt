@@ -4,10 +4,12 @@ ghost use Rattle.fort_run.specs.Outcome.{Answers};
 use crate::answer::no_run;
 use crate::deliver::{deliver, write_all};
 use crate::reply::reply_to;
+use fort_audit::one_answer;
 use fort_core::Journal;
 use fort_diag::fixed;
 use fort_front::{never_both, never_both_in_grammar, one_program};
 use fort_port::{Gate, Shelf, Sink};
+use fort_record::one_record;
 use std::alloc::Global;
 use std::sync::Wait;
 use std::thread::Threads;
@@ -20,8 +22,8 @@ const WANTS_MEMORY: u8 = 7;
 pub struct Finish {
     /// The status to end with.
     pub status: u8,
-    /// The run of the component, whatever failed afterwards. For `check` and `show`, and where a
-    /// run never began, it has no fuel and no picks, and its ending is `NotRun`.
+    /// The run of the component, whatever failed afterwards. For `check`, `show` and `audit`, and
+    /// where a run never began, it has no fuel and no picks, and its ending is `NotRun`.
     pub journal: Journal,
 }
 
@@ -31,12 +33,15 @@ pub struct Finish {
 ///
 /// The words `run FILE [--workers N] [--fuel N]` run the component in the file, with a fuel of
 /// 2,000,000 where none is given; `bench N` runs the bank of N accounts; `check FILE` says whether
-/// the component is accepted, and `show FILE` writes its canonical text (the chapter "The command
-/// line"). The file is read to its end before it is judged. The journal is that of a run of the
-/// component's program, what is written is what this run printed, and the status says how it
-/// ended. What each status says, and what then stands on both outputs, is the chapter "Statuses
-/// and notes" of docs/LANGUAGE.md. After a sink has failed nothing more is written to it. Where
-/// memory is wanting the status is 7, and nothing is said of `out`.
+/// the component is accepted, and `show FILE` writes its canonical text; `record FILE [--workers N]
+/// [--fuel N]` runs as `run` does and writes the record of the run, and `audit FILE RECORD` says
+/// whether a record is that of a run of the component, and writes the output that it records (the
+/// chapter "The command line"). A file is read to its end before it is judged. The journal is that
+/// of a run of the component's program, what is written is what this run printed, and the status
+/// says how it ended; in each term of the run each call of values has its one declaration. What
+/// each status says, and what then stands on both outputs, is the chapter "Statuses and notes" of
+/// docs/LANGUAGE.md. After a sink has failed nothing more is written to it. Where memory is wanting
+/// the status is 7, and nothing is said of `out`.
 pub fn fortress<R: Threads + Wait + Sync, F: Shelf, K: Sink, N: Sink, G: Gate + Sync>(
     _rt: &R,
     alloc: Global,
@@ -61,6 +66,8 @@ pub fn fortress<R: Threads + Wait + Sync, F: Shelf, K: Sink, N: Sink, G: Gate + 
     never_both();
     never_both_in_grammar();
     one_program();
+    one_record();
+    one_answer();
     match reply_to(alloc, words, shelf) {
         Ok(answer) => {
             let status = deliver(answer.status(), answer.text(), answer.note(), out, notes);

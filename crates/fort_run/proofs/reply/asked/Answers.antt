@@ -1,12 +1,17 @@
 use Rattle.std.proofs.Common.{refl}
 use Rattle.fort_run.specs.Reply.{Unread, TooLarge}
-use Rattle.fort_run.proofs.Meaning.{read_means}
+use Rattle.fort_run.proofs.Meaning.{from_before}
 use Rattle.fort_run.proofs.reply.asked.Goals as goal
+
+pub judged-requires : goal.judged-requires
+judged-requires g c = record {
+  is_text = rw c.in-Ok.ensures.kept c.in-Ok.ensures.text;
+  within = c.in-Ok.ensures.within;
+}
 
 pub returns-in-Ok-clause-means : goal.returns-in-Ok-clause-means
 returns-in-Ok-clause-means g c =
-    read_means (g.F.Shelf.holding c.args.shelf.now) _ _ c.args.command c.in-Ok.text c.judged.result
-    c.in-Ok.ensures.text c.in-Ok.ensures.within c.in-Ok.ensures.calm c.judged.ensures
+    from_before _ _ _ _ _ c.args.command c.judged.result c.in-Ok.ensures.kept c.in-Ok.ensures.calm c.judged.ensures.means
 
 pub returns-in-Err-Failed-clause-means : goal.returns-in-Err-Failed-clause-means
 returns-in-Err-Failed-clause-means g c words is =

@@ -1,0 +1,17 @@
+use Rattle.std.proofs.Common.{subst, sym}
+use Rattle.std.proofs.lemmas.Result.{IfOk-weaker}
+use Rattle.fort_run.specs.Reply.{RunSays, its_output, its_record}
+use Rattle.fort_run.specs.Said.{said}
+use Rattle.fort_run.proofs.Recorded.{run_recorded, none_recorded}
+use Rattle.fort_run.proofs.record.record_file.Goals as goal
+
+pub returns-in-Ran : goal.returns-in-Ran
+returns-in-Ran c =
+    IfOk-weaker c.recorded.result _ _
+    (λ a e. subst (λ x. RunSays its_record c.args.name c.args.file.now c.args.fuel (said x)) (sym e)
+    (run_recorded c.args.name c.args.file.now c.args.fuel c.in-Ran.journal c.in-Ran.output c.in-Ran.end
+    (subst (λ x. RunSays its_output c.args.name c.args.file.now c.args.fuel (said x)) c.in-Ran.is c.in_ok-other.ensures)))
+    c.recorded.ensures
+
+pub returns-in_default : goal.returns-in_default
+returns-in_default c = none_recorded c.args.name c.args.file.now c.args.fuel c.in_ok-other.other c.in_default.not-Ran c.in_ok-other.ensures

@@ -1,0 +1,37 @@
+//! The command `record`: the record of a component's run, or its refusal.
+ghost use Rattle.std.specs.Prelude.{◌≡◌, ◌≤◌, length, IfOk};
+ghost use Rattle.fort_run.specs.Reply.{RunSays, file_limit, its_output, its_record};
+ghost use Rattle.fort_run.specs.Said.{said};
+ghost use Rattle.fort_run.specs.declared.answer.Answer.TheVariants as Answer;
+
+use crate::answer::{Answer, Told};
+use crate::run::run_file;
+use fort_base::{Bytes, Memory};
+use fort_core::Journal;
+use fort_record::record_of;
+use std::alloc::Global;
+
+/// What is to say of the file of that name, run with a fuel in steps, where the record of the run
+/// is to be written.
+pub(crate) fn record_file(
+    alloc: Global,
+    name: Bytes,
+    file: &Bytes,
+    fuel: u64,
+) -> Result<Answer, Memory>
+    requires { length file.now ≤ file_limit }
+    ensures { IfOk result (λ a. RunSays its_record name file.now fuel (said a)) }
+{
+    match run_file(alloc, name, file, fuel)? {
+        Answer::Ran(journal, output, end) => recorded(alloc, journal, &output, end),
+        other => Ok(other),
+    }
+}
+
+/// The same of a run with its record in the place of its output.
+fn recorded(alloc: Global, journal: Journal, output: &Bytes, end: Told) -> Result<Answer, Memory>
+    ensures { IfOk result (λ a. a ≡ Answer.Ran journal (its_record journal output.now) end) }
+{
+    let text = record_of(alloc, &journal, output)?;
+    Ok(Answer::Ran(journal, text, end))
+}
