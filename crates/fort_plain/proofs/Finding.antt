@@ -1,0 +1,61 @@
+-- The way to a thread.
+use Rattle.std.proofs.Common.{◌≡◌, ◌≢◌, ℕ, ◌+◌, ◌<◌, ◌≤◌, ◌||◌, Bool, true, false, List, [], ◌∷◌, ◌++◌, length, take, drop, Option, Some, None, refl, ap, sym, ◌∙◌, subst, arith, ◌⊎◌, inl, inr}
+use Rattle.std.specs.Prelude.{slice_get, slice_set, nat_lt}
+use Rattle.fort_core.specs.declared.path.Path.{Path}
+use Rattle.fort_core.specs.declared.term.Term.{Term}
+use Rattle.fort_core.specs.declared.term.Term as term
+use Rattle.fort_core.specs.declared.value.Value.{Value}
+use Rattle.fort_machine.specs.Ends.{Finished, open_yet, standing, standing_at, throw_of}
+use Rattle.fort_machine.specs.Ends as ends
+use Rattle.fort_machine.specs.Attempts.{Ready}
+use Rattle.fort_frames.specs.Frames.{frames, outward, rebuilt, Reaches}
+use Rattle.fort_frames.specs.States.{Stands, term_at}
+use Rattle.fort_frames.specs.declared.place.Place.{Place}
+use Rattle.fort_frames.specs.declared.state.At.{At}
+use Rattle.fort_frames.specs.declared.state.At.TheVariants as at
+use Rattle.fort_frames.specs.declared.state.State.{State}
+use Rattle.fort_moves.specs.Turns.{IsAt, IsOdd, IsStep, IsTry, ready_term}
+use Rattle.fort_moves.specs.declared.turn.Ready as code
+use Rattle.fort_machine.proofs.Standing.{not_finished}
+use Rattle.fort_machine.proofs.Places.{plug_open, ready_open}
+use Rattle.fort_machine.proofs.Ready.{form_ready}
+use Rattle.fort_frames.proofs.Same.{same_term}
+use Rattle.fort_core.specs.declared.term.Term.TheVariants.{outs-Stepped}
+use Rattle.fort_plain.specs.Paths.{NoThread, IsFound, IsSought, whole}
+use Rattle.fort_plain.specs.declared.find.Seek.{Seek}
+use Rattle.fort_plain.specs.declared.find.Found.{Found}
+use Rattle.fort_plain.proofs.Paths.{finished_none, none_below, none_above}
+
+pub value_none : (a : At) (v : Value) (path : Path) → a ≡ at.Value v → NoThread (term_at a) path
+value_none a v path e = finished_none (term_at a) path (ends.Finished.value v (ap term_at e))
+
+pub throw_none : (a : At) (v : Value) (path : Path) → a ≡ at.Throw v → NoThread (term_at a) path
+throw_none a v path e = finished_none (term_at a) path (ends.Finished.throw v (ap term_at e))
+
+pub left_again : (a : At) (t : Term) (clock : ℕ) (s : State) → a ≡ at.Left t → ((c : ℕ) → Stands c t s) → Stands clock (term_at a) s
+left_again a t clock s e h = subst (λ x. Stands clock x s) (sym (ap term_at e)) (h clock)
+
+pub sought_on : (clock : ℕ) (t : Term) (place : Place) (a form : Term) (path : Path) (s : Seek) → IsAt clock t place a → form ≡ a → IsSought clock (rebuilt clock (frames place.stack) form) path s → IsSought clock t path s
+sought_on clock t place a form path s h e k = subst (λ x. IsSought clock x path s) (ap (rebuilt clock (frames place.stack)) e ∙ h.is_term) k
+
+pub reaches_on : (clock : ℕ) (t : Term) (place : Place) (a form : Term) → IsAt clock t place a → form ≡ a → Reaches clock (frames place.stack) form
+reaches_on clock t place a form h e = subst (Reaches clock (frames place.stack)) (sym e) h.reached
+
+pub ready_on : (a form : Term) → Ready a → form ≡ a → Ready form
+ready_on a form r e = subst Ready (sym e) r
+
+pub found_on : (clock : ℕ) (t u : Term) (path : Path) (f : Found) → u ≡ t → IsFound clock u path f → IsFound clock t path f
+found_on clock t u path f e k = subst (λ x. IsFound clock x path f) e k
+
+-- a term in which something waits isn't finished
+unfinished_at : (clock : ℕ) (t u a : Term) (place : Place) → IsAt clock t place a → standing a ≡ open_yet → t ≡ u → Finished u → ⊥
+unfinished_at clock t u a place h o e f = not_finished u (ap standing (sym e ∙ sym h.is_term ∙ same_term clock (frames place.stack) a) ∙ plug_open (outward clock (frames place.stack)) a o) f
+
+pub thread_unfinished : (clock : ℕ) (t u : Term) (place : Place) (r : code.Ready) → IsStep clock t place r → t ≡ u → Finished u → ⊥
+thread_unfinished clock t u place r h e f = unfinished_at clock t u (ready_term r) place h.thread.is_at (ready_open (ready_term r) h.thread.ready) e f
+
+pub try_unfinished : (clock : ℕ) (t u a : Term) (place : Place) → IsTry clock t place a → t ≡ u → Finished u → ⊥
+try_unfinished clock t u a place h e f = unfinished_at clock t u a place h.is_at (ready_open a (form_ready a h.mode h.body h.is_form)) e f
+
+pub odd_unfinished : (clock : ℕ) (t u a : Term) (place : Place) → IsOdd clock t place a → t ≡ u → Finished u → ⊥
+odd_unfinished clock t u a place h e f = unfinished_at clock t u a place h.is_at (ap standing h.is_mark ∙ ap standing_at (outs-Stepped h.inner)) e f
