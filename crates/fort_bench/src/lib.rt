@@ -4,6 +4,3 @@
 mod text;
 
 pub use text::bank;
-
-#[cfg(test)]
-mod tests;

@@ -4,6 +4,3 @@
 mod note;
 
 pub use note::{fixed, refused, uncaught};
-
-#[cfg(test)]
-mod tests;

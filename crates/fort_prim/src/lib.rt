@@ -16,8 +16,6 @@ mod powers;
 mod results;
 mod shift;
 mod table;
-#[cfg(test)]
-mod tests;
 mod words;
 
 pub use answer::Answer;

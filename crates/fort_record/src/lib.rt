@@ -10,6 +10,3 @@ mod writing;
 pub use laws::one_record;
 pub use reading::{AuditFault, Record, parsed};
 pub use writing::record_of;
-
-#[cfg(test)]
-mod tests;

@@ -10,6 +10,10 @@ pub const TURN: u32 = 1024;
 /// frame by frame.
 const SHALLOW: u32 = 1024;
 
+/// How many frames may stand round a thread that is left asleep: its term is let go by calls as deep
+/// as it stands, which take a stack of some 400 bytes a frame.
+const DEEPEST: u32 = 4096;
+
 /// How far a machine has come in going through its threads from left to right.
 #[derive(Clone, Copy, Debug, PartialEq, Eq)]
 pub struct Sweep {
@@ -81,14 +85,19 @@ impl Sweep {
         if self.idle || self.taken == 0 || self.taken % TURN != 0 {
             return false;
         }
-        !place.path.0.is_empty() && is_shallow(&place.stack)
+        !place.path.0.is_empty() && is_within(&place.stack, SHALLOW)
     }
 }
 
-// Whether few frames stand round a thread.
-fn is_shallow(stack: &Stack) -> bool {
+/// Whether a thread stands deeper than a thread may that is left asleep.
+pub fn is_too_deep(place: &Place) -> bool {
+    !is_within(&place.stack, DEEPEST)
+}
+
+// Whether no more frames than so many stand round a thread.
+fn is_within(stack: &Stack, most: u32) -> bool {
     let mut at = stack;
-    for _frame in 0..SHALLOW {
+    for _frame in 0..most {
         match at {
             Stack::Empty => return true,
             Stack::Over(_, below) => at = below.get(),

@@ -1,6 +1,6 @@
-use crate::Store;
 use fort_base::{List, Loc, Memory, Shared, TypeId, TypeTable};
 use fort_core::{BuiltIn, Program, Term, Value};
+use fort_store::Store;
 use std::alloc::Global;
 
 // The number at a location, or -1 where there is none.

@@ -1,4 +1,4 @@
-use crate::bank;
+use fort_bench::bank;
 use std::test::Fail;
 
 #[test]

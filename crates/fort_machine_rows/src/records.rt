@@ -1,6 +1,6 @@
-use crate::{AuditFault, parsed, record_of};
 use fort_base::{List, Loc};
 use fort_core::{Ending, Journal, Path, Pick};
+use fort_record::{AuditFault, parsed, record_of};
 use std::test::Fail;
 
 const GREETED: &str = "fortress record 1\nfuel 4\ns - 0\ns - 0\ncompleted\noutput 2\na\n";

@@ -1,6 +1,6 @@
-use crate::{fixed, refused};
 use fort_base::rules::{MIXED_SPACING, UNKNOWN_NAME};
 use fort_base::{List, Place};
+use fort_diag::{fixed, refused};
 use std::test::Fail;
 
 #[test]

@@ -1,6 +1,6 @@
-use crate::{Answer, answered, apply};
 use fort_base::{List, Memory, Shared, TypeId, TypeTable};
 use fort_core::{BuiltIn, Primitive, Program, Term, Value};
+use fort_prim::{Answer, answered, apply};
 use std::alloc::Global;
 
 // A program of no types whose exceptions are the type 0.

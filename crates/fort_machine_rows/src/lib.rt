@@ -1,0 +1,14 @@
+//! Tests from outside, of what no clause says: of primitives, stores, records, notes and the bank.
+//! They stand apart from the crates that they test, so that those are proved once.
+#![tactic(auto)]
+
+#[cfg(test)]
+mod banks;
+#[cfg(test)]
+mod notes;
+#[cfg(test)]
+mod primitives;
+#[cfg(test)]
+mod records;
+#[cfg(test)]
+mod stores;
