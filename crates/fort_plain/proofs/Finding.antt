@@ -1,5 +1,7 @@
 -- The way to a thread.
-use Rattle.std.proofs.Common.{◌≡◌, ◌≢◌, ℕ, ◌+◌, ◌<◌, ◌≤◌, ◌||◌, Bool, true, false, List, [], ◌∷◌, ◌++◌, length, take, drop, Option, Some, None, refl, ap, sym, ◌∙◌, subst, arith, ◌⊎◌, inl, inr}
+use Rattle.std.proofs.Common.{◌≡◌, ◌≢◌, ℕ, ◌+◌, ◌<◌, ◌≤◌, ◌||◌, Bool, true, false, List, [], ◌∷◌, ◌++◌, length, take, drop, Option, Some, None, refl, ap, sym, ◌∙◌, subst, arith, ◌⊎◌, inl, inr, Result, IfOk}
+use Rattle.std.proofs.lemmas.Result.{IfOk-weaker}
+use Rattle.fort_base.specs.declared.refusal.Memory.{Memory}
 use Rattle.std.specs.Prelude.{slice_get, slice_set, nat_lt}
 use Rattle.fort_core.specs.declared.path.Path.{Path}
 use Rattle.fort_core.specs.declared.term.Term.{Term}
@@ -14,7 +16,7 @@ use Rattle.fort_frames.specs.declared.place.Place.{Place}
 use Rattle.fort_frames.specs.declared.state.At.{At}
 use Rattle.fort_frames.specs.declared.state.At.TheVariants as at
 use Rattle.fort_frames.specs.declared.state.State.{State}
-use Rattle.fort_moves.specs.Turns.{IsAt, IsOdd, IsStep, IsTry, ready_term}
+use Rattle.fort_moves.specs.Turns.{IsAt, IsGathered, IsOdd, IsStep, IsTry, ready_term}
 use Rattle.fort_moves.specs.declared.turn.Ready as code
 use Rattle.fort_machine.proofs.Standing.{not_finished}
 use Rattle.fort_machine.proofs.Places.{plug_open, ready_open}
@@ -59,3 +61,16 @@ try_unfinished clock t u a place h e f = unfinished_at clock t u a place h.is_at
 
 pub odd_unfinished : (clock : ℕ) (t u a : Term) (place : Place) → IsOdd clock t place a → t ≡ u → Finished u → ⊥
 odd_unfinished clock t u a place h e f = unfinished_at clock t u a place h.is_at (ap standing h.is_mark ∙ ap standing_at (outs-Stepped h.inner)) e f
+
+-- where a search from one place comes to, it comes to from the whole term
+pub form_sought : (clock : ℕ) (t : Term) (place : Place) (a form : Term) (path : Path) (r : Result Seek Memory) → IsAt clock t place a → form ≡ a → IfOk r (IsSought clock (rebuilt clock (frames place.stack) form) path) → IfOk r (IsSought clock t path)
+form_sought clock t place a form path r h e k = subst (λ x. IfOk r (IsSought clock x path)) (ap (rebuilt clock (frames place.stack)) e ∙ h.is_term) k
+
+pub ends_sought : (clock : ℕ) (t : Term) (a : At) (path : Path) (r : Result Seek Memory) → term_at a ≡ t → IfOk r (λ s. (k : ℕ) (p : Path) → IsSought k (term_at a) p s) → IfOk r (IsSought clock t path)
+ends_sought clock t a path r e h = IfOk-weaker r (λ s. (k : ℕ) (p : Path) → IsSought k (term_at a) p s) (IsSought clock t path) (λ s k. subst (λ x. IsSought clock x path s) e (k clock path)) h
+
+pub group_stands : (clock : ℕ) (t : Term) (place : Place) (ts : List Term) (a : Term) → IsGathered clock t place ts → a ≡ ends.group ts → Stands clock t (record { place = place; «at» = at.Form a })
+group_stands clock t place ts a h e = record {
+  is_term = ap (rebuilt clock (frames place.stack)) e ∙ h.is_at.is_term;
+  reached = subst (Reaches clock (frames place.stack)) (sym e) h.is_at.reached;
+}
