@@ -1,5 +1,6 @@
 -- Out of a part, and beside it.
-use Rattle.std.proofs.Common.{◌≡◌, ◌≢◌, ℕ, ◌+◌, ◌<◌, ◌≤◌, Bool, true, false, List, [], ◌∷◌, ◌++◌, length, take, drop, Option, Some, None, refl, ap, sym, ◌∙◌, subst, arith}
+use Rattle.std.proofs.Common.{◌≡◌, ◌≢◌, ℕ, ◌+◌, ◌<◌, ◌≤◌, Bool, true, false, List, [], ◌∷◌, ◌++◌, length, take, drop, Option, Some, None, refl, ap, sym, ◌∙◌, subst, arith, Result, IfOk}
+use Rattle.fort_base.specs.declared.refusal.Memory.{Memory}
 use Rattle.std.specs.Prelude.{slice_get, slice_set}
 use Rattle.std.proofs.lemmas.List.{take-append-le}
 use Rattle.fort_core.specs.declared.path.Path.{Path}
@@ -164,6 +165,9 @@ own_beside clock t keep path below form h = record { is_term = refl; reached = h
 
 pub beside_sought : (clock : ℕ) (t : Term) (keep : ℕ) (path : Path) (below : Place) (form : Term) (s : Seek) → IsBeside clock t keep path below form → IsSought clock (rebuilt clock (frames below.stack) form) path s → IsSought clock t path s
 beside_sought clock t keep path below form s h k = subst (λ x. IsSought clock x path s) h.is_term k
+
+pub beside_found : (clock : ℕ) (t : Term) (keep : ℕ) (path : Path) (below : Place) (form : Term) (x : Result Seek Memory) → IsBeside clock t keep path below form → IfOk x (IsSought clock (rebuilt clock (frames below.stack) form) path) → IfOk x (IsSought clock t path)
+beside_found clock t keep path below form x h k = subst (λ u. IfOk x (IsSought clock u path)) h.is_term k
 
 pub order_of : (f : Frame) → ((n : Node) → f ≡ frame.Node n → ⊥) → IsInOrder f
 order_of (frame.Node n) k = absurd (k n refl)

@@ -28,7 +28,7 @@ pub enum Out {
 /// # Errors
 ///
 /// `Memory` where memory is wanting.
-#[tactic(auto, using(crate::proofs::Outside::node_inside, crate::proofs::Outside::own_beside, crate::proofs::Outside::beside_sought))]
+#[tactic(auto, using(crate::proofs::Outside::node_inside, crate::proofs::Outside::own_beside, crate::proofs::Outside::beside_found))]
 pub fn aside(
     alloc: Global,
     clock: u64,

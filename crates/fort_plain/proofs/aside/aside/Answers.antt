@@ -1,9 +1,24 @@
-use Rattle.std.proofs.Common.{◌≡◌, subst, sym, ◌∙◌}
+use Rattle.std.proofs.Common.{subst, arith}
 use Rattle.fort_frames.specs.Frames.{frames, rebuilt}
 use Rattle.fort_frames.specs.Heads.{form_of}
 use Rattle.fort_plain.specs.Paths.{IsOut}
-use Rattle.fort_plain.proofs.Outside.{node_inside, own_beside, beside_sought}
+use Rattle.fort_plain.proofs.Outside.{node_inside, own_beside}
 use Rattle.fort_plain.proofs.aside.aside.Goals as goal
 
+pub into_other-requires-clause-suits : goal.into_other-requires-clause-suits
+into_other-requires-clause-suits c = (subst (IsOut c.args.clock (rebuilt c.args.clock (frames c.args.place.stack) c.args.part) c.args.keep c.args.path.now) c.in-Node.is (c.in_ok-below.ensures.inside (rebuilt c.args.clock (frames c.args.place.stack) c.args.part) c.args.keep c.args.path.now c.loop-frame.invariant)).0
+
+pub into_other-requires-clause-beside : goal.into_other-requires-clause-beside
+into_other-requires-clause-beside c = own_beside c.args.clock (rebuilt c.args.clock (frames c.args.place.stack) c.args.part) c.args.keep c.args.path.now c.in-Node.below (form_of c.in-Node.head c.in-Node.parts) (subst (IsOut c.args.clock (rebuilt c.args.clock (frames c.args.place.stack) c.args.part) c.args.keep c.args.path.now) c.in-Node.is (c.in_ok-below.ensures.inside (rebuilt c.args.clock (frames c.args.place.stack) c.args.part) c.args.keep c.args.path.now c.loop-frame.invariant)).1
+
 pub node_form-requires-clause-suits : goal.node_form-requires-clause-suits
-node_form-requires-clause-suits c = ?
+node_form-requires-clause-suits c = (subst (IsOut c.args.clock (rebuilt c.args.clock (frames c.args.place.stack) c.args.part) c.args.keep c.args.path.now) c.in-Node.is (c.in_ok-below.ensures.inside (rebuilt c.args.clock (frames c.args.place.stack) c.args.part) c.args.keep c.args.path.now c.loop-frame.invariant)).0
+
+pub node_form-requires-clause-is_open : goal.node_form-requires-clause-is_open
+node_form-requires-clause-is_open c = (subst (IsOut c.args.clock (rebuilt c.args.clock (frames c.args.place.stack) c.args.part) c.args.keep c.args.path.now) c.in-Node.is (c.in_ok-below.ensures.inside (rebuilt c.args.clock (frames c.args.place.stack) c.args.part) c.args.keep c.args.path.now c.loop-frame.invariant)).1.is_open
+
+pub loop-frame-preserved-in-Form : goal.loop-frame-preserved-in-Form
+loop-frame-preserved-in-Form c = subst (IsOut c.args.clock (rebuilt c.args.clock (frames c.args.place.stack) c.args.part) c.args.keep c.args.path.now) c.in-Form.is (c.in_ok-below.ensures.inside (rebuilt c.args.clock (frames c.args.place.stack) c.args.part) c.args.keep c.args.path.now c.loop-frame.invariant)
+
+pub loop-frame-preserved : goal.loop-frame-preserved
+loop-frame-preserved c = node_inside c.args.clock (rebuilt c.args.clock (frames c.args.place.stack) c.args.part) c.args.keep c.args.path.now c.in-Node.below (form_of c.in-Node.head c.in-Node.parts) _ (subst (IsOut c.args.clock (rebuilt c.args.clock (frames c.args.place.stack) c.args.part) c.args.keep c.args.path.now) c.in-Node.is (c.in_ok-below.ensures.inside (rebuilt c.args.clock (frames c.args.place.stack) c.args.part) c.args.keep c.args.path.now c.loop-frame.invariant)).1 c.in_ok-node_form.ensures (λ e. omega arith)

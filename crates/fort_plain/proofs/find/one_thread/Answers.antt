@@ -1,22 +1,26 @@
-use Rattle.std.proofs.Common.{◌≡◌, true, false, sym, ◌∙◌, subst}
-use Rattle.fort_moves.specs.Turns.{IsStop, ready_term}
-use Rattle.fort_machine.proofs.Ready.{form_ready}
+use Rattle.std.proofs.Common.{subst}
+use Rattle.fort_moves.specs.Turns.{IsStop}
 use Rattle.fort_plain.specs.Paths.{whole}
-use Rattle.fort_plain.proofs.Finding.{reaches_on, ready_on, form_sought, ends_sought, group_stands}
+use Rattle.fort_plain.proofs.Finding.{own_step, step_sought, own_try, try_sought, own_group, group_sought, ends_sought}
 use Rattle.fort_plain.proofs.find.one_thread.Goals as goal
 
-pub returns-then-same : goal.returns-then-same
-returns-then-same c = (subst (IsStop c.args.clock (whole c.args.clock c.args.state)) c.in-Steps.is c.in_ok-place.ensures.stops, c.same.ensures.0 c.if-same.true)
+pub at_step-requires : goal.at_step-requires
+at_step-requires c = own_step c.args.clock (whole c.args.clock c.args.state) c.in-Steps.place c.in-Steps.ready (subst (IsStop c.args.clock (whole c.args.clock c.args.state)) c.in-Steps.is c.in_ok-place.ensures.stops)
 
-pub elsewhere-requires-clause-reached : goal.elsewhere-requires-clause-reached
-elsewhere-requires-clause-reached c =
-    let h = subst (IsStop c.args.clock (whole c.args.clock c.args.state)) c.in-Steps.is c.in_ok-place.ensures.stops in
-    reaches_on c.args.clock (whole c.args.clock c.args.state) c.in-Steps.place (ready_term c.in-Steps.ready) c.in_ok-form.form h.thread.is_at c.in_ok-form.ensures
+pub returns-in-Steps : goal.returns-in-Steps
+returns-in-Steps c = step_sought c.args.clock (whole c.args.clock c.args.state) c.in-Steps.place c.in-Steps.ready c.args.path.now c.at_step.result (subst (IsStop c.args.clock (whole c.args.clock c.args.state)) c.in-Steps.is c.in_ok-place.ensures.stops) c.at_step.ensures
 
-pub elsewhere-requires-clause-ready : goal.elsewhere-requires-clause-ready
-elsewhere-requires-clause-ready c =
-    let h = subst (IsStop c.args.clock (whole c.args.clock c.args.state)) c.in-Steps.is c.in_ok-place.ensures.stops in
-    ready_on (ready_term c.in-Steps.ready) c.in_ok-form.form h.thread.ready c.in_ok-form.ensures
+pub at_form-requires : goal.at_form-requires
+at_form-requires c = own_try c.args.clock (whole c.args.clock c.args.state) c.in-Tries.form c.in-Tries.place (subst (IsStop c.args.clock (whole c.args.clock c.args.state)) c.in-Tries.is c.in_ok-place.ensures.stops)
 
-pub elsewhere-requires-clause-other : goal.elsewhere-requires-clause-other
-elsewhere-requires-clause-other c = λ e. let z : true ≡ false = sym (c.same.ensures.1 e) ∙ c.if-same.false in cc
+pub returns-in-Tries : goal.returns-in-Tries
+returns-in-Tries c = try_sought c.args.clock (whole c.args.clock c.args.state) c.in-Tries.form c.in-Tries.place c.args.path.now c.at_form.result (subst (IsStop c.args.clock (whole c.args.clock c.args.state)) c.in-Tries.is c.in_ok-place.ensures.stops) c.at_form.ensures
+
+pub at_group-requires : goal.at_group-requires
+at_group-requires c = own_group c.args.clock (whole c.args.clock c.args.state) c.in-Groups.place c.in-Groups.parts (subst (IsStop c.args.clock (whole c.args.clock c.args.state)) c.in-Groups.is c.in_ok-place.ensures.stops)
+
+pub returns-in-Groups : goal.returns-in-Groups
+returns-in-Groups c = group_sought c.args.clock (whole c.args.clock c.args.state) c.in-Groups.place c.in-Groups.parts c.args.path.now c.at_group.result (subst (IsStop c.args.clock (whole c.args.clock c.args.state)) c.in-Groups.is c.in_ok-place.ensures.stops) c.at_group.ensures
+
+pub returns-in-Ends : goal.returns-in-Ends
+returns-in-Ends c = ends_sought c.args.clock (whole c.args.clock c.args.state) c.in-Ends.«at» c.args.path.now c.ends.result (subst (IsStop c.args.clock (whole c.args.clock c.args.state)) c.in-Ends.is c.in_ok-place.ensures.stops) c.ends.ensures
