@@ -12,7 +12,7 @@ whole_term-requires-clause-is_open c = subst (λ (t : Term). standing t ≡ open
 
 pub whole_term-requires-clause-reached : goal.whole_term-requires-clause-reached
 whole_term-requires-clause-reached c =
-    subst (λ (p : Place). Reaches c.args.course.now.clock (frames p.stack) _) (sym c.in_ok-share.ensures) (subst (λ (t : Term). Reaches c.args.course.now.clock (frames c.args.place.now.stack) t) (sym c.in_ok-share-2.ensures) c.requires.reached)
+    subst (λ (p : Place). Reaches c.args.course.now.clock (frames p.stack) c.in_ok-share-2.field-0) (sym c.in_ok-share.ensures) (subst (λ (t : Term). Reaches c.args.course.now.clock (frames c.args.place.now.stack) t) (sym c.in_ok-share-2.ensures) c.requires.reached)
 
 pub returns : goal.returns
 returns c =
