@@ -1,5 +1,6 @@
 -- Out of a part, and beside it.
-use Rattle.std.proofs.Common.{◌≡◌, ◌≢◌, ℕ, ◌+◌, ◌<◌, ◌≤◌, Bool, true, false, List, [], ◌∷◌, ◌++◌, length, take, drop, Option, Some, None, refl, ap, sym, ◌∙◌, subst, arith}
+use Rattle.std.proofs.Common.{◌≡◌, ◌≢◌, ℕ, ◌+◌, ◌<◌, ◌≤◌, Bool, true, false, List, [], ◌∷◌, ◌++◌, length, take, drop, Option, Some, None, refl, ap, sym, ◌∙◌, subst, arith, Result, IfOk}
+use Rattle.fort_base.specs.declared.refusal.Memory.{Memory}
 use Rattle.std.specs.Prelude.{slice_get, slice_set}
 use Rattle.std.proofs.lemmas.List.{take-append-le}
 use Rattle.fort_core.specs.declared.path.Path.{Path}
@@ -18,7 +19,7 @@ use Rattle.fort_frames.specs.declared.node.Node.{Node}
 use Rattle.fort_frames.specs.declared.place.Place.{Place}
 use Rattle.fort_moves.proofs.Enters.{plain_frames}
 use Rattle.fort_moves.proofs.Parts.{put_part, suits_back, reaches_back}
-use Rattle.fort_plain.specs.Paths.{IsInside, IsBeside, IsSought}
+use Rattle.fort_plain.specs.Paths.{IsInside, IsBeside, IsOpenAt, IsSought}
 use Rattle.fort_plain.specs.declared.find.Seek.{Seek}
 
 order_number : (f : Frame) → IsInOrder f → part_number (frame_of f) ≡ []
@@ -105,6 +106,42 @@ out_node clock t keep path place below n part head parts e hq pq h =
       },
     )
 
+pub out_form_whole : (clock : ℕ) (t : Term) (place below : Place) (f : Frame) (part form : Term) → frames place.stack ≡ f ∷ frames below.stack → IsInOrder f → form ≡ on (frame_of f) part → IsOpenAt clock t place part → IsOpenAt clock t below form
+out_form_whole clock t place below f part form e i q h =
+    let same : plug (frames_of clock f) part ≡ form = ap (λ fs. plug fs part) (plain_frames clock f i) ∙ sym q in
+    let reached = subst (λ fs. Reaches clock fs part) e h.reached in
+    record {
+      is_term = ap (rebuilt clock (frames below.stack)) (sym same) ∙ sym (ap (λ fs. rebuilt clock fs part) e) ∙ h.is_term;
+      reached = subst (Reaches clock (frames below.stack)) same reached.2;
+      is_open = ap standing q ∙ on_open (frame_of f) part h.is_open;
+    }
+
+pub out_node_whole : (clock : ℕ) (t : Term) (place below : Place) (n : Node) (part : Term) (head : Head) (parts : List Term) → frames place.stack ≡ frame.Node n ∷ frames below.stack → head ≡ n.head
+    → parts ≡ slice_set n.parts n.«at» (plug (mark_if (is_trodden clock n)) part) → IsOpenAt clock t place part → (suits head parts ≡ true) × IsOpenAt clock t below (form_of head parts)
+out_node_whole clock t place below n part head parts e hq pq h =
+    let x = plug (mark_if (is_trodden clock n)) part in
+    let same : plug (frames_of clock (frame.Node n)) part ≡ form_of head parts = sym (put_part clock n part x refl) ∙ (λ i. form_of (sym hq i) (sym pq i)) in
+    let reached = subst (λ fs. Reaches clock fs part) e h.reached in (
+      (λ i. suits (hq i) (pq i)) ∙ suits_back n.head n.parts n.«at» x n.whole,
+      record {
+        is_term = ap (rebuilt clock (frames below.stack)) (sym same) ∙ sym (ap (λ fs. rebuilt clock fs part) e) ∙ h.is_term;
+        reached = subst (Reaches clock (frames below.stack)) same reached.2;
+        is_open = ap standing (sym same) ∙ plug_open (frames_of clock (frame.Node n)) part h.is_open;
+      },
+    )
+
+-- the part into which the code goes on, out of a parallel form
+pub node_whole : (clock : ℕ) (t : Term) (below : Place) (form part : Term) → IsOpenAt clock t below form → part ≡ form → IsOpenAt clock t below part
+node_whole clock t below form part h e = record {
+  is_term = ap (rebuilt clock (frames below.stack)) e ∙ h.is_term;
+  reached = subst (Reaches clock (frames below.stack)) (sym e) h.reached;
+  is_open = ap standing e ∙ h.is_open;
+}
+
+-- out of all frames it is the term
+pub at_root : (clock : ℕ) (t : Term) (place : Place) (part : Term) → IsOpenAt clock t place part → frames place.stack ≡ [] → part ≡ t
+at_root clock t place part h e = sym (ap (λ fs. rebuilt clock fs part) e) ∙ h.is_term
+
 pub marked_part : (clock : ℕ) (n : Node) (part : Term) → is_trodden clock n ≡ true → standing part ≡ open_yet → Stepped part ≡ plug (mark_if (is_trodden clock n)) part
 marked_part clock n part e o = sym (stepped_open part o) ∙ ap (λ b. plug (mark_if b) part) (sym e)
 
@@ -128,6 +165,9 @@ own_beside clock t keep path below form h = record { is_term = refl; reached = h
 
 pub beside_sought : (clock : ℕ) (t : Term) (keep : ℕ) (path : Path) (below : Place) (form : Term) (s : Seek) → IsBeside clock t keep path below form → IsSought clock (rebuilt clock (frames below.stack) form) path s → IsSought clock t path s
 beside_sought clock t keep path below form s h k = subst (λ x. IsSought clock x path s) h.is_term k
+
+pub beside_found : (clock : ℕ) (t : Term) (keep : ℕ) (path : Path) (below : Place) (form : Term) (x : Result Seek Memory) → IsBeside clock t keep path below form → IfOk x (IsSought clock (rebuilt clock (frames below.stack) form) path) → IfOk x (IsSought clock t path)
+beside_found clock t keep path below form x h k = subst (λ u. IfOk x (IsSought clock u path)) h.is_term k
 
 pub order_of : (f : Frame) → ((n : Node) → f ≡ frame.Node n → ⊥) → IsInOrder f
 order_of (frame.Node n) k = absurd (k n refl)

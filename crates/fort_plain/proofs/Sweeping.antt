@@ -1,6 +1,8 @@
 -- A sweep through the threads of a term.
-use Rattle.std.proofs.Common.{◌≡◌, ◌≢◌, ℕ, ◌+◌, ◌<◌, Bool, true, false, ◌||◌, List, [], ◌∷◌, ◌++◌, Option, Some, None, refl, ap, sym, ◌∙◌, subst, ◌⊎◌, inl, inr}
-use Rattle.std.specs.Prelude.{slice_get}
+use Rattle.std.proofs.Common.{◌≡◌, ◌≢◌, ℕ, ◌+◌, ◌<◌, Bool, true, false, ◌||◌, List, [], ◌∷◌, ◌++◌, Option, Some, None, refl, ap, sym, ◌∙◌, subst, ◌⊎◌, inl, inr, Result, IfOk}
+use Rattle.std.proofs.lemmas.Result.{IfOk-weaker}
+use Rattle.fort_base.specs.declared.refusal.Memory.{Memory}
+use Rattle.std.specs.Prelude.{slice_get, IsTrue}
 use Rattle.fort_core.specs.declared.form.Mode.TheVariants as mode
 use Rattle.fort_core.specs.declared.term.Term.{Term}
 use Rattle.fort_machine.specs.Effects.{Store}
@@ -26,7 +28,7 @@ use Rattle.fort_moves.specs.Sweeps.{AllMet, IsMet, AreMet, SweptAt, Swept, IsLef
 use Rattle.fort_moves.specs.Turns.{IsAt, IsStep, IsTry, IsGathered, ready_term}
 use Rattle.fort_moves.specs.declared.turn.Ready as ready
 use Rattle.fort_moves.specs.declared.turn.Stop.TheVariants as stop
-use Rattle.fort_plain.specs.Paths.{IsNoForm, whole}
+use Rattle.fort_plain.specs.Paths.{AllSleep, IsNoForm, whole}
 use Rattle.fort_plain.proofs.Tries.{made_is_not_tried}
 
 more_met : (met : List Term) (a t : Term) → AllMet met t → AllMet (a ∷ met) t
@@ -127,3 +129,7 @@ all_asleep store clock t s (at.Value v) h e m n = finished_asleep store t (term_
 all_asleep store clock t s (at.Throw v) h e m n = finished_asleep store t (term_at (at.Throw v)) (ends.Finished.throw v refl) (e ∙ h.stands.is_term)
 all_asleep store clock t s (at.Form x) h e m n = absurd n
 all_asleep store clock t s (at.Left x) h e m n = left_asleep store h.met t x (m.keeps h.met h.swept) h.asleep (e ∙ h.stands.is_term)
+
+pub sweep_ends : (store : Store) (clock : ℕ) (t : Term) (s : State) (a : At) (r : Result Bool Memory) → SleepsSoFar store clock t s → term_at a ≡ whole clock s → MissesNone s (stop.Ends a) → IfOk r (λ all. IsTrue all × IsNoForm a) → IfOk r (AllSleep store t)
+sweep_ends store clock t s a r h e m k =
+    IfOk-weaker r (λ all. IsTrue all × IsNoForm a) (AllSleep store t) (λ all q. subst (AllSleep store t) (sym q.0) (all_asleep store clock t s a h e m q.1)) k

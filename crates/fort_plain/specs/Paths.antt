@@ -67,6 +67,17 @@ abbrev pub IsOut : ℕ → Term → ℕ → Path → Out → Type 0
 IsOut clock t keep path (out.Form place part) = IsInside clock t keep path place part
 IsOut clock t keep path (out.Node place head parts) = suits head parts ≡ true × IsBeside clock t keep path place (form_of head parts)
 
+-- At an open part of a term.
+pub record IsOpenAt (clock : ℕ) (t : Term) (place : Place) (part : Term) : Type 0 where
+  pub is_term : rebuilt clock (frames place.stack) part ≡ t
+  pub reached : Reaches clock (frames place.stack) part
+  pub is_open : standing part ≡ open_yet
+
+-- Out of one frame, whatever the paths: at an open form of the same term.
+abbrev pub IsOutOf : ℕ → Term → Out → Type 0
+IsOutOf clock t (out.Form place part) = IsOpenAt clock t place part
+IsOutOf clock t (out.Node place head parts) = suits head parts ≡ true × IsOpenAt clock t place (form_of head parts)
+
 -- A term is settled: a value, a throw, or not finished.
 abbrev pub IsSettled : Term → Settled → Type 0
 IsSettled t (settled.Value v) = t ≡ term.Value v

@@ -4,7 +4,7 @@ ghost use Rattle.fort_machine.specs.Ends.{open_yet, standing};
 ghost use Rattle.fort_machine.specs.Frames.{on, plug};
 ghost use Rattle.fort_frames.specs.Frames.{IsInOrder, Reaches, frame_of, frames, is_trodden, mark_if, rebuilt};
 ghost use Rattle.fort_frames.specs.Heads.{form_of, suits};
-ghost use Rattle.fort_plain.specs.Paths.{IsBeside, IsInside, IsOut, IsSought};
+ghost use Rattle.fort_plain.specs.Paths.{IsBeside, IsInside, IsOpenAt, IsOut, IsOutOf, IsSought};
 
 use crate::find::{Found, Seek};
 use fort_base::{List, Memory, Shared};
@@ -28,7 +28,7 @@ pub enum Out {
 /// # Errors
 ///
 /// `Memory` where memory is wanting.
-#[tactic(auto, using(crate::proofs::Outside::node_inside, crate::proofs::Outside::own_beside, crate::proofs::Outside::beside_sought))]
+#[tactic(auto, using(crate::proofs::Outside::node_inside, crate::proofs::Outside::own_beside, crate::proofs::Outside::beside_found))]
 pub fn aside(
     alloc: Global,
     clock: u64,
@@ -70,7 +70,8 @@ pub fn leave_frame(
 ) -> Result<Out, Memory>
     requires is_open { standing part ≡ open_yet }
     requires reached { Reaches clock (frames place.stack) part }
-    ensures { IfOk result (λ r. (t : _) (keep : ℕ) (path : _) → IsInside clock t keep path place part → IsOut clock t keep path r) }
+    ensures inside { IfOk result (λ r. (t : _) (keep : ℕ) (path : _) → IsInside clock t keep path place part → IsOut clock t keep path r) }
+    ensures whole { IfOk result (λ r. (t : _) → IsOpenAt clock t place part → IsOutOf clock t r) }
 {
     match place.leave(alloc)? {
         None => Err(Memory),
@@ -87,7 +88,8 @@ fn out_of(
 ) -> Result<Out, Memory>
     requires is_open { standing part ≡ open_yet }
     requires reached { Reaches clock (frame ∷ frames below.stack) part }
-    ensures { IfOk result (λ r. (t : _) (keep : ℕ) (path : _) (place : Place) → frames place.stack ≡ frame ∷ frames below.stack → IsInside clock t keep path place part → IsOut clock t keep path r) }
+    ensures inside { IfOk result (λ r. (t : _) (keep : ℕ) (path : _) (place : Place) → frames place.stack ≡ frame ∷ frames below.stack → IsInside clock t keep path place part → IsOut clock t keep path r) }
+    ensures whole { IfOk result (λ r. (t : _) (place : Place) → frames place.stack ≡ frame ∷ frames below.stack → IsOpenAt clock t place part → IsOutOf clock t r) }
 {
     match frame {
         Frame::Node(node) => {
@@ -106,7 +108,8 @@ fn out_in_order(
     part: Shared<Term>,
 ) -> Result<Out, Memory>
     requires { IsInOrder frame }
-    ensures { IfOk result (λ r. (t : _) (keep : ℕ) (path : _) (place : Place) → frames place.stack ≡ frame ∷ frames below.stack → IsInside clock t keep path place part → IsOut clock t keep path r) }
+    ensures inside { IfOk result (λ r. (t : _) (keep : ℕ) (path : _) (place : Place) → frames place.stack ≡ frame ∷ frames below.stack → IsInside clock t keep path place part → IsOut clock t keep path r) }
+    ensures whole { IfOk result (λ r. (t : _) (place : Place) → frames place.stack ≡ frame ∷ frames below.stack → IsOpenAt clock t place part → IsOutOf clock t r) }
 {
     let _clock = clock;
     let form = frame.around(alloc, part)?;

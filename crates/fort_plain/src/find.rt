@@ -1,8 +1,10 @@
 //! The thread of a path.
 ghost use Rattle.std.specs.Prelude.{◌≡◌, ◌≢◌, ◌≤◌, ℕ, take, length, IfOk};
 ghost use Rattle.fort_machine.specs.Attempts as attempts;
+ghost use Rattle.fort_machine.specs.Ends.{group as group_of};
 ghost use Rattle.fort_frames.specs.Frames.{Reaches, frames, rebuilt};
 ghost use Rattle.fort_frames.specs.States.{term_at};
+ghost use Rattle.fort_moves.specs.Turns.{IsGathered, IsStep, IsTry, ready_term};
 ghost use Rattle.fort_plain.specs.Paths.{IsFound, IsSought, whole};
 
 use crate::aside::aside;
@@ -53,33 +55,68 @@ pub fn find(alloc: Global, clock: u64, state: State, path: &Path) -> Result<Foun
 }
 
 // One thread on.
-#[tactic(auto, using(crate::proofs::Finding::sought_on, crate::proofs::Finding::reaches_on, crate::proofs::Finding::ready_on))]
 fn one_thread(alloc: Global, clock: u64, state: State, path: &Path) -> Result<Seek, Memory>
     requires { Reaches clock (frames state.place.stack) (term_at state.«at») }
     ensures { IfOk result (IsSought clock (whole clock state) path.now) }
 {
     match moved(alloc, clock, state)? {
-        Stop::Steps(place, ready) => {
-            if place.path.same(path) {
-                return Ok(Seek::Stops(Found::Steps(place, ready)));
-            }
-            let form = ready.term(alloc)?;
-            elsewhere(alloc, clock, place, form, path)
-        }
-        Stop::Tries(place, form) => {
-            if place.path.same(path) {
-                return Ok(Seek::Stops(Found::Tries(place, form)));
-            }
-            elsewhere(alloc, clock, place, form, path)
-        }
-        Stop::Groups(place, parts) => {
-            let form = Shared::new(alloc, group(alloc, parts)?)?;
-            let at = At::Form(form);
-            Ok(Seek::Moves(State { place, at }))
-        }
+        Stop::Steps(place, ready) => at_step(alloc, clock, place, ready, path),
+        Stop::Tries(place, form) => at_form(alloc, clock, place, form, path),
+        Stop::Groups(place, parts) => at_group(alloc, clock, place, parts),
         Stop::Odd(_place, _form) => Err(Memory),
         Stop::Ends(at) => ends(alloc, at),
     }
+}
+
+// At a form that has its step, or none.
+fn at_step(
+    alloc: Global,
+    clock: u64,
+    place: Place,
+    ready: Ready,
+    path: &Path,
+) -> Result<Seek, Memory>
+    requires { IsStep clock (rebuilt clock (frames place.stack) (ready_term ready)) place ready }
+    ensures { IfOk result (IsSought clock (rebuilt clock (frames place.stack) (ready_term ready)) path.now) }
+{
+    if place.path.same(path) {
+        return Ok(Seek::Stops(Found::Steps(place, ready)));
+    }
+    let form = ready.term(alloc)?;
+    elsewhere(alloc, clock, place, form, path)
+}
+
+// At an atomic form.
+fn at_form(
+    alloc: Global,
+    clock: u64,
+    place: Place,
+    form: Shared<Term>,
+    path: &Path,
+) -> Result<Seek, Memory>
+    requires { IsTry clock (rebuilt clock (frames place.stack) form) place form }
+    ensures { IfOk result (IsSought clock (rebuilt clock (frames place.stack) form) path.now) }
+{
+    if place.path.same(path) {
+        return Ok(Seek::Stops(Found::Tries(place, form)));
+    }
+    elsewhere(alloc, clock, place, form, path)
+}
+
+// At a tuple, before it is known whether it is a value.
+fn at_group(
+    alloc: Global,
+    clock: u64,
+    place: Place,
+    parts: List<Shared<Term>>,
+) -> Result<Seek, Memory>
+    requires { IsGathered clock (rebuilt clock (frames place.stack) (group_of parts)) place parts }
+    ensures { IfOk result (λ seek. (path : Path) → IsSought clock (rebuilt clock (frames place.stack) (group_of parts)) path seek) }
+{
+    let _clock = clock;
+    let form = Shared::new(alloc, group(alloc, parts)?)?;
+    let at = At::Form(form);
+    Ok(Seek::Moves(State { place, at }))
 }
 
 // Out of the whole term: it is finished, or its other threads are to the left.
@@ -110,7 +147,12 @@ fn elsewhere(
     ensures { IfOk result (IsSought clock (rebuilt clock (frames place.stack) form) path.now) }
 {
     let keep = in_common(&place.path, path);
-    if keep == place.path.0.len() || keep == path.0.len() {
+    let own = place.path.0.len();
+    let asked = path.0.len();
+    if keep == own {
+        return Ok(Seek::Stops(Found::Nothing));
+    }
+    if keep == asked {
         return Ok(Seek::Stops(Found::Nothing));
     }
     aside(alloc, clock, place, form, keep, path)
