@@ -111,7 +111,6 @@ impl Course {
     /// # Errors
     ///
     /// `Memory` where memory is wanting, or where the numbers of locations are at their end.
-    #[tactic(auto, using(crate::proofs::Stepped::known_spent, crate::proofs::Stepped::fresh_free))]
     pub fn make(
         self,
         alloc: Global,
@@ -127,14 +126,8 @@ impl Course {
         ensures fuel { IfOk result (λ course. course.fuel ≡ self.fuel) }
         ensures picks { IfOk result (PicksStep self place.now self.fresh) }
     {
-        let _program = program;
-        let _next = next;
-        let mut course = self;
-        let first = Loc(course.fresh);
-        let above = above(course.fresh, values)?;
-        course.layers.make(first, values, cost)?;
-        course.fresh = above;
-        course.stepped(alloc, place, first, cost)
+        let first = Loc(self.fresh);
+        self.make_at(alloc, program, place, next, values, first, cost)
     }
 
     /// The same from a location on, where none of the new ones is there.
@@ -213,7 +206,6 @@ fn above(fresh: u64, values: &List<Value>) -> Result<u64, Memory>
 fn higher(one: u64, other: u64) -> u64
     ensures first { one ≤ result }
     ensures second { other ≤ result }
-    ensures bounded { other < 2 ^ 64 → one < 2 ^ 64 → result < 2 ^ 64 }
 {
     if one < other { other } else { one }
 }
