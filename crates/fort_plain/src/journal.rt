@@ -35,12 +35,13 @@ pub fn replay(alloc: Global, program: &Program, journal: &Journal) -> Result<Rep
     ensures { IfOk result (Replays program.now journal.now) }
 {
     let mut going = Going::first(alloc, program, journal.fuel)?;
-    for at in 0..journal.picks.len() {
-        match take(alloc, program, going, &journal.picks.as_slice()[at], false)? {
+    for pick in journal.picks.as_slice() {
+        let count = going.course.picks.len() as u64;
+        match take(alloc, program, going, pick, false)? {
             Taken::Out(later) => going = later,
-            Taken::Illegal => return Ok(Replayed::Broken(at as u64)),
-            Taken::Passes => return Ok(Replayed::Broken(at as u64)),
-            Taken::Last(_course, _cost) => return Err(Memory),
+            Taken::Illegal => return Ok(Replayed::Broken(count)),
+            Taken::Passes => return Ok(Replayed::Broken(count)),
+            Taken::Last(_course, _cost) => unreachable!(),
         }
     }
     ended(

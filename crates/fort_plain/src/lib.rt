@@ -14,6 +14,8 @@ mod laws;
 mod settled;
 mod steps;
 mod take;
+#[cfg(test)]
+mod tests;
 
 pub use journal::{Replayed, replay};
 pub use laws::broken_is_none;
