@@ -1,5 +1,5 @@
 //! The replay of a journal.
-ghost use Rattle.std.specs.Prelude.{◌≡◌, ◌↔◌, [], IfOk, IsTrue};
+ghost use Rattle.std.specs.Prelude.{◌≡◌, ◌≤◌, ◌↔◌, [], IfOk, IsTrue};
 ghost use Rattle.fort_machine.specs.Acts.{unit};
 ghost use Rattle.fort_machine.specs.Written.{WrittenProgram};
 ghost use Rattle.fort_carry.specs.Courses.{IsGoing};
@@ -140,7 +140,7 @@ fn out_of_fuel(
 {
     let fuel = going.course.fuel;
     let mut going = going;
-    going.course.fuel = u64::MAX;
+    going.course.fuel = most(fuel);
     match take(alloc, program, going, pick, true)? {
         Taken::Last(course, cost) => {
             if cost <= fuel {
@@ -153,4 +153,12 @@ fn out_of_fuel(
         Taken::Passes => Err(Memory),
         Taken::Out(_going) => Err(Memory),
     }
+}
+
+// The most fuel that there is.
+fn most(fuel: u64) -> u64
+    ensures { fuel ≤ result }
+{
+    let _fuel = fuel;
+    u64::MAX
 }

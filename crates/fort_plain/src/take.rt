@@ -1,5 +1,5 @@
 //! One pick of the root's machine, with all picks within.
-ghost use Rattle.std.specs.Prelude.{◌≡◌, ◌++◌, ◌∷◌, ◌<◌, length, slice_get, Some, [], IfOk};
+ghost use Rattle.std.specs.Prelude.{◌≡◌, ◌&&◌, ◌++◌, ◌∷◌, ◌<◌, length, slice_get, Some, [], IfOk};
 ghost use Rattle.fort_machine.specs.Written.{WrittenProgram};
 ghost use Rattle.fort_carry.specs.Courses.{IsGoing};
 ghost use Rattle.fort_plain.specs.Within.{GoesWithin, IsAttempt, IsHere, IsLeft, IsSourceOf, IsWithin, Takes, TakesOn};
@@ -161,7 +161,7 @@ fn one<'a>(
         source,
         outer,
     } = within;
-    let is_end = source.ajar && is_last;
+    let is_end = ends_all(source.ajar, is_last);
     let turn = Turn { is_last, is_end };
     match act(alloc, program, going, turn, pick)? {
         Acted::Goes(going) => Ok(Next::Goes(Within {
@@ -185,6 +185,13 @@ fn one<'a>(
         Acted::Passes => Ok(Next::Ends(Taken::Passes)),
         Acted::Last(course, cost) => Ok(Next::Ends(Taken::Last(course, cost))),
     }
+}
+
+// Whether the last pick of a machine is the last of all.
+fn ends_all(ajar: bool, is_last: bool) -> bool
+    ensures { result ≡ (ajar && is_last) }
+{
+    ajar && is_last
 }
 
 // Out of the innermost attempt, which ended: to the machine round it.

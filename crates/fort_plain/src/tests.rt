@@ -109,6 +109,7 @@ fn said(alloc: Global, fuel: u64, locs: &[u64], ending: Ending) -> Result<(u64, 
         ending,
     };
     let program = program(alloc)?;
+    fort_worked::worked_are_written();
     match replay(alloc, &program, &journal)? {
         Replayed::Run(output, cost) => Ok((output.len() as u64, cost)),
         Replayed::Broken(number) => Ok((9, number)),

@@ -14,8 +14,8 @@ returns-in-Goes c =
     let g = c.args.going in
     out_first _ g.course _ _ (subst (ActsOn c.args.program.now g.course (whole g.course.clock g.state) _ c.args.pick.now) c.in-Goes.is c.in_ok-going.ensures) c.requires.outside
 
-pub within_of-requires : goal.within_of-requires
-within_of-requires c =
+pub within_of-source-requires : goal.within_of-source-requires
+within_of-source-requires c =
     let g = c.args.going in
     begun_attempt _ g.course _ _ (subst (ActsOn c.args.program.now g.course (whole g.course.clock g.state) _ c.args.pick.now) c.in-Opens.is c.in_ok-going.ensures)
 
