@@ -92,6 +92,12 @@ replays_so p j g (replayed.Broken n) k e f q h = record {
 
 -- ---- an ending without a pick
 
+pub no_pick : (e : Ending) → ((q : Pick) → e ≡ ending.OutOfFuel q → ⊥) → IsNoPick e
+no_pick ending.NotRun h = tt
+no_pick ending.Completed h = tt
+no_pick (ending.Uncaught v) h = tt
+no_pick (ending.OutOfFuel q) h = absurd (h q refl)
+
 pub right_end : (p : Program) (g : Going) (s : Settled) (e : Ending) → IsGoing p g → g.course.outer ≡ [] → IsSettled (whole g.course.clock g.state) s → EndsSo s e
     → HasRun p g.course.fuel g.course.picks e (levels_of g.course.layers).output (levels_of g.course.layers).cost
 right_end p g (settled.Value v) ending.Completed k o t h =

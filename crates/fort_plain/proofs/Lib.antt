@@ -13,6 +13,8 @@ pub mod Attempting
 pub mod Sweeping
 pub mod Watched
 pub mod Outside
+pub mod Here
 pub mod Taking
 pub mod Costs
 pub mod Ending
+pub mod Replaying

@@ -1,8 +1,9 @@
 -- The picks of the machines that wait, as attempts begin and end.
 use Rattle.std.proofs.Common.{◌≡◌, ◌≢◌, ℕ, ◌+◌, ◌&&◌, Bool, true, false, List, [], ◌∷◌, ◌++◌, refl, ap, sym, ◌∙◌, subst, append_assoc, ◌⊎◌, inl, inr}
+use Rattle.fort_base.specs.declared.ids.Loc.{Loc}
 use Rattle.fort_core.specs.declared.path.Path.{Path}
-use Rattle.fort_core.specs.declared.pick.Pick.{Pick, Attempt, out-Pick}
-use Rattle.fort_core.specs.declared.pick.Pick.TheVariants.{outs-Attempt}
+use Rattle.fort_core.specs.declared.pick.Pick.{Pick, Step, Attempt, out-Pick}
+use Rattle.fort_core.specs.declared.pick.Pick.TheVariants.{outs-Step, outs-Attempt}
 use Rattle.fort_core.specs.declared.program.Program.{Program}
 use Rattle.fort_course.specs.Course.{Held}
 use Rattle.fort_carry.specs.declared.course.Course.{Course}
@@ -18,6 +19,9 @@ use Rattle.fort_plain.specs.declared.take.Within.{Within}
 
 attempt_pick : (x y : Path) (ps qs : List Pick) → Attempt x ps ≡ Attempt y qs → (x ≡ y) × (ps ≡ qs)
 attempt_pick x y ps qs e = let z = sym (outs-Attempt x ps) ∙ ap out-Pick e ∙ outs-Attempt y qs in (cc, cc)
+
+pub step_is_none : (x y : Path) (l : Loc) (ps : List Pick) → Step x l ≡ Attempt y ps → ⊥
+step_is_none x y l ps e = let z = sym (outs-Step x l) ∙ ap out-Pick e ∙ outs-Attempt y ps in absurd cc
 
 inmost_last : (os : List Source) (s : Source) (ss : List Source) → inmost (os ++ s ∷ []) ss ≡ s ∷ inmost os ss
 inmost_last [] s ss = refl

@@ -14,12 +14,13 @@ use Rattle.fort_course.proofs.Bounds.{both_bounded}
 use Rattle.fort_course.proofs.Store.{levels_by, store_by, seen_base, inner_is}
 use Rattle.fort_carry.specs.declared.course.Course.{Course}
 use Rattle.fort_carry.specs.declared.course.Going.{Going}
+use Rattle.fort_carry.specs.declared.course.Waiting.{Waiting}
 use Rattle.fort_carry.specs.Courses.{IsGoing, around, inwards}
 use Rattle.fort_carry.specs.Calls.{CannotThrow}
 use Rattle.fort_plain.specs.Legal.{AreLegal, a_run, NoWay, NoRun}
 use Rattle.fort_plain.specs.Paths.{whole}
 use Rattle.fort_plain.specs.Takes.{NoPick, IsIllegal, GoesOn, Begins, Leaves, LeavesBy, Stops, IsLast}
-use Rattle.fort_plain.specs.Within.{AreSources, EndsWith, GoesWithin, HasSources, IsHere, IsInside, IsLeft, IsSourceOf, IsWithin, NeverRuns, NotWithin, Takes, TakesLast, TakesPick, inmost, is_none}
+use Rattle.fort_plain.specs.Within.{AreSources, EndsWith, GoesWithin, HasSources, IsAttempt, IsHere, IsInside, IsLeft, IsSourceOf, IsWithin, NeverRuns, NotWithin, Takes, TakesLast, TakesOn, TakesPick, inmost, is_none}
 use Rattle.fort_plain.specs.declared.act.Turn.{Turn}
 use Rattle.fort_plain.specs.declared.take.Next.{Next}
 use Rattle.fort_plain.specs.declared.take.Next.TheVariants as next
@@ -60,6 +61,24 @@ passes_first p g ajar pick turn k root last barred = record { none = first_none 
 
 pub out_first : (p : Program) (c : Course) (pick : Pick) (g : Going) → GoesOn p c pick g → c.outer ≡ [] → TakesPick p c.fuel (c.picks ++ pick ∷ []) g
 out_first p c pick g h root = record { going = h.going; fuel_is = h.fuel; are_picks = h.picks; outside = h.outer ∙ root }
+
+-- what begins an attempt is one, and no machine that waits for nothing ends an attempt
+pub begun_attempt : (p : Program) (c : Course) (pick : Pick) (g : Going) → Begins p c pick g → IsAttempt pick
+begun_attempt p c pick g b = record { path = b.waiting.place.path; within = b.within; is = b.is_pick }
+
+not_nil : (os : List Waiting) (w : Waiting) → os ++ w ∷ [] ≡ [] → ⊥
+not_nil [] w e = cc
+not_nil (o ∷ os) w e = cc
+
+pub root_stays : (p : Program) (c : Course) (turn : Turn) (pick : Pick) (g : Going) → LeavesBy p c turn pick g → c.outer ≡ [] → ⊥
+root_stays p c turn pick g h root = not_nil g.course.outer h.leaves.picked.waiting (sym h.leaves.picked.outer ∙ root)
+
+pub root_throws : (p : Program) (c : Course) (t : Term) (turn : Turn) (pick : Pick) → Stops p c t turn pick → c.outer ≡ [] → ⊥
+root_throws p c t turn pick h root = subst (CannotThrow p) (root_round c root) h.cannot
+
+-- a last pick is one of those that may be left unfinished
+pub shut_last : (p : Program) (before : List Pick) (pick : Pick) (c : Course) (cost : ℕ) → TakesLast p false before pick c cost → ⊥
+shut_last p before pick c cost h = let z : false ≡ true = h.is_open in absurd cc
 
 -- ---- within attempts
 
@@ -255,3 +274,7 @@ last_end p w k e o = record {
 
 pub end_is_last : (ajar last end : Bool) → end ≡ (ajar && last) → end ≡ true → last ≡ true
 end_is_last ajar last end e q = (both_true ajar last (sym e ∙ q)).1
+
+-- after one pick more, for the picks that the run is in
+pub one_more : (p : Program) (w : Within) (n : Next) (fuel : ℕ) (ajar : Bool) (before : List Pick) (pick : Pick) → GoesWithin p w n → IsInside p fuel ajar (before ++ pick ∷ []) w → TakesOn p fuel ajar before pick n
+one_more p w n fuel ajar before pick h i = subst (λ f. TakesOn p f ajar before pick n) i.fuel_is (h.goes ajar before pick i.sources)

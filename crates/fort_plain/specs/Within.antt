@@ -66,6 +66,12 @@ pub record IsHere (w : Within) (pick : Pick) (is_last : Bool) : Type 0 where
   pub next : w.source.picks.now ≡ w.going.course.picks ++ pick ∷ behind
   pub last : is_last ≡ is_none behind
 
+-- A pick is an attempt.
+pub record IsAttempt (pick : Pick) : Type 0 where
+  pub path : Path
+  pub within : List Pick
+  pub is : pick ≡ Attempt path within
+
 -- The picks of an attempt are a source.
 abbrev pub IsSourceOf : Pick → Bool → Source → Type 0
 IsSourceOf pick ajar s = (s.ajar ≡ ajar) × ((path : Path) × (pick ≡ Attempt path s.picks.now))

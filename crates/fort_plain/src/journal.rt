@@ -1,5 +1,5 @@
 //! The replay of a journal.
-ghost use Rattle.std.specs.Prelude.{◌≡◌, ◌↔◌, [], IfOk, IsTrue};
+ghost use Rattle.std.specs.Prelude.{◌≡◌, ◌≤◌, ◌↔◌, [], IfOk, IsTrue};
 ghost use Rattle.fort_machine.specs.Acts.{unit};
 ghost use Rattle.fort_machine.specs.Written.{WrittenProgram};
 ghost use Rattle.fort_carry.specs.Courses.{IsGoing};
@@ -35,12 +35,13 @@ pub fn replay(alloc: Global, program: &Program, journal: &Journal) -> Result<Rep
     ensures { IfOk result (Replays program.now journal.now) }
 {
     let mut going = Going::first(alloc, program, journal.fuel)?;
-    for at in 0..journal.picks.len() {
-        match take(alloc, program, going, &journal.picks.as_slice()[at], false)? {
+    for pick in journal.picks.as_slice() {
+        let count = going.course.picks.len() as u64;
+        match take(alloc, program, going, pick, false)? {
             Taken::Out(later) => going = later,
-            Taken::Illegal => return Ok(Replayed::Broken(at as u64)),
-            Taken::Passes => return Ok(Replayed::Broken(at as u64)),
-            Taken::Last(_course, _cost) => return Err(Memory),
+            Taken::Illegal => return Ok(Replayed::Broken(count)),
+            Taken::Passes => return Ok(Replayed::Broken(count)),
+            Taken::Last(_course, _cost) => unreachable!(),
         }
     }
     ended(
@@ -139,7 +140,7 @@ fn out_of_fuel(
 {
     let fuel = going.course.fuel;
     let mut going = going;
-    going.course.fuel = u64::MAX;
+    going.course.fuel = most(fuel);
     match take(alloc, program, going, pick, true)? {
         Taken::Last(course, cost) => {
             if cost <= fuel {
@@ -152,4 +153,12 @@ fn out_of_fuel(
         Taken::Passes => Err(Memory),
         Taken::Out(_going) => Err(Memory),
     }
+}
+
+// The most fuel that there is.
+fn most(fuel: u64) -> u64
+    ensures { fuel ≤ result }
+{
+    let _fuel = fuel;
+    u64::MAX
 }

@@ -1,8 +1,8 @@
 //! One pick of the root's machine, with all picks within.
-ghost use Rattle.std.specs.Prelude.{◌≡◌, ◌++◌, ◌∷◌, ◌<◌, length, slice_get, Some, [], IfOk};
+ghost use Rattle.std.specs.Prelude.{◌≡◌, ◌&&◌, ◌++◌, ◌∷◌, ◌<◌, length, slice_get, Some, [], IfOk};
 ghost use Rattle.fort_machine.specs.Written.{WrittenProgram};
 ghost use Rattle.fort_carry.specs.Courses.{IsGoing};
-ghost use Rattle.fort_plain.specs.Within.{GoesWithin, IsHere, IsLeft, IsSourceOf, IsWithin, Takes, TakesOn};
+ghost use Rattle.fort_plain.specs.Within.{GoesWithin, IsAttempt, IsHere, IsLeft, IsSourceOf, IsWithin, Takes, TakesOn};
 
 use crate::act::{Acted, Turn, act};
 use crate::attempts::close;
@@ -67,13 +67,10 @@ pub fn take(
     requires outside { going.course.outer ≡ [] }
     ensures { IfOk result (Takes program.now going.course.fuel ajar going.course.picks pick.now) }
 {
-    let mut within = match first(alloc, program, going, pick, ajar)? {
-        Next::Goes(within) => within,
-        Next::Ends(taken) => return Ok(taken),
-    };
-    for _pick in 0..u64::MAX {
-        match go(alloc, program, within)? {
-            Next::Goes(later) => within = later,
+    let mut next = first(alloc, program, going, pick, ajar)?;
+    for _turn in 0..u64::MAX {
+        match next {
+            Next::Goes(within) => next = go(alloc, program, within)?,
             Next::Ends(taken) => return Ok(taken),
         }
     }
@@ -101,7 +98,7 @@ fn first<'a>(
     match act(alloc, program, going, turn, pick)? {
         Acted::Goes(going) => Ok(Next::Ends(Taken::Out(going))),
         Acted::Opens(going) => {
-            let source = within_of(pick, ajar)?;
+            let source = within_of(pick, ajar);
             let outer = List::new(alloc);
             Ok(Next::Goes(Within {
                 going,
@@ -109,8 +106,8 @@ fn first<'a>(
                 outer,
             }))
         }
-        Acted::Leaves(_going) => Err(Memory),
-        Acted::Unclosed => Err(Memory),
+        Acted::Leaves(_going) => unreachable!(),
+        Acted::Unclosed => unreachable!(),
         Acted::Illegal => Ok(Next::Ends(Taken::Illegal)),
         Acted::Passes => Ok(Next::Ends(Taken::Passes)),
         Acted::Last(course, cost) => Ok(Next::Ends(Taken::Last(course, cost))),
@@ -118,15 +115,16 @@ fn first<'a>(
 }
 
 // The picks of an attempt.
-fn within_of<'a>(pick: &'a Pick, ajar: bool) -> Result<Source<'a>, Memory>
-    ensures { IfOk result (IsSourceOf pick.now ajar) }
+fn within_of<'a>(pick: &'a Pick, ajar: bool) -> Source<'a>
+    requires { IsAttempt pick.now }
+    ensures { IsSourceOf pick.now ajar result }
 {
     match pick {
-        Pick::Step(_, _) => Err(Memory),
-        Pick::Attempt(_, within) => Ok(Source {
+        Pick::Step(_, _) => unreachable!(),
+        Pick::Attempt(_, within) => Source {
             picks: within.as_slice(),
             ajar,
-        }),
+        },
     }
 }
 
@@ -163,7 +161,7 @@ fn one<'a>(
         source,
         outer,
     } = within;
-    let is_end = source.ajar && is_last;
+    let is_end = ends_all(source.ajar, is_last);
     let turn = Turn { is_last, is_end };
     match act(alloc, program, going, turn, pick)? {
         Acted::Goes(going) => Ok(Next::Goes(Within {
@@ -172,7 +170,7 @@ fn one<'a>(
             outer,
         })),
         Acted::Opens(going) => {
-            let inner = within_of(pick, is_end)?;
+            let inner = within_of(pick, is_end);
             let mut outer = outer;
             outer.push(source)?;
             Ok(Next::Goes(Within {
@@ -187,6 +185,13 @@ fn one<'a>(
         Acted::Passes => Ok(Next::Ends(Taken::Passes)),
         Acted::Last(course, cost) => Ok(Next::Ends(Taken::Last(course, cost))),
     }
+}
+
+// Whether the last pick of a machine is the last of all.
+fn ends_all(ajar: bool, is_last: bool) -> bool
+    ensures { result ≡ (ajar && is_last) }
+{
+    ajar && is_last
 }
 
 // Out of the innermost attempt, which ended: to the machine round it.

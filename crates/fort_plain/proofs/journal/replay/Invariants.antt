@@ -1,6 +1,5 @@
-use Rattle.std.proofs.Common.{◌≡◌, take, []}
-use Rattle.fort_carry.specs.Courses.{IsGoing}
+use Rattle.fort_plain.proofs.Replaying.{StandsIn}
 use Rattle.fort_plain.proofs.journal.replay.Given as goal
 
-abbrev pub invariant-loop-at : goal.invariant-loop-at
-invariant-loop-at l = IsGoing l.program l.going × (l.going.course.fuel ≡ l.journal.fuel) × (l.going.course.outer ≡ []) × (l.going.course.picks ≡ take l.«at» l.journal.picks)
+abbrev pub invariant-loop-pick : goal.invariant-loop-pick
+invariant-loop-pick l = StandsIn l.program l.journal l.pick-index l.going
