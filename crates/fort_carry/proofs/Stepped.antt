@@ -19,6 +19,7 @@ use Rattle.fort_course.proofs.Keeps.{step_keeps}
 use Rattle.fort_carry.specs.declared.course.Course.{Course}
 use Rattle.fort_carry.specs.Courses.{StandsAt, around, inwards}
 use Rattle.fort_carry.specs.Calls.{MayStep, StepsTo}
+use Rattle.fort_carry.specs.Picked.{PicksStep}
 use Rattle.fort_carry.proofs.Around.{course_by}
 use Rattle.fort_carry.proofs.Seen.{MakesBelow, nothing_seen, spent_adds}
 
@@ -59,12 +60,16 @@ pub write_stands : (p : Program) (c n : Course) (layers : Layers) (place : Place
     → c.spent + 1 ≤ c.fuel → StepsTo (record c { layers = layers }) place 0 1 n → StandsAt p n place b
 write_stands p c n layers place b l v m a k s = step_stands p c n layers c.fresh place b 0 (writing l v) m a k (omega arith) (λ i w e. none_made l i None (Some v) w c.fresh e) (λ i w e. none_made l i None (Some v) w (2 ^ 64) e) s
 
-pub make_stands : (p : Program) (c n : Course) (layers : Layers) (fresh : ℕ) (place : Place) (b : Term) (vs : List Value) (cost : ℕ) → MayStep p c place c.fresh b (making c.fresh vs cost)
-    → Adds (making c.fresh vs cost) (levels_of c.layers) (levels_of layers) → c.spent + cost ≤ c.fuel → fresh ≡ c.fresh + length vs → fresh < 2 ^ 64
-    → StepsTo (record c { layers = layers; fresh = fresh }) place c.fresh cost n → StandsAt p n place b
-make_stands p c n layers fresh place b vs cost m a k f bound s =
-    step_stands p c n layers fresh place b c.fresh (making c.fresh vs cost) m a k (omega (arith, f)) (λ l w e. let r = made_in_row c.fresh vs l w e in let high = r.1 in omega (arith, f, high))
-    (λ l w e. let r = made_in_row c.fresh vs l w e in let high = r.1 in omega (arith, f, high, bound)) s
+pub make_stands : (p : Program) (c n : Course) (layers : Layers) (loc above fresh : ℕ) (place : Place) (b : Term) (vs : List Value) (cost : ℕ) → MayStep p c place loc b (making loc vs cost)
+    → Adds (making loc vs cost) (levels_of c.layers) (levels_of layers) → c.spent + cost ≤ c.fuel → above ≡ loc + length vs → above < 2 ^ 64 → c.fresh ≤ fresh → above ≤ fresh
+    → StepsTo (record c { layers = layers; fresh = fresh }) place loc cost n → StandsAt p n place b
+make_stands p c n layers loc above fresh place b vs cost m a k f bound up over s =
+    step_stands p c n layers fresh place b loc (making loc vs cost) m a k up (λ l w e. let r = made_in_row loc vs l w e in let high = r.1 in omega (arith, f, high, over))
+    (λ l w e. let r = made_in_row loc vs l w e in let high = r.1 in omega (arith, f, high, bound)) s
+
+-- a step is one pick more, whatever it did in the layers and to the lowest new location
+pub step_picks : (c n : Course) (layers : Layers) (fresh : ℕ) (place : Place) (loc cost : ℕ) → StepsTo (record c { layers = layers; fresh = fresh }) place loc cost n → PicksStep c place loc n
+step_picks c n layers fresh place loc cost s = record { picks = s.picks; outer = s.outer }
 
 -- new locations are free
 pub fresh_free : (p : Program) (c : Course) (place : Place) (loc : ℕ) (b : Term) (e : Effect) (count : ℕ) → MayStep p c place loc b e → AreFree c.fresh count (seen (levels_of c.layers))

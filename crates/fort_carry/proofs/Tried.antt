@@ -1,7 +1,7 @@
 -- Attempts carry a run on.
 use Rattle.std.proofs.Common.{◌≡◌, ◌≢◌, ℕ, ◌+◌, ◌-◌, ◌≤◌, true, false, List, [], ◌∷◌, ◌++◌, length, slice_get, Option, Some, None, refl, ap, sym, ◌∙◌, subst, arith}
 use native.Mathlib.Numerals.{unary_clauses}
-use Rattle.std.specs.Prelude.{MatchOption}
+use Rattle.std.specs.Prelude.{IfSome, MatchOption}
 use Rattle.fort_core.specs.declared.form.Mode.{Mode}
 use Rattle.fort_core.specs.declared.form.Mode.TheVariants as mode
 use Rattle.fort_core.specs.declared.pick.Pick.{Pick, Step, Attempt}
@@ -36,6 +36,7 @@ use Rattle.fort_carry.specs.declared.course.Going.{Going}
 use Rattle.fort_carry.specs.declared.course.Waiting.{Waiting}
 use Rattle.fort_carry.specs.Courses.{HasCome, StandsAt, IsGoing, around, held, inwards}
 use Rattle.fort_carry.specs.Calls.{MayTry, MayAbort, BeginsTo, StopsTo, ClosesTo, CannotThrow, Becomes, sleeping, throwing, Aborts}
+use Rattle.fort_carry.specs.Picked.{PicksAttempt, PicksNothing}
 use Rattle.fort_carry.proofs.Around.{around_some, last_is_first, course_by, comes_by}
 use Rattle.fort_carry.proofs.Seen.{spent_adds}
 
@@ -218,3 +219,23 @@ stops_within p c n place m s = subst (λ os. os ≢ []) (sym s.outer) (some_wait
 pub going_still : (p : Program) (c n : Course) (o : Option Going) → n.outer ≡ c.outer → MatchOption o (CannotThrow p (around n)) (IsGoing p) → MatchOption o (CannotThrow p (around c)) (IsGoing p)
 going_still p c n None e h = cannot_still p c n e h
 going_still p c n (Some g) e h = h
+
+-- ---- the picks
+
+pub begin_picks : (c n : Course) (place : Place) (m : Mode) (body : Term) (taken : ℕ) → BeginsTo c place m body taken n → PicksNothing c place n
+begin_picks c n place m body taken k = record {
+  picks = k.picks;
+  waiting = record { place = place; mode = m; body = body; picks = c.picks; taken = taken };
+  outer = k.outer;
+  is_place = refl;
+  before = refl;
+}
+
+-- however the attempt ends, and whatever the layers are
+pub close_picks : (how : Closing) (c : Course) (layers : Layers) (n : Course × Place) → ClosesTo how (record c { layers = layers }) n → PicksAttempt c c.picks n.0
+close_picks how c layers n k = record { waiting = k.waiting; outer = k.outer; picks = k.picks }
+
+-- the step of `abort()` is the attempt's last pick
+pub stop_picks : (c n : Course) (place : Place) (o : Option Going) → StopsTo c place n → IfSome o (λ g. PicksAttempt n n.picks g.course) → IfSome o (λ g. PicksAttempt c (c.picks ++ Step place.path (location 0) ∷ []) g.course)
+stop_picks c n place None s h = h
+stop_picks c n place (Some g) s h = record { waiting = h.waiting; outer = sym s.outer ∙ h.outer; picks = h.picks ∙ ap (λ ps. h.waiting.picks ++ Attempt h.waiting.place.path ps ∷ []) s.picks }

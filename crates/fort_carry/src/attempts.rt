@@ -5,6 +5,9 @@ ghost use Rattle.fort_machine.specs.Acts.{single as single_of};
 ghost use Rattle.fort_machine.specs.Attempts.{aborts, goes};
 ghost use Rattle.fort_machine.specs.Ends.{throw_of};
 ghost use Rattle.fort_effects.specs.Levels.{HasAttempt, IsOpen, levels_of, spent as all_spent};
+ghost use Rattle.fort_core.specs.declared.pick.Pick.{Step as a_step};
+ghost use Rattle.fort_machine.specs.Runs.{location};
+ghost use Rattle.fort_carry.specs.Picked.{PicksAttempt, PicksNothing};
 ghost use Rattle.fort_carry.specs.Courses.{HasCome, IsGoing, IsWhole, around, held};
 ghost use Rattle.fort_carry.specs.Calls.{Aborts, BeginsTo, CannotThrow, ClosesTo, MayAbort, MayTry, StopsTo};
 
@@ -37,6 +40,7 @@ impl Course {
         ensures going { IfOk result (IsGoing program.now) }
         ensures whole { IfOk result (λ going. IsWhole going.state) }
         ensures fuel { IfOk result (λ going. going.course.fuel ≡ self.fuel) }
+        ensures picks { IfOk result (λ going. PicksNothing self place going.course) }
     {
         let _program = program;
         let at = At::Form(body.share()?);
@@ -58,6 +62,7 @@ impl Course {
         requires come { HasCome program.now self (goes (Term.Value value)) }
         ensures going { IfOk result (IsGoing program.now) }
         ensures fuel { IfOk result (λ going. going.course.fuel ≡ self.fuel) }
+        ensures picks { IfOk result (λ going. PicksAttempt self self.picks going.course) }
     {
         let _program = program;
         let (course, place) = self.close(alloc, Closing::Completed)?;
@@ -78,6 +83,7 @@ impl Course {
         requires come { HasCome program.now self (goes (throw_of thrown)) }
         ensures going { IfOk result (IsGoing program.now) }
         ensures fuel { IfOk result (λ going. going.course.fuel ≡ self.fuel) }
+        ensures picks { IfOk result (λ going. PicksAttempt self self.picks going.course) }
     {
         let _program = program;
         let (course, place) = self.close(alloc, Closing::Failed)?;
@@ -105,6 +111,7 @@ impl Course {
         requires affords { self.spent + 1 ≤ self.fuel }
         ensures going { IfOk result (λ going. MatchOption going (CannotThrow program.now (around self)) (IsGoing program.now)) }
         ensures fuel { IfOk result (λ going. IfSome going (λ going. going.course.fuel ≡ self.fuel)) }
+        ensures picks { IfOk result (λ going. IfSome going (λ going. PicksAttempt self (self.picks ++ a_step place.now.path (location 0) ∷ []) going.course)) }
     {
         let course = self.stop(alloc, place)?;
         course.aborted(alloc, program)
@@ -158,6 +165,7 @@ impl Course {
         requires come { HasCome program.now self aborts }
         ensures going { IfOk result (λ going. MatchOption going (CannotThrow program.now (around self)) (IsGoing program.now)) }
         ensures fuel { IfOk result (λ going. IfSome going (λ going. going.course.fuel ≡ self.fuel)) }
+        ensures picks { IfOk result (λ going. IfSome going (λ going. PicksAttempt self self.picks going.course)) }
     {
         let mut course = self;
         let at = match course.outer.as_slice().last() {

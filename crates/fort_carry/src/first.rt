@@ -2,6 +2,7 @@
 ghost use Rattle.std.specs.Prelude.{◌≡◌, ℕ, ◌≤◌, ◌<◌, IfOk, None};
 ghost use Rattle.fort_machine.specs.Journals.{opening_store};
 ghost use Rattle.fort_carry.specs.Courses.{IsGoing, IsWhole};
+ghost use Rattle.fort_carry.specs.Picked.{PicksNone};
 
 use crate::course::{Course, Going};
 use fort_base::{List, Loc, Memory};
@@ -20,6 +21,7 @@ impl Going {
         ensures going { IfOk result (IsGoing program.now) }
         ensures whole { IfOk result (λ going. IsWhole going.state) }
         ensures fuel { IfOk result (λ going. going.course.fuel ≡ fuel) }
+        ensures picks { IfOk result (λ going. PicksNone going.course) }
     {
         let at = At::Form(program.first.share()?);
         let course = Course {

@@ -4,6 +4,8 @@ ghost use Rattle.fort_machine.specs.Effects.{making, printed, reading, writing};
 ghost use Rattle.fort_effects.specs.Levels.{levels_of, seen};
 ghost use Rattle.fort_carry.specs.Courses.{StandsAt};
 ghost use Rattle.fort_carry.specs.Calls.{MayStep, StepsTo};
+ghost use Rattle.fort_carry.specs.Picked.{PicksStep};
+ghost use Rattle.fort_effects.specs.Calls.{AreFree};
 
 use crate::course::Course;
 use fort_base::{Bytes, List, Loc, Memory, Shared};
@@ -31,6 +33,7 @@ impl Course {
         requires affords { self.spent + cost ≤ self.fuel }
         ensures stands { IfOk result (λ course. StandsAt program.now course place.now next.now) }
         ensures fuel { IfOk result (λ course. course.fuel ≡ self.fuel) }
+        ensures picks { IfOk result (PicksStep self place.now 0) }
     {
         let _program = program;
         let _next = next;
@@ -59,6 +62,7 @@ impl Course {
         requires affords { self.spent + 1 ≤ self.fuel }
         ensures stands { IfOk result (λ course. StandsAt program.now course place.now next.now) }
         ensures fuel { IfOk result (λ course. course.fuel ≡ self.fuel) }
+        ensures picks { IfOk result (PicksStep self place.now 0) }
     {
         let _program = program;
         let _next = next;
@@ -90,6 +94,7 @@ impl Course {
         requires affords { self.spent + 1 ≤ self.fuel }
         ensures stands { IfOk result (λ course. StandsAt program.now course place.now next.now) }
         ensures fuel { IfOk result (λ course. course.fuel ≡ self.fuel) }
+        ensures picks { IfOk result (PicksStep self place.now 0) }
     {
         let _program = program;
         let _next = next;
@@ -106,7 +111,6 @@ impl Course {
     /// # Errors
     ///
     /// `Memory` where memory is wanting, or where the numbers of locations are at their end.
-    #[tactic(auto, using(crate::proofs::Stepped::known_spent, crate::proofs::Stepped::fresh_free))]
     pub fn make(
         self,
         alloc: Global,
@@ -120,14 +124,41 @@ impl Course {
         requires affords { self.spent + cost ≤ self.fuel }
         ensures stands { IfOk result (λ course. StandsAt program.now course place.now next.now) }
         ensures fuel { IfOk result (λ course. course.fuel ≡ self.fuel) }
+        ensures picks { IfOk result (PicksStep self place.now self.fresh) }
+    {
+        let first = Loc(self.fresh);
+        self.make_at(alloc, program, place, next, values, first, cost)
+    }
+
+    /// The same from a location on, where none of the new ones is there.
+    ///
+    /// # Errors
+    ///
+    /// `Memory` where memory is wanting, or where the numbers of locations are at their end.
+    #[tactic(auto, using(crate::proofs::Stepped::known_spent))]
+    pub fn make_at(
+        self,
+        alloc: Global,
+        program: &Program,
+        place: &Place,
+        next: &Shared<Term>,
+        values: &List<Value>,
+        first: Loc,
+        cost: u64,
+    ) -> Result<Course, Memory>
+        requires may { MayStep program.now self place.now first.0 next.now (making first.0 values.now cost) }
+        requires free { AreFree first.0 (length values.now) (seen (levels_of self.layers)) }
+        requires affords { self.spent + cost ≤ self.fuel }
+        ensures stands { IfOk result (λ course. StandsAt program.now course place.now next.now) }
+        ensures fuel { IfOk result (λ course. course.fuel ≡ self.fuel) }
+        ensures picks { IfOk result (PicksStep self place.now first.0) }
     {
         let _program = program;
         let _next = next;
         let mut course = self;
-        let first = Loc(course.fresh);
-        let above = above(course.fresh, values)?;
+        let above = above(first.0, values)?;
         course.layers.make(first, values, cost)?;
-        course.fresh = above;
+        course.fresh = higher(course.fresh, above);
         course.stepped(alloc, place, first, cost)
     }
 
@@ -169,4 +200,12 @@ fn above(fresh: u64, values: &List<Value>) -> Result<u64, Memory>
         None => Err(Memory),
         Some(above) => Ok(above),
     }
+}
+
+// The higher one of two numbers.
+fn higher(one: u64, other: u64) -> u64
+    ensures first { one ≤ result }
+    ensures second { other ≤ result }
+{
+    if one < other { other } else { one }
 }

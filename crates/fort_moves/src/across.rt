@@ -60,9 +60,13 @@ pub fn next_part(parts: &List<Shared<Term>>, from: usize) -> Result<Option<Next>
     Ok(None)
 }
 
-// The part of a number, if it may go on.
+/// The part of a number, if it may go on.
+///
+/// # Errors
+///
+/// `Memory` where memory is wanting.
 #[tactic(auto, using(crate::proofs::Parts::nothing_there, crate::proofs::Parts::over_value, crate::proofs::Parts::over_throw))]
-fn part_at(parts: &List<Shared<Term>>, at: usize) -> Result<Option<Next>, Memory>
+pub fn part_at(parts: &List<Shared<Term>>, at: usize) -> Result<Option<Next>, Memory>
     ensures { IfOk result (IsFoundAt parts.now at) }
 {
     match parts.get(at) {
@@ -163,9 +167,13 @@ fn is_thrown(term: &Term) -> bool
     }
 }
 
-// Into a part.
+/// Goes into a part of a parallel form that may go on.
+///
+/// # Errors
+///
+/// `Memory` where memory is wanting.
 #[tactic(auto, using(crate::proofs::Parts::entered, crate::proofs::Kept::entered_kept))]
-fn enter_part(
+pub fn enter_part(
     alloc: Global,
     clock: u64,
     place: Place,

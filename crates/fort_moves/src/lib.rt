@@ -8,5 +8,6 @@ mod leave;
 mod stand;
 mod turn;
 
+pub use across::{Next, enter_part, part_at};
 pub use stand::{Stand, standing_of};
-pub use turn::{Ready, Stop, moved};
+pub use turn::{Ready, Stop, Turn, moved};

@@ -1,6 +1,7 @@
 use Rattle.std.proofs.Common.{sym}
 use Rattle.fort_machine.specs.Attempts.{aborts}
-use Rattle.fort_carry.proofs.Tried.{aborted_stands, come_same, has_attempt, is_open, nothing_thrown, one_waits}
+use Rattle.fort_effects.specs.declared.cell.Closing.TheVariants.{Aborted}
+use Rattle.fort_carry.proofs.Tried.{aborted_stands, close_picks, come_same, has_attempt, is_open, nothing_thrown, one_waits}
 use Rattle.fort_carry.proofs.course.Course.aborted.Goals as goal
 
 pub unreachable-requires : goal.unreachable-requires
@@ -21,3 +22,6 @@ pub returns-in_ok-course-in-Some-at-clause-going : goal.returns-in_ok-course-in-
 returns-in_ok-course-in-Some-at-clause-going c =
     aborted_stands c.args.program.now c.args.self c.after_abort.new.layers _ c.as_slice.result.now c.in-Some.waiting.now c.in_ok-at-in-Some.at c.in-Some-at.at c.requires.come c.after_abort.ensures.kept c.as_slice.ensures
     (sym c.in-Some.ensures.value) c.in_ok-at-in-Some.ensures.becomes c.in-Some-at.is c.in_ok-course-in-Some-at.ensures
+
+pub returns-in_ok-course-in-Some-at-clause-picks : goal.returns-in_ok-course-in-Some-at-clause-picks
+returns-in_ok-course-in-Some-at-clause-picks c = close_picks Aborted c.args.self c.after_abort.new.layers _ c.in_ok-course-in-Some-at.ensures

@@ -1,6 +1,7 @@
 use Rattle.fort_machine.specs.Ends.{throw_of}
 use Rattle.fort_machine.specs.Attempts.{goes}
-use Rattle.fort_carry.proofs.Tried.{fails, is_open}
+use Rattle.fort_effects.specs.declared.cell.Closing.TheVariants.{Failed}
+use Rattle.fort_carry.proofs.Tried.{close_picks, fails, is_open}
 use Rattle.fort_carry.proofs.course.Course.fail.Goals as goal
 
 pub close-requires-clause-open : goal.close-requires-clause-open
@@ -11,3 +12,6 @@ close-requires-clause-spent c = c.requires.come.is_spent
 
 pub returns-clause-going : goal.returns-clause-going
 returns-clause-going c = fails c.args.program.now c.args.self _ c.args.thrown c.requires.come c.in_ok-course.ensures
+
+pub returns-clause-picks : goal.returns-clause-picks
+returns-clause-picks c = close_picks Failed c.args.self c.args.self.layers _ c.in_ok-course.ensures

@@ -1,14 +1,9 @@
-use Rattle.std.proofs.lemmas.Result.{IfOk-weaker}
-use Rattle.fort_carry.proofs.Stepped.{make_stands}
+use Rattle.std.proofs.Common.{length}
+use Rattle.fort_machine.specs.Effects.{making}
+use Rattle.fort_carry.proofs.Stepped.{fresh_free}
 use Rattle.fort_carry.proofs.course.Course.make.Goals as goal
 
-pub returns-clause-stands : goal.returns-clause-stands
-returns-clause-stands c =
+pub make_at-requires-clause-free : goal.make_at-requires-clause-free
+make_at-requires-clause-free c =
     let a = c.args in
-    let r = c.requires in
-    let above = c.in_ok-above.ensures in
-    IfOk-weaker c.stepped.result _ _
-    (λ n s.
-    make_stands a.program.now a.self n c.make.new.self c.in_ok-above.above a.place.now a.next.now a.values.now a.cost
-    r.may c.in_ok-make.ensures r.affords above.sum above.bounded s)
-    c.stepped.ensures
+    fresh_free a.program.now a.self a.place.now a.self.fresh a.next.now (making a.self.fresh a.values.now a.cost) (length a.values.now) c.requires.may

@@ -1,5 +1,5 @@
 use Rattle.std.proofs.lemmas.Result.{IfOk-weaker}
-use Rattle.fort_carry.proofs.Stepped.{print_stands}
+use Rattle.fort_carry.proofs.Stepped.{print_stands, step_picks}
 use Rattle.fort_carry.proofs.course.Course.print.Goals as goal
 
 pub returns-clause-stands : goal.returns-clause-stands
@@ -9,3 +9,8 @@ returns-clause-stands c =
     IfOk-weaker c.stepped.result _ _
     (λ n s. print_stands a.program.now a.self n c.print.new.self a.place.now a.next.now a.text a.cost r.may c.in_ok-print.ensures.ok r.affords s)
     c.stepped.ensures
+
+pub returns-clause-picks : goal.returns-clause-picks
+returns-clause-picks c =
+    let a = c.args in
+    IfOk-weaker c.stepped.result _ _ (λ n s. step_picks a.self n c.print.new.self a.self.fresh a.place.now 0 a.cost s) c.stepped.ensures

@@ -1,0 +1,5 @@
+pub mod Replays
+pub mod Legal
+pub mod Paths
+pub mod Takes
+pub mod Within

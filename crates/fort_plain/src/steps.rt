@@ -1,0 +1,300 @@
+//! A step of a thread, as a pick takes it.
+ghost use Rattle.std.specs.Prelude.{◌≡◌, ◌≢◌, ◌↔◌, ◌+◌, ◌≤◌, ◌^◌, [], IfOk, IsTrue};
+ghost use Rattle.fort_deal.specs.Deals.{making_cost, made_by as term_of, new_values as values_of};
+ghost use Rattle.fort_deal.specs.Deals.{next_by as next_value};
+ghost use Rattle.fort_machine.specs.Acts as acts;
+ghost use Rattle.fort_machine.specs.Written.{WrittenProgram};
+ghost use Rattle.fort_moves.specs.Turns.{IsMade, ready_term};
+ghost use Rattle.fort_effects.specs.Calls.{AreFree};
+ghost use Rattle.fort_effects.specs.Levels.{levels_of, seen};
+ghost use Rattle.fort_plain.specs.Takes.{DoesOnly, IsThreadAt, IsTurn, StepsOn, TurnsOnly};
+
+use crate::act::{Acted, Turn};
+use fort_acting::{acting, made_by, makes_count, new_values, next_by};
+use fort_base::{Bytes, List, Loc, Memory, Shared};
+use fort_carry::{Course, Going, single};
+use fort_core::{Program, Term, Value};
+use fort_deal::{Deal, Goes, Makes};
+use fort_frames::{At, Place, State};
+use fort_moves::Ready;
+use std::alloc::Global;
+
+/// A thread takes its step, with the location that the pick names.
+///
+/// # Errors
+///
+/// `Memory` where memory is wanting, or where the numbers of locations are at their end.
+#[tactic(auto, using(crate::proofs::Stepping::no_row, crate::proofs::Stepping::turns_only, crate::proofs::Stepping::enters_only, crate::proofs::Stepping::dealt_turns))]
+pub fn step(
+    alloc: Global,
+    program: &Program,
+    course: Course,
+    turn: Turn,
+    place: Place,
+    ready: Ready,
+    loc: Loc,
+) -> Result<Acted, Memory>
+    requires written { WrittenProgram program.now }
+    requires thread { IsThreadAt program.now course place (ready_term ready) }
+    requires made { IsMade ready }
+    requires turn { IsTurn turn }
+    ensures { IfOk result (StepsOn program.now course place (ready_term ready) turn loc.0) }
+{
+    match acting(alloc, program, &ready)? {
+        Deal::Stuck => Ok(Acted::Illegal),
+        Deal::Calls(_, _) => Err(Memory),
+        Deal::Turns(next, output, cost) => {
+            turns(
+                alloc, program, course, turn, place, &ready, loc, next, output, cost,
+            )
+        }
+        Deal::Enters(_, next) => {
+            let output = List::new(alloc);
+            turns(
+                alloc, program, course, turn, place, &ready, loc, next, output, 1,
+            )
+        }
+        Deal::Asks(from, goes) => {
+            asks(alloc, program, course, turn, place, &ready, loc, from, goes)
+        }
+        Deal::Sets(to, value) => {
+            sets(alloc, program, course, turn, place, &ready, loc, to, value)
+        }
+        Deal::Makes(makes) => {
+            makes_some(alloc, program, course, turn, place, &ready, loc, makes)
+        }
+        Deal::Ends => aborts(alloc, program, course, turn, place, &ready, loc),
+    }
+}
+
+// It goes on as a term, with a text that it prints, at a cost.
+#[tactic(auto, using(crate::proofs::Stepping::wrong_place, crate::proofs::Stepping::turn_last, crate::proofs::Stepping::turn_passes, crate::proofs::Stepping::may_turn, crate::proofs::Stepping::went_on))]
+fn turns(
+    alloc: Global,
+    program: &Program,
+    course: Course,
+    turn: Turn,
+    place: Place,
+    ready: &Ready,
+    loc: Loc,
+    next: Shared<Term>,
+    output: Bytes,
+    cost: u64,
+) -> Result<Acted, Memory>
+    requires only { TurnsOnly program.now course place (ready_term ready.now) next output cost }
+    requires turn { IsTurn turn }
+    ensures { IfOk result (StepsOn program.now course place (ready_term ready.now) turn loc.0) }
+{
+    let _ready = ready;
+    if loc.0 != 0 {
+        return Ok(Acted::Illegal);
+    }
+    if turn.is_end {
+        let all = with(&course, cost)?;
+        return Ok(Acted::Last(course, all));
+    }
+    if !course.affords(cost) {
+        return Ok(Acted::Passes);
+    }
+    let course = course.print(alloc, program, &place, &next, output, cost)?;
+    let at = At::Form(next);
+    let state = State { place, at };
+    Ok(Acted::Goes(Going { course, state }))
+}
+
+// What all costs with this.
+fn with(course: &Course, cost: u64) -> Result<u64, Memory>
+    ensures { IfOk result (λ all. all ≡ course.now.spent + cost) }
+{
+    match course.spent.checked_add(cost) {
+        None => Err(Memory),
+        Some(all) => Ok(all),
+    }
+}
+
+#[tactic(auto, using(crate::proofs::Stepping::asks_gone, crate::proofs::Stepping::asks_wrong, crate::proofs::Stepping::asks_last, crate::proofs::Stepping::asks_passes, crate::proofs::Stepping::may_ask, crate::proofs::Stepping::went_on))]
+fn asks(
+    alloc: Global,
+    program: &Program,
+    course: Course,
+    turn: Turn,
+    place: Place,
+    ready: &Ready,
+    loc: Loc,
+    from: Loc,
+    goes_by: Goes,
+) -> Result<Acted, Memory>
+    requires only { DoesOnly program.now course place (ready_term ready.now) (acts.asks from.0 (λ v. next_value goes_by v)) }
+    requires turn { IsTurn turn }
+    ensures { IfOk result (StepsOn program.now course place (ready_term ready.now) turn loc.0) }
+{
+    let _ready = ready;
+    let value = match course.look(from) {
+        None => return Ok(Acted::Illegal),
+        Some(value) => value.share()?,
+    };
+    if loc.0 != 0 {
+        return Ok(Acted::Illegal);
+    }
+    if turn.is_end {
+        let all = with(&course, 1)?;
+        return Ok(Acted::Last(course, all));
+    }
+    if !course.affords(1) {
+        return Ok(Acted::Passes);
+    }
+    let next = next_by(alloc, goes_by, &value)?;
+    let course = course.read(alloc, program, &place, &next, from, &value)?;
+    let at = At::Form(next);
+    let state = State { place, at };
+    Ok(Acted::Goes(Going { course, state }))
+}
+
+#[tactic(auto, using(crate::proofs::Stepping::sets_gone, crate::proofs::Stepping::sets_wrong, crate::proofs::Stepping::sets_last, crate::proofs::Stepping::sets_passes, crate::proofs::Stepping::may_set, crate::proofs::Stepping::went_on))]
+fn sets(
+    alloc: Global,
+    program: &Program,
+    course: Course,
+    turn: Turn,
+    place: Place,
+    ready: &Ready,
+    loc: Loc,
+    to: Loc,
+    value: Value,
+) -> Result<Acted, Memory>
+    requires only { DoesOnly program.now course place (ready_term ready.now) (acts.sets to.0 value) }
+    requires turn { IsTurn turn }
+    ensures { IfOk result (StepsOn program.now course place (ready_term ready.now) turn loc.0) }
+{
+    let _ready = ready;
+    if loc.0 != 0 || course.look(to).is_none() {
+        return Ok(Acted::Illegal);
+    }
+    if turn.is_end {
+        let all = with(&course, 1)?;
+        return Ok(Acted::Last(course, all));
+    }
+    if !course.affords(1) {
+        return Ok(Acted::Passes);
+    }
+    let next = Shared::new(alloc, Term::Value(Value::unit(alloc)?))?;
+    let course = course.write(alloc, program, &place, &next, to, value)?;
+    let at = At::Form(next);
+    let state = State { place, at };
+    Ok(Acted::Goes(Going { course, state }))
+}
+
+#[tactic(auto, using(crate::proofs::Stepping::makes_wrong, crate::proofs::Stepping::makes_last, crate::proofs::Stepping::makes_passes, crate::proofs::Stepping::may_make, crate::proofs::Stepping::free_all, crate::proofs::Stepping::went_on))]
+fn makes_some(
+    alloc: Global,
+    program: &Program,
+    course: Course,
+    turn: Turn,
+    place: Place,
+    ready: &Ready,
+    loc: Loc,
+    makes: Makes,
+) -> Result<Acted, Memory>
+    requires only { DoesOnly program.now course place (ready_term ready.now) (acts.makes (values_of makes) (λ l. term_of makes l) (making_cost makes)) }
+    requires turn { IsTurn turn }
+    ensures { IfOk result (StepsOn program.now course place (ready_term ready.now) turn loc.0) }
+{
+    let _ready = ready;
+    let cost = makes.cost();
+    if !are_free(&course, loc, makes_count(&makes)) {
+        return Ok(Acted::Illegal);
+    }
+    if turn.is_end {
+        let all = with(&course, cost)?;
+        return Ok(Acted::Last(course, all));
+    }
+    if !course.affords(cost) {
+        return Ok(Acted::Passes);
+    }
+    let values = new_values(alloc, &makes)?;
+    let next = made_by(alloc, makes, loc)?;
+    let course = course.make_at(alloc, program, &place, &next, &values, loc, cost)?;
+    let at = At::Form(next);
+    let state = State { place, at };
+    Ok(Acted::Goes(Going { course, state }))
+}
+
+// Whether so many locations from one on are below 2 to the 64, and none of them is there.
+fn are_free(course: &Course, loc: Loc, count: u64) -> bool
+    ensures { IsTrue result ↔ ((loc.0 + count ≤ 2 ^ 64) × AreFree loc.0 count (seen (levels_of course.now.layers))) }
+{
+    for at in 0..count {
+        match loc.0.checked_add(at) {
+            None => return false,
+            Some(here) => {
+                if course.look(Loc(here)).is_some() {
+                    return false;
+                }
+            }
+        }
+    }
+    true
+}
+
+// A step of `abort()`: it ends an attempt's machine, and is a throw in the root's.
+#[tactic(auto, using(crate::proofs::Stepping::abort_unthrown, crate::proofs::Stepping::throws_only))]
+fn aborts(
+    alloc: Global,
+    program: &Program,
+    course: Course,
+    turn: Turn,
+    place: Place,
+    ready: &Ready,
+    loc: Loc,
+) -> Result<Acted, Memory>
+    requires only { DoesOnly program.now course place (ready_term ready.now) acts.ends }
+    requires turn { IsTurn turn }
+    ensures { IfOk result (StepsOn program.now course place (ready_term ready.now) turn loc.0) }
+{
+    match course.turn() {
+        Some(_taken) => abort_attempt(alloc, program, course, turn, place, ready, loc),
+        None => match single(program, program.built_in.abort_outside) {
+            None => Ok(Acted::Illegal),
+            Some(value) => {
+                let value = Shared::new(alloc, Term::Value(value))?;
+                let next = Shared::new(alloc, Term::Throw(value))?;
+                let output = List::new(alloc);
+                turns(
+                    alloc, program, course, turn, place, ready, loc, next, output, 1,
+                )
+            }
+        },
+    }
+}
+
+#[tactic(auto, using(crate::proofs::Stepping::abort_wrong, crate::proofs::Stepping::abort_last, crate::proofs::Stepping::abort_passes, crate::proofs::Stepping::stops_here, crate::proofs::Stepping::abort_unclosed, crate::proofs::Stepping::abort_leaves))]
+fn abort_attempt(
+    alloc: Global,
+    program: &Program,
+    course: Course,
+    turn: Turn,
+    place: Place,
+    ready: &Ready,
+    loc: Loc,
+) -> Result<Acted, Memory>
+    requires inside { course.outer ≢ [] }
+    requires only { DoesOnly program.now course place (ready_term ready.now) acts.ends }
+    requires turn { IsTurn turn }
+    ensures { IfOk result (StepsOn program.now course place (ready_term ready.now) turn loc.0) }
+{
+    let _ready = ready;
+    if loc.0 != 0 || !turn.is_last {
+        return Ok(Acted::Illegal);
+    }
+    if turn.is_end {
+        let all = with(&course, 1)?;
+        return Ok(Acted::Last(course, all));
+    }
+    if !course.affords(1) {
+        return Ok(Acted::Passes);
+    }
+    match course.abort(alloc, program, &place)? {
+        None => Ok(Acted::Unclosed),
+        Some(going) => Ok(Acted::Leaves(going)),
+    }
+}
