@@ -7,7 +7,7 @@ use Rattle.fort_machine.specs.Effects.{Effect}
 use Rattle.fort_machine.specs.Journals.{Ends, Records}
 use Rattle.fort_carry.specs.Calls.{IsRun}
 use Rattle.fort_carry.specs.declared.ending.Ran.{Ran}
-use Rattle.fort_run.specs.Reply.{TellsEnding, TellsRun}
+use Rattle.fort_run.specs.Reply.{AlwaysOne, TellsEnding, TellsRun}
 use Rattle.fort_run.specs.Said.{said, status_of, note_of}
 use Rattle.fort_run.specs.declared.answer.Answer.TheVariants as answer
 use Rattle.fort_run.specs.declared.answer.Told.{Told}
@@ -20,13 +20,14 @@ pub has_end : (p : Program) (fuel : ℕ) (ran : Ran) → IsRun p fuel ran → ra
 has_end p fuel ran is none = no_end p fuel is.run.term is.run.effect (subst (λ e. Ends p fuel is.run.term is.run.effect e) none is.run.records.ends)
 
 -- What is said of a run, where it tells how that ended.
-pub run_told : (p : Program) (fuel : ℕ) (ran : Ran) (end : Told) → IsRun p fuel ran → TellsEnding p ran.journal.ending (status_of end) (note_of end)
+pub run_told : (p : Program) (fuel : ℕ) (ran : Ran) (end : Told) → IsRun p fuel ran → AlwaysOne p → TellsEnding p ran.journal.ending (status_of end) (note_of end)
     → TellsRun p fuel (said (answer.Ran ran.journal ran.output end))
-run_told p fuel ran end is tells = record {
+run_told p fuel ran end is one tells = record {
   term = is.run.term;
   effect = is.run.effect;
   records = subst (λ n. Records p (record { fuel = n; picks = ran.journal.picks; ending = ran.journal.ending }) is.run.term is.run.effect) (sym is.is_fuel) is.run.records;
   is_fuel = is.is_fuel;
   is_output = is.run.is_output;
   tells = tells;
+  one = one;
 }

@@ -1,6 +1,6 @@
 -- What a call means to say. It restates the chapters "The command line" and "Statuses and notes" of docs/LANGUAGE.md.
 -- The code finds the reply by reading in pieces; the words below speak of whole files.
-use Rattle.std.specs.Prelude.{◌≡◌, ℕ, ◌*◌, ◌<◌, ◌≤◌, List, [], ◌∷◌, ◌++◌, codes, length}
+use Rattle.std.specs.Prelude.{◌≡◌, ℕ, Bool, ◌*◌, ◌<◌, ◌≤◌, List, [], ◌∷◌, ◌++◌, codes, length}
 use Rattle.fort_base.specs.declared.refusal.Rule.{Rule}
 use Rattle.fort_base.specs.declared.refusal.Place.{Place}
 use Rattle.fort_token.specs.declared.token.Tokens.{Tokens}
@@ -17,8 +17,10 @@ use Rattle.fort_core.specs.declared.journal.Ending.TheVariants.{NotRun, Complete
 use Rattle.fort_core.specs.declared.journal.Journal.{Journal}
 use Rattle.fort_core.specs.declared.program.Program.{Program}
 use Rattle.fort_core.specs.declared.term.Term.{Term}
-use Rattle.fort_machine.specs.Effects.{Effect}
+use Rattle.fort_machine.specs.Effects.{Store, Effect}
 use Rattle.fort_machine.specs.Journals.{Records}
+use Rattle.fort_machine.specs.OneDefinition.{IsOne}
+use Rattle.fort_machine.specs.Proper.{Reached}
 use Rattle.fort_diag.specs.Notes.{usage, read_fault, too_large, out_of_fuel, uncaught, refusal}
 
 -- A status, what is for standard output, what is for standard error, and the journal of a run.
@@ -67,7 +69,13 @@ TellsEnding p Completed status note = (status ≡ 0) × (note ≡ [])
 TellsEnding p (Uncaught v) status note = (status ≡ 5) × (note ≡ uncaught p v)
 TellsEnding p (OutOfFuel pick) status note = (status ≡ 6) × (note ≡ out_of_fuel)
 
--- The reply tells a run of a program with this fuel: its journal is the run's, its output what the run printed, and status and note tell how the run ended.
+-- Wherever a machine of a program comes to, the root's or an attempt's at any depth, each call of values has exactly one most specific applicable declaration, and
+-- that one isn't abstract. So it is in each term of a run.
+abbrev pub AlwaysOne : Program → Type 0
+AlwaysOne p = (inner : Bool) (s : Store) (t : Term) → Reached p inner s t → IsOne p t
+
+-- The reply tells a run of a program with this fuel: its journal is the run's, its output what the run printed, and status and note tell how the run ended;
+-- and in each of its terms each call has its one declaration.
 pub record TellsRun (p : Program) (fuel : ℕ) (reply : Reply) : Type 0 where
   pub term : Term
   pub effect : Effect
@@ -75,6 +83,7 @@ pub record TellsRun (p : Program) (fuel : ℕ) (reply : Reply) : Type 0 where
   pub is_fuel : reply.journal.fuel ≡ fuel
   pub is_output : reply.out ≡ effect.output
   pub tells : TellsEnding p reply.journal.ending reply.status reply.note
+  pub one : AlwaysOne p
 
 -- What is said of a file to run with this fuel.
 pub data RunSays (name file : List ℕ) (fuel : ℕ) (reply : Reply) : Type 0 where

@@ -8,7 +8,7 @@ ghost use Rattle.fort_machine.specs.Written.{WrittenProgram};
 ghost use Rattle.fort_matched.specs.Component.{StandApart};
 ghost use Rattle.fort_carry.specs.Calls.{IsRun};
 ghost use Rattle.fort_turns.specs.Stops.{StopsShort};
-ghost use Rattle.fort_run.specs.Reply.{RunSays, TellsEnding, TellsRun, file_limit};
+ghost use Rattle.fort_run.specs.Reply.{RunSays, AlwaysOne, TellsEnding, TellsRun, file_limit};
 ghost use Rattle.fort_run.specs.Said.{said, status_of, note_of};
 
 use crate::answer::{Answer, Told, refused_by};
@@ -19,6 +19,7 @@ use fort_diag::uncaught;
 use fort_front::{accepted_is_written, check};
 use fort_lex::{Tokens, tokens};
 use fort_never::accepted_never_stops;
+use fort_sound::accepted_runs_well;
 use fort_walk::{Ran, Walked, walk};
 use std::alloc::Global;
 
@@ -36,6 +37,7 @@ pub(crate) fn run_file(
 {
     tokens_stand_apart();
     accepted_never_stops();
+    accepted_runs_well();
     match tokens(alloc, file.as_slice()) {
         Ok(tokens) => formed(alloc, name, &tokens, fuel),
         Err(fault) => refused_by(name, fault),
@@ -46,6 +48,7 @@ pub(crate) fn run_file(
 fn formed(alloc: Global, name: Bytes, tokens: &Tokens, fuel: u64) -> Result<Answer, Memory>
     requires apart { StandApart tokens.now.list }
     requires never { (p : Program) → IsAccepted tokens.now p → StopsShort p → ⊥ }
+    requires one { (p : Program) → IsAccepted tokens.now p → AlwaysOne p }
     ensures { IfOk result (λ a. (file : Seq ℕ) → HasTokens file tokens.now → RunSays name file fuel (said a)) }
 {
     accepted_is_written();
@@ -59,6 +62,7 @@ fn formed(alloc: Global, name: Bytes, tokens: &Tokens, fuel: u64) -> Result<Answ
 fn run_program(alloc: Global, program: &Program, fuel: u64) -> Result<Answer, Memory>
     requires written { WrittenProgram program.now }
     requires never { StopsShort program.now → ⊥ }
+    requires one { AlwaysOne program.now }
     ensures { IfOk result (λ a. TellsRun program.now fuel (said a)) }
 {
     match walk(alloc, program, fuel)? {
@@ -69,7 +73,8 @@ fn run_program(alloc: Global, program: &Program, fuel: u64) -> Result<Answer, Me
 
 /// What is to say of a run.
 fn told(alloc: Global, program: &Program, fuel: u64, ran: Ran) -> Result<Answer, Memory>
-    requires { IsRun program.now fuel ran }
+    requires run { IsRun program.now fuel ran }
+    requires one { AlwaysOne program.now }
     ensures { IfOk result (λ a. TellsRun program.now fuel (said a)) }
 {
     let _fuel = fuel;
