@@ -16,3 +16,5 @@ pub mod Outside
 pub mod Taking
 pub mod Costs
 pub mod Ending
+pub mod Dealing
+pub mod Testing
