@@ -13,7 +13,7 @@ returns-in-None c =
 
 pub returns-then-names_one : goal.returns-then-names_one
 returns-then-names_one c =
-    asks_wrong c.args.program.now c.args.course c.args.place (ready_term c.args.ready.now) c.args.from.0 (λ v. next_by c.args.goes_by v) c.args.turn c.args.loc.0 c.requires.only ?
+    asks_wrong c.args.program.now c.args.course c.args.place (ready_term c.args.ready.now) c.args.from.0 (λ v. next_by c.args.goes_by v) c.args.turn c.args.loc.0 c.requires.only (c.names_one.ensures.0 c.if-names_one.true)
 
 pub returns-then-turn : goal.returns-then-turn
 returns-then-turn c =

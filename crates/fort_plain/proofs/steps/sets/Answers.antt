@@ -9,7 +9,7 @@ use Rattle.fort_plain.proofs.Testing.{none_named, too_dear, some_seen, none_seen
 use Rattle.fort_plain.proofs.steps.sets.Goals as goal
 
 pub returns-then-names_one : goal.returns-then-names_one
-returns-then-names_one c = sets_wrong c.args.program.now c.args.course c.args.place (ready_term c.args.ready.now) c.args.to.0 c.args.value c.args.turn c.args.loc.0 c.requires.only ?
+returns-then-names_one c = sets_wrong c.args.program.now c.args.course c.args.place (ready_term c.args.ready.now) c.args.to.0 c.args.value c.args.turn c.args.loc.0 c.requires.only (c.names_one.ensures.0 c.if-names_one.true)
 
 pub returns-then-is_none : goal.returns-then-is_none
 returns-then-is_none c =
