@@ -1,4 +1,5 @@
 use Rattle.std.proofs.Common.{subst}
+use Rattle.std.proofs.lemmas.Result.{IfOk-weaker}
 use Rattle.fort_moves.specs.Turns.{ready_term}
 use Rattle.fort_plain.specs.Paths.{IsFound, whole}
 use Rattle.fort_plain.proofs.Attempting.{thread_there, acts_there, form_no_step, nothing_steps}
@@ -21,3 +22,10 @@ pub returns-in-Nothing : goal.returns-in-Nothing
 returns-in-Nothing c =
     let h = subst (IsFound c.args.course.clock (whole c.args.course.clock c.args.state) c.args.path.now) c.in-Nothing.is c.in_ok-place.ensures in
     nothing_steps c.args.program.now c.args.course (whole c.args.course.clock c.args.state) c.args.path.now c.args.turn c.args.loc.0 h
+
+pub returns-in-Steps : goal.returns-in-Steps
+returns-in-Steps c =
+    let h = subst (IsFound c.args.course.clock (whole c.args.course.clock c.args.state) c.args.path.now) c.in-Steps.is c.in_ok-place.ensures in
+    IfOk-weaker c.step.result _ _
+    (λ r k. acts_there c.args.program.now c.args.course (whole c.args.course.clock c.args.state) c.in-Steps.place (ready_term c.in-Steps.ready) c.args.path.now c.args.turn c.args.loc.0 r h.0.thread.is_at h.1 k)
+    c.step.ensures

@@ -23,5 +23,17 @@ returns-then-must_wait c = λ turn within.
 pub open_attempt-requires-clause-may : goal.open_attempt-requires-clause-may
 open_attempt-requires-clause-may c =
     let s = seen (levels_of c.args.course.layers) in
-    may_try c.args.program.now c.args.course c.args.place c.args.form c.in-Atomic.mode _ c.requires.written c.requires.stands ?
+    may_try c.args.program.now c.args.course c.args.place c.args.form c.in-Atomic.mode c.in-Atomic.body c.requires.written c.requires.stands (fresh (sym c.get.ensures ∙ c.in-Atomic.is))
     (subst (MustWait s (term_round c.args.course c.args.place c.args.form) c.args.form) c.if-must_wait.false c.in_ok-must_wait.ensures)
+
+pub open_attempt-requires-clause-ready : goal.open_attempt-requires-clause-ready
+open_attempt-requires-clause-ready c = form_ready c.args.form c.requires.atomic.0 c.requires.atomic.1 c.requires.atomic.2
+
+pub open_attempt-requires-in-Asleep-clause-may : goal.open_attempt-requires-in-Asleep-clause-may
+open_attempt-requires-in-Asleep-clause-may c =
+    let s = seen (levels_of c.args.course.layers) in
+    may_try c.args.program.now c.args.course c.args.place c.args.form mode.Atomic c.in-Asleep.body c.requires.written c.requires.stands (slept c.in-Asleep.field-0 refl (sym c.get.ensures ∙ c.in-Asleep.is))
+    (subst (MustWait s (term_round c.args.course c.args.place c.args.form) c.args.form) c.if-must_wait.false c.in_ok-must_wait.ensures)
+
+pub open_attempt-requires-in-Asleep-clause-ready : goal.open_attempt-requires-in-Asleep-clause-ready
+open_attempt-requires-in-Asleep-clause-ready c = form_ready c.args.form c.requires.atomic.0 c.requires.atomic.1 c.requires.atomic.2

@@ -1,4 +1,4 @@
-use Rattle.std.proofs.Common.{◌≡◌, true, false, sym, ◌∙◌}
+use Rattle.std.proofs.Common.{◌≡◌, true, false, refl, sym, ◌∙◌}
 use Rattle.fort_effects.specs.Levels.{levels_of, seen}
 use Rattle.fort_machine.proofs.Standing.{is_open}
 use Rattle.fort_plain.specs.Takes.{term_round}
@@ -16,4 +16,4 @@ all_sleep-requires-clause-is_open c = is_open c.args.form.now c.requires.ready.u
 pub returns : goal.returns
 returns c =
     let sleeps = rw c.get.ensures at c.sleeps.ensures in
-    waits_by (seen (levels_of c.args.course.now.layers)) (term_round c.args.course.now c.args.place.now c.args.form.now) c.args.form.now c.in_ok-all.all _ c.in_ok-all.ensures (sleeps.0 c.if-not-sleeps.false) ?
+    waits_by (seen (levels_of c.args.course.now.layers)) (term_round c.args.course.now c.args.place.now c.args.form.now) c.args.form.now c.in_ok-all.all _ c.in_ok-all.ensures (sleeps.0 c.if-not-sleeps.false) refl
