@@ -18,6 +18,15 @@ use Rattle.fort_plain.specs.Takes.{MustWait}
 pub too_dear : (spent cost fuel : ℕ) (b : Bool) → b ≡ nat_le (spent + cost) fuel → b ≡ false → fuel < spent + cost
 too_dear spent cost fuel b e n = leb-false (spent + cost) fuel (sym e ∙ n)
 
+-- a flag's denial
+pub not_so : (b : Bool) → not b ≡ true → b ≡ false
+not_so true e = let z : false ≡ true = e in absurd cc
+not_so false e = refl
+
+pub is_so : (b : Bool) → not b ≡ false → b ≡ true
+is_so true e = refl
+is_so false e = let z : true ≡ false = e in absurd cc
+
 -- a location is there, or isn't
 pub some_seen : (o : Option (Bor Value)) (s : Option Value) (b : Bool) → option_copied o ≡ s → is_some o ≡ not b → b ≡ false → IsSome s
 some_seen None s b e k t = let z : false ≡ true = k ∙ ap not t in absurd cc

@@ -1,4 +1,4 @@
-use Rattle.std.proofs.Common.{◌≡◌, ◌+◌, ◌<◌, ◌≤◌, ◌^◌, ⊥, true, false, length, refl, sym, ap, ◌∙◌, subst}
+use Rattle.std.proofs.Common.{◌≡◌, ◌+◌, ◌<◌, ◌≤◌, ◌^◌, true, false, length, refl, sym, ap, ◌∙◌, subst}
 use Rattle.fort_machine.specs.Effects.{making}
 use Rattle.fort_machine.specs.Steps.{or_unit}
 use Rattle.fort_effects.specs.Calls.{AreFree}
