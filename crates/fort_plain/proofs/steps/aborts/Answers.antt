@@ -1,4 +1,4 @@
-use Rattle.std.proofs.Common.{refl, sym, ap, ◌∙◌}
+use Rattle.std.proofs.Common.{sym, ap, ◌∙◌}
 use Rattle.fort_core.specs.declared.term.Term.{Term, Throw}
 use Rattle.fort_moves.specs.Turns.{ready_term}
 use Rattle.fort_plain.proofs.Stepping.{abort_unthrown, throws_only}

@@ -1,5 +1,4 @@
-use Rattle.std.proofs.Common.{subst, refl, sym, ap, ◌∙◌, Some}
-use Rattle.fort_effects.specs.Levels.{levels_of, seen}
+use Rattle.std.proofs.Common.{subst, sym, ap, ◌∙◌, Some}
 use Rattle.fort_deal.specs.Deals.{next_by}
 use Rattle.fort_carry.specs.Picked.{PicksStep}
 use Rattle.fort_moves.specs.Turns.{ready_term}

@@ -1,6 +1,5 @@
-use Rattle.std.proofs.Common.{◌≡◌, ◌+◌, ◌<◌, ◌≤◌, ◌^◌, true, false, length, refl, sym, ap, ◌∙◌, subst}
+use Rattle.std.proofs.Common.{◌≡◌, ◌+◌, ◌<◌, ◌≤◌, ◌^◌, true, false, sym, ap, ◌∙◌, subst}
 use Rattle.fort_machine.specs.Effects.{making}
-use Rattle.fort_machine.specs.Steps.{or_unit}
 use Rattle.fort_effects.specs.Calls.{AreFree}
 use Rattle.fort_effects.specs.Levels.{levels_of, seen}
 use Rattle.fort_carry.specs.Calls.{MayStep}

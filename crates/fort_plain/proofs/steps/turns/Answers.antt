@@ -1,4 +1,4 @@
-use Rattle.std.proofs.Common.{subst, ◌≢◌, ◌≡◌, arith, refl, sym, ◌∙◌}
+use Rattle.std.proofs.Common.{subst, sym}
 use Rattle.fort_carry.specs.Picked.{PicksStep}
 use Rattle.fort_moves.specs.Turns.{ready_term}
 use Rattle.fort_plain.proofs.Stepping.{wrong_place, turn_last, turn_passes, may_turn, went_on}
