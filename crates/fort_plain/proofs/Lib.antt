@@ -17,9 +17,6 @@ pub mod Here
 pub mod Taking
 pub mod Costs
 pub mod Ending
-<<<<<<< HEAD
 pub mod Replaying
-=======
 pub mod Dealing
 pub mod Testing
->>>>>>> plain2a
