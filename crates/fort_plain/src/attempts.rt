@@ -1,7 +1,9 @@
 //! Attempts of a replay.
 ghost use Rattle.std.specs.Prelude.{◌≡◌, ◌≢◌, [], IfOk, List};
+ghost use Rattle.fort_core.specs.declared.form.Mode.{Mode};
 ghost use Rattle.fort_core.specs.declared.pick.Pick.{Attempt as an_attempt};
 ghost use Rattle.fort_core.specs.declared.pick.Pick.{Pick};
+ghost use Rattle.fort_core.specs.declared.term.Term.{Term};
 ghost use Rattle.fort_machine.specs.Attempts.{Form, Ready};
 ghost use Rattle.fort_machine.specs.Written.{WrittenProgram};
 ghost use Rattle.fort_frames.specs.Frames.{Reaches, frames};
