@@ -1,5 +1,5 @@
 -- The next pick of an attempt, and of a journal.
-use Rattle.std.proofs.Common.{◌≡◌, ℕ, zero, suc, ◌+◌, ◌-◌, ◌==◌, ◌<◌, ◌≤◌, Bool, true, false, List, [], ◌∷◌, ◌++◌, length, take, Option, Some, None, refl, ap, sym, ◌∙◌, subst, arith}
+use Rattle.std.proofs.Common.{◌≡◌, ℕ, zero, suc, ◌+◌, ◌-◌, ◌==◌, ◌<◌, ◌≤◌, Bool, true, false, List, [], ◌∷◌, ◌++◌, length, length-append, take, Option, Some, None, ne_eqb, refl, ap, sym, ◌∙◌, subst, arith}
 use Rattle.std.specs.Prelude.{slice_get}
 use Rattle.fort_core.specs.declared.pick.Pick.{Pick}
 use Rattle.fort_plain.specs.Within.{IsHere, is_none}
@@ -10,8 +10,7 @@ past [] ys = refl
 past (x ∷ xs) ys = past xs ys
 
 count : (xs ys : List Pick) → length (xs ++ ys) ≡ length xs + length ys
-count [] ys = refl
-count (x ∷ xs) ys = ap suc (count xs ys)
+count xs ys = length-append xs ys
 
 append_nil : (xs : List Pick) → xs ++ [] ≡ xs
 append_nil [] = refl
@@ -32,7 +31,7 @@ counted picks before left e = ap length e ∙ count before left
 
 one_left : (x : Pick) (xs : List Pick) → (suc (length xs) == 1) ≡ is_none xs
 one_left x [] = refl
-one_left x (y ∷ ys) = refl
+one_left x (y ∷ ys) = ne_eqb (suc (suc (length ys))) 1 (λ e. omega (arith, e))
 
 here : (w : Within) (pick : Pick) (last : Bool) (left : List Pick) (n : ℕ) → w.source.picks.now ≡ w.going.course.picks ++ left → slice_get left 0 ≡ Some pick → n ≡ length left → last ≡ (n == 1) → IsHere w pick last
 here w pick last [] n e g l q = absurd cc

@@ -18,3 +18,5 @@ pub mod Taking
 pub mod Costs
 pub mod Ending
 pub mod Replaying
+pub mod Dealing
+pub mod Testing

@@ -4,16 +4,17 @@ use Rattle.fort_core.specs.declared.pick.Pick.{Pick, Step, Attempt}
 use Rattle.fort_core.specs.declared.program.Program.{Program}
 use Rattle.fort_core.specs.declared.term.Term.{Term}
 use Rattle.fort_core.specs.declared.value.Value.{Value}
-use Rattle.fort_machine.specs.Effects.{Effect, FitsAll, paid, printed}
+use Rattle.fort_machine.specs.Effects.{Store, Effect, FitsAll, paid, printed}
 use Rattle.fort_machine.specs.Ends.{Finished}
 use Rattle.fort_machine.specs.Acts.{Act, ends}
-use Rattle.fort_machine.specs.Attempts.{Ready, aborts}
+use Rattle.fort_machine.specs.Attempts.{Ready, Sleeps, Awake, aborts}
 use Rattle.fort_machine.specs.Runs.{Runs}
 use Rattle.fort_machine.specs.Steps.{Acts, Local}
 use Rattle.fort_machine.specs.Journals.{MakesWithinBounds}
 use Rattle.fort_frames.specs.Frames.{frames, rebuilt}
 use Rattle.fort_frames.specs.declared.place.Place.{Place}
 use Rattle.fort_effects.specs.Levels.{levels_of, seen}
+use Rattle.fort_picks.specs.Picks.{MayBeTried}
 use Rattle.fort_course.specs.Course.{Held, is_inner}
 use Rattle.fort_carry.specs.Courses.{StandsAt, IsGoing, around}
 use Rattle.fort_carry.specs.Calls.{CannotThrow}
@@ -22,6 +23,8 @@ use Rattle.fort_carry.specs.declared.course.Course.{Course}
 use Rattle.fort_carry.specs.declared.course.Going.{Going}
 use Rattle.fort_carry.specs.declared.course.Waiting.{Waiting}
 use Rattle.fort_acting.specs.Only.{OnlyDoes}
+use Rattle.fort_deal.specs.declared.deal.Deal.{Deal}
+use Rattle.fort_deal.specs.declared.deal.Deal.TheVariants as deal
 use Rattle.fort_plain.specs.Legal.{AreLegal, NoWay}
 use Rattle.fort_plain.specs.Paths.{whole}
 use Rattle.fort_plain.specs.declared.act.Acted.{Acted}
@@ -126,3 +129,19 @@ StepsOn p c place a turn loc r = ActsOn p c (term_round c place a) turn (Step pl
 abbrev pub Closes : Program → Course → Term → Option Going → Type 0
 Closes p c t None = Finished t → ⊥
 Closes p c t (Some g) = Leaves p c c.picks g
+
+-- What a form does looks at the store, or ends its machine.
+abbrev pub TouchesStore : Deal → Type 0
+TouchesStore deal.Stuck = ⊥
+TouchesStore (deal.Turns t output cost) = ⊥
+TouchesStore (deal.Enters body t) = ⊥
+TouchesStore (deal.Calls set vs) = ⊥
+TouchesStore (deal.Asks l g) = Unit {0}
+TouchesStore (deal.Sets l v) = Unit {0}
+TouchesStore (deal.Makes m) = Unit {0}
+TouchesStore deal.Ends = Unit {0}
+
+-- Whether a form of a term waits: it sleeps, and a thread of the term is awake; else it may be tried.
+abbrev pub MustWait : Store → Term → Term → Bool → Type 0
+MustWait s t a true = Sleeps s a × ((path : List ℕ) × Awake s t path)
+MustWait s t a false = MayBeTried s t a

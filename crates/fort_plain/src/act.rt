@@ -69,7 +69,6 @@ pub fn act(
     }
 }
 
-#[tactic(auto, using(crate::proofs::Attempting::thread_there, crate::proofs::Attempting::acts_there, crate::proofs::Attempting::form_no_step, crate::proofs::Attempting::nothing_steps))]
 fn step_at(
     alloc: Global,
     program: &Program,
@@ -91,7 +90,6 @@ fn step_at(
     }
 }
 
-#[tactic(auto, using(crate::proofs::Attempting::stands_there, crate::proofs::Attempting::tries_there, crate::proofs::Attempting::thread_not_tried, crate::proofs::Attempting::nothing_tried))]
 fn attempt_at(
     alloc: Global,
     program: &Program,

@@ -1,14 +1,17 @@
 //! Attempts of a replay.
 ghost use Rattle.std.specs.Prelude.{◌≡◌, ◌≢◌, [], IfOk, List};
+ghost use Rattle.fort_core.specs.declared.form.Mode.{Mode};
 ghost use Rattle.fort_core.specs.declared.pick.Pick.{Attempt as an_attempt};
 ghost use Rattle.fort_core.specs.declared.pick.Pick.{Pick};
-ghost use Rattle.fort_machine.specs.Attempts.{Form};
+ghost use Rattle.fort_core.specs.declared.term.Term.{Term};
+ghost use Rattle.fort_machine.specs.Attempts.{Form, Ready};
 ghost use Rattle.fort_machine.specs.Written.{WrittenProgram};
+ghost use Rattle.fort_frames.specs.Frames.{Reaches, frames};
+ghost use Rattle.fort_effects.specs.Levels.{levels_of, seen};
 ghost use Rattle.fort_carry.specs.Courses.{IsGoing, StandsAt};
 ghost use Rattle.fort_carry.specs.Calls.{MayTry};
 ghost use Rattle.fort_plain.specs.Paths.{whole};
-ghost use Rattle.fort_plain.specs.Takes.{ActsOn, term_round};
-ghost use Rattle.fort_plain.specs.Takes.{Closes};
+ghost use Rattle.fort_plain.specs.Takes.{ActsOn, Closes, MustWait, term_round};
 
 use crate::act::Acted;
 use crate::awake::{all_sleep, sleeps};
@@ -25,7 +28,6 @@ use std::alloc::Global;
 /// # Errors
 ///
 /// `Memory` where memory is wanting.
-#[tactic(auto, using(crate::proofs::Attempting::sleeper_waits, crate::proofs::Attempting::may_try))]
 pub fn begin(
     alloc: Global,
     program: &Program,
@@ -38,7 +40,7 @@ pub fn begin(
     requires atomic { (m : Mode) × (body : Term) × Form form m body }
     ensures { IfOk result (λ r. (turn : _) (within : List Pick) → ActsOn program.now course (term_round course place form) turn (an_attempt place.path within) r) }
 {
-    if sleeps(&course, form.get()) && !all_sleep(alloc, &course, &place, &form)? {
+    if must_wait(alloc, &course, &place, &form)? {
         return Ok(Acted::Illegal);
     }
     match form.get() {
@@ -47,6 +49,7 @@ pub fn begin(
             program,
             course,
             place,
+            &form,
             *mode,
             body.share()?,
         ),
@@ -55,26 +58,48 @@ pub fn begin(
             program,
             course,
             place,
+            &form,
             Mode::Atomic,
             body.share()?,
         ),
-        _ => Err(Memory),
+        _ => unreachable!(),
     }
 }
 
+// Whether a form sleeps while another thread of its machine is awake.
+fn must_wait(
+    alloc: Global,
+    course: &Course,
+    place: &Place,
+    form: &Shared<Term>,
+) -> Result<bool, Memory>
+    requires ready { Ready form.now }
+    requires reached { Reaches course.now.clock (frames place.now.stack) form.now }
+    ensures { IfOk result (MustWait (seen (levels_of course.now.layers)) (term_round course.now place.now form.now) form.now) }
+{
+    if !sleeps(course, form.get()) {
+        return Ok(false);
+    }
+    let all = all_sleep(alloc, course, place, form)?;
+    Ok(!all)
+}
+
 // The attempt's machine begins at the body, or the fuel is out.
-#[tactic(auto, using(crate::proofs::Attempting::attempt_passes, crate::proofs::Attempting::begins))]
 fn open_attempt(
     alloc: Global,
     program: &Program,
     course: Course,
     place: Place,
+    form: &Shared<Term>,
     mode: Mode,
     body: Shared<Term>,
 ) -> Result<Acted, Memory>
-    requires { MayTry program.now course place mode body }
-    ensures { IfOk result (λ r. (form : Term) → StandsAt program.now course place form → (turn : _) (within : List Pick) → ActsOn program.now course (term_round course place form) turn (an_attempt place.path within) r) }
+    requires may { MayTry program.now course place mode body }
+    requires stands { StandsAt program.now course place form.now }
+    requires ready { Ready form.now }
+    ensures { IfOk result (λ r. (turn : _) (within : List Pick) → ActsOn program.now course (term_round course place form.now) turn (an_attempt place.path within) r) }
 {
+    let _form = form;
     if !course.affords(1) {
         return Ok(Acted::Passes);
     }

@@ -1,13 +1,15 @@
 //! A step of a thread, as a pick takes it.
-ghost use Rattle.std.specs.Prelude.{◌≡◌, ◌≢◌, ◌↔◌, ◌+◌, ◌≤◌, ◌^◌, [], IfOk, IsTrue};
+ghost use Rattle.std.specs.Prelude.{◌≡◌, ◌≢◌, ◌↔◌, ◌+◌, ◌<◌, ◌≤◌, ◌^◌, [], IfOk, IsTrue, None};
 ghost use Rattle.fort_deal.specs.Deals.{making_cost, made_by as term_of, new_values as values_of};
 ghost use Rattle.fort_deal.specs.Deals.{next_by as next_value};
+ghost use Rattle.fort_deal.specs.declared.deal.Deal.TheVariants as deals;
 ghost use Rattle.fort_machine.specs.Acts as acts;
 ghost use Rattle.fort_machine.specs.Written.{WrittenProgram};
-ghost use Rattle.fort_moves.specs.Turns.{IsMade, ready_term};
+ghost use Rattle.fort_moves.specs.Turns.{ready_term};
+ghost use Rattle.fort_acting.specs.Only.{IsDealt};
 ghost use Rattle.fort_effects.specs.Calls.{AreFree};
 ghost use Rattle.fort_effects.specs.Levels.{levels_of, seen};
-ghost use Rattle.fort_plain.specs.Takes.{DoesOnly, IsThreadAt, IsTurn, StepsOn, TurnsOnly};
+ghost use Rattle.fort_plain.specs.Takes.{DoesOnly, IsThreadAt, IsTurn, StepsOn, TouchesStore, TurnsOnly};
 
 use crate::act::{Acted, Turn};
 use fort_acting::{acting, made_by, makes_count, new_values, next_by};
@@ -24,7 +26,6 @@ use std::alloc::Global;
 /// # Errors
 ///
 /// `Memory` where memory is wanting, or where the numbers of locations are at their end.
-#[tactic(auto, using(crate::proofs::Stepping::no_row, crate::proofs::Stepping::turns_only, crate::proofs::Stepping::enters_only, crate::proofs::Stepping::dealt_turns))]
 pub fn step(
     alloc: Global,
     program: &Program,
@@ -36,39 +37,108 @@ pub fn step(
 ) -> Result<Acted, Memory>
     requires written { WrittenProgram program.now }
     requires thread { IsThreadAt program.now course place (ready_term ready) }
-    requires made { IsMade ready }
     requires turn { IsTurn turn }
     ensures { IfOk result (StepsOn program.now course place (ready_term ready) turn loc.0) }
 {
-    match acting(alloc, program, &ready)? {
-        Deal::Stuck => Ok(Acted::Illegal),
-        Deal::Calls(_, _) => Err(Memory),
+    let deal = acting(alloc, program, &ready)?;
+    dealt(alloc, program, course, turn, place, ready, loc, deal)
+}
+
+// What its form does is done.
+fn dealt(
+    alloc: Global,
+    program: &Program,
+    course: Course,
+    turn: Turn,
+    place: Place,
+    ready: Ready,
+    loc: Loc,
+    deal: Deal,
+) -> Result<Acted, Memory>
+    requires written { WrittenProgram program.now }
+    requires thread { IsThreadAt program.now course place (ready_term ready) }
+    requires turn { IsTurn turn }
+    requires dealt { IsDealt program.now (ready_term ready) deal }
+    ensures { IfOk result (StepsOn program.now course place (ready_term ready) turn loc.0) }
+{
+    if is_stuck(&deal) {
+        return Ok(Acted::Illegal);
+    }
+    goes_on(alloc, program, course, turn, place, &ready, loc, deal)
+}
+
+fn is_stuck(deal: &Deal) -> bool
+    ensures { IsTrue result ↔ (deal.now ≡ deals.Stuck) }
+{
+    match deal {
+        Deal::Stuck => true,
+        _ => false,
+    }
+}
+
+// It goes on as a term, or touches the store.
+fn goes_on(
+    alloc: Global,
+    program: &Program,
+    course: Course,
+    turn: Turn,
+    place: Place,
+    ready: &Ready,
+    loc: Loc,
+    deal: Deal,
+) -> Result<Acted, Memory>
+    requires written { WrittenProgram program.now }
+    requires thread { IsThreadAt program.now course place (ready_term ready.now) }
+    requires turn { IsTurn turn }
+    requires dealt { IsDealt program.now (ready_term ready.now) deal }
+    requires moves { deal ≢ deals.Stuck }
+    ensures { IfOk result (StepsOn program.now course place (ready_term ready.now) turn loc.0) }
+{
+    match deal {
         Deal::Turns(next, output, cost) => {
             turns(
-                alloc, program, course, turn, place, &ready, loc, next, output, cost,
+                alloc, program, course, turn, place, ready, loc, next, output, cost,
             )
         }
         Deal::Enters(_, next) => {
             let output = List::new(alloc);
             turns(
-                alloc, program, course, turn, place, &ready, loc, next, output, 1,
+                alloc, program, course, turn, place, ready, loc, next, output, 1,
             )
         }
+        other => touches(alloc, program, course, turn, place, ready, loc, other),
+    }
+}
+
+// It looks at the store, or ends its machine.
+fn touches(
+    alloc: Global,
+    program: &Program,
+    course: Course,
+    turn: Turn,
+    place: Place,
+    ready: &Ready,
+    loc: Loc,
+    deal: Deal,
+) -> Result<Acted, Memory>
+    requires thread { IsThreadAt program.now course place (ready_term ready.now) }
+    requires turn { IsTurn turn }
+    requires dealt { IsDealt program.now (ready_term ready.now) deal }
+    requires store { TouchesStore deal }
+    ensures { IfOk result (StepsOn program.now course place (ready_term ready.now) turn loc.0) }
+{
+    match deal {
         Deal::Asks(from, goes) => {
-            asks(alloc, program, course, turn, place, &ready, loc, from, goes)
+            asks(alloc, program, course, turn, place, ready, loc, from, goes)
         }
-        Deal::Sets(to, value) => {
-            sets(alloc, program, course, turn, place, &ready, loc, to, value)
-        }
-        Deal::Makes(makes) => {
-            makes_some(alloc, program, course, turn, place, &ready, loc, makes)
-        }
-        Deal::Ends => aborts(alloc, program, course, turn, place, &ready, loc),
+        Deal::Sets(to, value) => sets(alloc, program, course, turn, place, ready, loc, to, value),
+        Deal::Makes(makes) => makes_some(alloc, program, course, turn, place, ready, loc, makes),
+        Deal::Ends => aborts(alloc, program, course, turn, place, ready, loc),
+        _ => unreachable!(),
     }
 }
 
 // It goes on as a term, with a text that it prints, at a cost.
-#[tactic(auto, using(crate::proofs::Stepping::wrong_place, crate::proofs::Stepping::turn_last, crate::proofs::Stepping::turn_passes, crate::proofs::Stepping::may_turn, crate::proofs::Stepping::went_on))]
 fn turns(
     alloc: Global,
     program: &Program,
@@ -86,7 +156,7 @@ fn turns(
     ensures { IfOk result (StepsOn program.now course place (ready_term ready.now) turn loc.0) }
 {
     let _ready = ready;
-    if loc.0 != 0 {
+    if names_one(loc) {
         return Ok(Acted::Illegal);
     }
     if turn.is_end {
@@ -102,6 +172,13 @@ fn turns(
     Ok(Acted::Goes(Going { course, state }))
 }
 
+// Whether a pick names a location.
+fn names_one(loc: Loc) -> bool
+    ensures { IsTrue result ↔ (loc.0 ≢ 0) }
+{
+    loc.0 != 0
+}
+
 // What all costs with this.
 fn with(course: &Course, cost: u64) -> Result<u64, Memory>
     ensures { IfOk result (λ all. all ≡ course.now.spent + cost) }
@@ -112,7 +189,6 @@ fn with(course: &Course, cost: u64) -> Result<u64, Memory>
     }
 }
 
-#[tactic(auto, using(crate::proofs::Stepping::asks_gone, crate::proofs::Stepping::asks_wrong, crate::proofs::Stepping::asks_last, crate::proofs::Stepping::asks_passes, crate::proofs::Stepping::may_ask, crate::proofs::Stepping::went_on))]
 fn asks(
     alloc: Global,
     program: &Program,
@@ -133,7 +209,7 @@ fn asks(
         None => return Ok(Acted::Illegal),
         Some(value) => value.share()?,
     };
-    if loc.0 != 0 {
+    if names_one(loc) {
         return Ok(Acted::Illegal);
     }
     if turn.is_end {
@@ -150,7 +226,6 @@ fn asks(
     Ok(Acted::Goes(Going { course, state }))
 }
 
-#[tactic(auto, using(crate::proofs::Stepping::sets_gone, crate::proofs::Stepping::sets_wrong, crate::proofs::Stepping::sets_last, crate::proofs::Stepping::sets_passes, crate::proofs::Stepping::may_set, crate::proofs::Stepping::went_on))]
 fn sets(
     alloc: Global,
     program: &Program,
@@ -167,7 +242,10 @@ fn sets(
     ensures { IfOk result (StepsOn program.now course place (ready_term ready.now) turn loc.0) }
 {
     let _ready = ready;
-    if loc.0 != 0 || course.look(to).is_none() {
+    if names_one(loc) {
+        return Ok(Acted::Illegal);
+    }
+    if course.look(to).is_none() {
         return Ok(Acted::Illegal);
     }
     if turn.is_end {
@@ -184,7 +262,6 @@ fn sets(
     Ok(Acted::Goes(Going { course, state }))
 }
 
-#[tactic(auto, using(crate::proofs::Stepping::makes_wrong, crate::proofs::Stepping::makes_last, crate::proofs::Stepping::makes_passes, crate::proofs::Stepping::may_make, crate::proofs::Stepping::free_all, crate::proofs::Stepping::went_on))]
 fn makes_some(
     alloc: Global,
     program: &Program,
@@ -224,20 +301,24 @@ fn are_free(course: &Course, loc: Loc, count: u64) -> bool
     ensures { IsTrue result ↔ ((loc.0 + count ≤ 2 ^ 64) × AreFree loc.0 count (seen (levels_of course.now.layers))) }
 {
     for at in 0..count {
-        match loc.0.checked_add(at) {
-            None => return false,
-            Some(here) => {
-                if course.look(Loc(here)).is_some() {
-                    return false;
-                }
-            }
+        if !is_free(course, loc, at) {
+            return false;
         }
     }
     true
 }
 
+// Whether the location so far behind one is below 2 to the 64, and isn't there.
+fn is_free(course: &Course, loc: Loc, at: u64) -> bool
+    ensures { IsTrue result ↔ ((loc.0 + «at» < 2 ^ 64) × (seen (levels_of course.now.layers) (loc.0 + «at») ≡ None)) }
+{
+    match loc.0.checked_add(at) {
+        None => false,
+        Some(here) => course.look(Loc(here)).is_none(),
+    }
+}
+
 // A step of `abort()`: it ends an attempt's machine, and is a throw in the root's.
-#[tactic(auto, using(crate::proofs::Stepping::abort_unthrown, crate::proofs::Stepping::throws_only))]
 fn aborts(
     alloc: Global,
     program: &Program,
@@ -267,7 +348,6 @@ fn aborts(
     }
 }
 
-#[tactic(auto, using(crate::proofs::Stepping::abort_wrong, crate::proofs::Stepping::abort_last, crate::proofs::Stepping::abort_passes, crate::proofs::Stepping::stops_here, crate::proofs::Stepping::abort_unclosed, crate::proofs::Stepping::abort_leaves))]
 fn abort_attempt(
     alloc: Global,
     program: &Program,
@@ -283,7 +363,10 @@ fn abort_attempt(
     ensures { IfOk result (StepsOn program.now course place (ready_term ready.now) turn loc.0) }
 {
     let _ready = ready;
-    if loc.0 != 0 || !turn.is_last {
+    if names_one(loc) {
+        return Ok(Acted::Illegal);
+    }
+    if !turn.is_last {
         return Ok(Acted::Illegal);
     }
     if turn.is_end {
