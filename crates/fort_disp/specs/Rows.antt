@@ -7,6 +7,7 @@ use Rattle.fort_core.specs.declared.program.CoreSet.{CoreSet}
 use Rattle.fort_core.specs.declared.program.Program.{Program}
 use Rattle.fort_machine.specs.Types.{below}
 use Rattle.fort_machine.specs.Calls.{IsMoreSpecific}
+use Rattle.fort_disp.specs.declared.rows.Tables.{Tables}
 
 -- A type below one that is below a third is below the third. The rows of each accepted program say so.
 abbrev pub GoesThrough : Program → Type 0
@@ -33,3 +34,8 @@ AreRows p [] [] = Unit {0}
 AreRows p [] (row ∷ rows) = ⊥
 AreRows p (set ∷ sets) [] = ⊥
 AreRows p (set ∷ sets) (row ∷ rows) = IsRow p set.decls row × AreRows p sets rows
+
+-- What is asked of tables before a declaration is picked by them: they are those of their program, and below goes through a third type in it.
+pub record MayPick (t : Tables) : Type 0 where
+  pub rows : AreRows t.program.now t.program.now.sets t.rows
+  pub through : GoesThrough t.program.now

@@ -6,8 +6,10 @@ mod finding;
 mod ordering;
 mod rows;
 mod steps;
+mod uncounted;
 
 pub use finding::{found, pick};
 pub use ordering::tables;
 pub use rows::Tables;
 pub use steps::Steps;
+pub use uncounted::running;

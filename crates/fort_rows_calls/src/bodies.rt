@@ -1,8 +1,11 @@
 //! What a call of values does.
-ghost use Rattle.std.specs.Prelude.{◌≡◌, IfOk};
+ghost use Rattle.std.specs.Prelude.{◌≡◌, Some, IfOk};
+ghost use Rattle.fort_base.specs.declared.ids.DeclId.{DeclId};
+ghost use Rattle.fort_core.specs.declared.program.CoreDecl.{CoreDecl};
 ghost use Rattle.fort_deal.specs.Deals.{act_of};
 ghost use Rattle.fort_machine.specs.Acts.{enters};
-ghost use Rattle.fort_machine.specs.Calls.{by_body, by_number};
+ghost use Rattle.fort_disp.specs.Rows.{MayPick};
+ghost use Rattle.fort_machine.specs.Calls.{Dispatches, by_body, by_number};
 ghost use Rattle.fort_machine.specs.Substitution.{substituted_all as with_values};
 ghost use Rattle.fort_rows_calls.specs.Called.{IsCalled};
 
@@ -11,6 +14,7 @@ use crate::objects::constructed;
 use fort_base::{List, Memory, SetId, Shared};
 use fort_core::{CoreBody, Program, Term, Value};
 use fort_deal::Deal;
+use fort_disp::{Tables, running};
 use fort_dispatch::dispatched;
 use fort_subst::put_all;
 use std::alloc::Global;
@@ -35,6 +39,25 @@ pub fn called(
     };
     let deal = by_its_body(alloc, program, &decl.body, values)?;
     Ok(Some(deal))
+}
+
+/// The same of a call that runs a declaration, which is found by the program's tables.
+///
+/// # Errors
+///
+/// `Memory` where memory is wanting.
+pub fn called_by(
+    alloc: Global,
+    tables: &Tables,
+    set: SetId,
+    values: &List<Value>,
+) -> Result<Deal, Memory>
+    requires tables { MayPick tables.now }
+    requires runs { (number : DeclId) × (decl : CoreDecl) × Dispatches tables.now.program.now set values.now number decl }
+    ensures { IfOk result (λ deal. IsCalled tables.now.program.now set values.now (Some deal)) }
+{
+    let decl = running(tables, set, values);
+    by_its_body(alloc, tables.program, &decl.body, values)
 }
 
 // What a declaration does that values are passed to.

@@ -7,5 +7,5 @@ mod bodies;
 mod clauses;
 mod objects;
 
-pub use bodies::called;
+pub use bodies::{called, called_by};
 pub use clauses::{try_throw_row, try_value_row, typecase_row};
