@@ -84,7 +84,7 @@ fn plain(
 pub fn call_of(alloc: Global, known: &Known, set: SetId, types: &List<Ty>) -> Result<Called, Memory>
     ensures { IfOk result (λ answer. answer ≡ called (facts known.now) set types.now) }
 {
-    match known.members.sets.get(set.0 as usize) {
+    match known.index.members.sets.get(set.0 as usize) {
         Some(found) => plain(alloc, known, found.members.as_slice(), types),
         None => Ok(Called::Refused(NOT_APPLICABLE)),
     }

@@ -6,7 +6,7 @@ ghost use Rattle.fort_known.specs.Names.{bound, field_in, number_in, type_number
 ghost use Rattle.fort_known.specs.Read.{facts};
 
 use crate::known::Known;
-use fort_base::{Bytes, NameId, TypeId};
+use fort_base::{NameId, TypeId};
 use fort_scope::{Binding, Scope};
 use fort_set::Field;
 
@@ -46,24 +46,20 @@ pub fn number_in(fields: &[Field], name: NameId) -> usize
 }
 
 /// The number of the type that is spelled so; past the last one where there is none.
-pub fn type_number(types: &[Bytes], spelling: &[u8]) -> usize
-    ensures { result ≡ type_number types.now spelling.now }
+pub fn type_number(known: &Known, spelling: &[u8]) -> usize
+    ensures { result ≡ type_number (facts known.now).types spelling.now }
 {
-    let mut number = 0;
-    for name in types {
-        if name.as_slice() == spelling {
-            return number;
-        }
-        number += 1;
+    match known.index.type_named(spelling) {
+        Some(number) => number,
+        None => known.index.types.len(),
     }
-    number
 }
 
 /// The field of a name that a declared type has.
 pub fn field_of<'a>(known: &Known<'a>, ty: TypeId, name: NameId) -> Option<&'a Field>
     ensures { option_copied result ≡ field_of (facts known.now) ty name }
 {
-    match known.members.fields.get(ty.0 as usize) {
+    match known.index.members.fields.get(ty.0 as usize) {
         Some(fields) => field_in(fields.as_slice(), name),
         None => None,
     }

@@ -3,6 +3,7 @@ ghost use Rattle.std.specs.Prelude.{◌≡◌, IfOk, get_or, []};
 ghost use Rattle.fort_known.specs.Sets.{width_of, has_name, is_set_of, any_set, first_set, spelled, set_of, is_method, is_function};
 ghost use Rattle.fort_known.specs.Read.{facts};
 
+use crate::index::Index;
 use crate::known::Known;
 use fort_base::{Memory, NameId, SetId};
 use fort_set::MemberSet;
@@ -42,19 +43,37 @@ fn is_set_of(name: &[u8], dotted: bool, width: usize, set: &MemberSet) -> bool
 }
 
 /// Whether some set has this name and is of this kind.
-fn any_named(sets: &[MemberSet], name: &[u8], dotted: bool) -> bool
-    ensures { result ≡ any_set (has_name name.now dotted) sets.now }
+fn any_named(index: &Index, name: &[u8], dotted: bool) -> bool
+    ensures { result ≡ any_set (has_name name.now dotted) index.now.members.now.sets }
 {
-    for set in sets {
-        if has_name(name, dotted, set) {
+    let sets = index.members.sets.as_slice();
+    let mut next = index.set_named(name);
+    while let Some(number) = next {
+        if has_name(name, dotted, &sets[number]) {
             return true;
         }
+        next = index.set_behind(number);
     }
     false
 }
 
 /// Where the first set of this name, this kind and this number of parameters stands; past the last one where there is none.
-fn first_set(sets: &[MemberSet], name: &[u8], dotted: bool, width: usize) -> usize
+fn first_set(index: &Index, name: &[u8], dotted: bool, width: usize) -> usize
+    ensures { result ≡ first_set (is_set_of name.now dotted width) index.now.members.now.sets }
+{
+    let sets = index.members.sets.as_slice();
+    let mut next = index.set_named(name);
+    while let Some(number) = next {
+        if is_set_of(name, dotted, width, &sets[number]) {
+            return number;
+        }
+        next = index.set_behind(number);
+    }
+    sets.len()
+}
+
+/// The same, by going along all sets.
+fn first_among(sets: &[MemberSet], name: &[u8], dotted: bool, width: usize) -> usize
     ensures { result ≡ first_set (is_set_of name.now dotted width) sets.now }
 {
     let mut number = 0;
@@ -67,18 +86,28 @@ fn first_set(sets: &[MemberSet], name: &[u8], dotted: bool, width: usize) -> usi
     number
 }
 
+/// A set's number, or `Memory` where it is past all numbers.
+fn numbered(number: usize) -> Result<SetId, Memory>
+    ensures { IfOk result (λ set. set ≡ record { 0 = number }) }
+{
+    if number > u32::MAX as usize {
+        return Err(Memory);
+    }
+    Ok(SetId(number as u32))
+}
+
 /// Whether some dotted method has the name.
 pub fn is_method(known: &Known, name: NameId) -> bool
     ensures { result ≡ is_method (facts known.now) name }
 {
-    any_named(known.members.sets.as_slice(), spelled(known, name), true)
+    any_named(known.index, spelled(known, name), true)
 }
 
 /// Whether some function has the name.
 pub fn is_function(known: &Known, name: NameId) -> bool
     ensures { result ≡ is_function (facts known.now) name }
 {
-    any_named(known.members.sets.as_slice(), spelled(known, name), false)
+    any_named(known.index, spelled(known, name), false)
 }
 
 /// The number of the set of a name, a kind and a number of parameters; that of no set where there is none. It answers `Memory` where
@@ -87,9 +116,18 @@ pub fn is_function(known: &Known, name: NameId) -> bool
 pub fn set_of(known: &Known, name: &[u8], dotted: bool, width: usize) -> Result<SetId, Memory>
     ensures { IfOk result (λ set. set ≡ set_of (facts known.now) name.now dotted width) }
 {
-    let number = first_set(known.members.sets.as_slice(), name, dotted, width);
-    if number > u32::MAX as usize {
-        return Err(Memory);
-    }
-    Ok(SetId(number as u32))
+    numbered(first_set(known.index, name, dotted, width))
+}
+
+/// The same among a component's sets alone, at the cost of going along all of them: for who asks
+/// but once.
+pub fn set_among(
+    sets: &[MemberSet],
+    name: &[u8],
+    dotted: bool,
+    width: usize,
+) -> Result<SetId, Memory>
+    ensures { IfOk result (λ set. set ≡ record { 0 = first_set (is_set_of name.now dotted width) sets.now }) }
+{
+    numbered(first_among(sets, name, dotted, width))
 }

@@ -5,10 +5,11 @@ ghost use Rattle.fort_known.specs.Names.{is_object, single, standing, standing_s
 ghost use Rattle.fort_known.specs.Sets.{any_set};
 ghost use Rattle.fort_known.specs.Read.{facts, standing_of};
 
+use crate::index::Index;
 use crate::known::Known;
 use crate::names::{binding, field_in, field_of, number_in, own_field, type_number};
 use crate::sets::{has_name, is_function, spelled};
-use fort_base::{Bytes, Memory, NameId, TypeId};
+use fort_base::{Memory, NameId, TypeId};
 use fort_scope::{Binding, Scope};
 use fort_set::{Field, Member, MemberSet};
 
@@ -33,7 +34,7 @@ pub enum Standing<'a> {
 fn is_object(known: &Known, number: usize) -> bool
     ensures { result ≡ is_object (facts known.now) number }
 {
-    match known.members.objects.get(number) {
+    match known.index.members.objects.get(number) {
         Some(object) => *object && !(2 <= number && number <= 6),
         None => false,
     }
@@ -46,7 +47,7 @@ fn but_for_variables<'a>(known: &Known<'a>, name: NameId) -> Result<Standing<'a>
     if is_function(known, name) {
         return Ok(Standing::Functions);
     }
-    let number = type_number(known.types, spelled(known, name));
+    let number = type_number(known, spelled(known, name));
     if !is_object(known, number) {
         return Ok(Standing::Nothing);
     }
@@ -60,7 +61,7 @@ fn but_for_variables<'a>(known: &Known<'a>, name: NameId) -> Result<Standing<'a>
 fn at_the_top<'a>(known: &Known<'a>, name: NameId) -> Result<Standing<'a>, Memory>
     ensures { IfOk result (λ it. standing_of it ≡ standing_top (facts known.now) name (variable (facts known.now) name)) }
 {
-    let variables = known.members.variables.as_slice();
+    let variables = known.index.members.variables.as_slice();
     if let Some(found) = field_in(variables, name) {
         return Ok(Standing::Variable(number_in(variables, name), found));
     }
@@ -89,15 +90,10 @@ pub fn stands_for<'a>(
 
 /// Whether some type is spelled so.
 #[tactic(auto, unfolding(crate::specs::Spellings::any_spelling))]
-fn is_type(types: &[Bytes], spelling: &[u8]) -> bool
-    ensures { result ≡ is_type types.now spelling.now }
+fn is_type(index: &Index, spelling: &[u8]) -> bool
+    ensures { result ≡ is_type index.now.types.now spelling.now }
 {
-    for name in types {
-        if name.as_slice() == spelling {
-            return true;
-        }
-    }
-    b"Any".as_slice() == spelling
+    index.type_named(spelling).is_some() || b"Any".as_slice() == spelling
 }
 
 /// Whether the component declares one of the declarations.
@@ -121,13 +117,16 @@ fn shows(spelling: &[u8], set: &MemberSet) -> bool
 }
 
 /// Whether some set of functions of this name can be seen.
-fn any_shown(sets: &[MemberSet], spelling: &[u8]) -> bool
-    ensures { result ≡ any_set (shows spelling.now) sets.now }
+fn any_shown(index: &Index, spelling: &[u8]) -> bool
+    ensures { result ≡ any_set (shows spelling.now) index.now.members.now.sets }
 {
-    for set in sets {
-        if shows(spelling, set) {
+    let sets = index.members.sets.as_slice();
+    let mut next = index.set_named(spelling);
+    while let Some(number) = next {
+        if shows(spelling, &sets[number]) {
             return true;
         }
+        next = index.set_behind(number);
     }
     false
 }
@@ -143,9 +142,9 @@ pub fn is_visible(known: &Known, scope: &Scope, name: NameId) -> bool
     if own_field(known, name).is_some() {
         return true;
     }
-    if field_in(known.members.variables.as_slice(), name).is_some() {
+    if field_in(known.index.members.variables.as_slice(), name).is_some() {
         return true;
     }
     let spelling = spelled(known, name);
-    is_type(known.types, spelling) || any_shown(known.members.sets.as_slice(), spelling)
+    is_type(known.index, spelling) || any_shown(known.index, spelling)
 }

@@ -1,7 +1,11 @@
-use Rattle.std.proofs.Common.{◌≡◌, ◌+◌, drop}
-use Rattle.fort_known.specs.Sets.{first_set, is_set_of}
+use Rattle.std.proofs.Common.{◌≡◌}
+use Rattle.fort_known.specs.Sets.{first_set}
+use Rattle.fort_known.specs.Sets.{is_set_of}
+use Rattle.fort_known.proofs.Searched.{IsPlace, first_from, left_from}
 use Rattle.fort_known.proofs.sets.first_set.Given as goal
 
-abbrev pub invariant-loop-set : goal.invariant-loop-set
-invariant-loop-set l = (l.number ≡ l.set-index)
-    × (first_set (is_set_of l.name l.dotted l.width) l.sets ≡ l.number + first_set (is_set_of l.name l.dotted l.width) (drop l.set-index l.sets))
+abbrev pub invariant-loop-next : goal.invariant-loop-next
+invariant-loop-next l = (first_set (is_set_of l.name l.dotted l.width) l.sets ≡ first_from (is_set_of l.name l.dotted l.width) l.sets l.next) × IsPlace l.name l.sets 0 l.next
+
+abbrev pub decreases-loop-next : goal.decreases-loop-next
+decreases-loop-next l = left_from l.sets l.next
