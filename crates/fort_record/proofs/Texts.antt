@@ -1,5 +1,5 @@
 -- The texts of picks by their layers, and of what is left to be written.
-use Rattle.std.proofs.Common.{◌≡◌, ℕ, ◌+◌, ◌*◌, ◌<◌, List, [], ◌∷◌, ◌++◌, length, codes, decimal, refl, ap, sym, ◌∙◌, append_assoc, append-nil, suc-ne-zero, Bor, arith, length-append}
+use Rattle.std.proofs.Common.{◌≡◌, ℕ, ◌+◌, ◌*◌, ◌^◌, ◌<◌, List, [], ◌∷◌, ◌++◌, length, codes, decimal, refl, ap, sym, ◌∙◌, append_assoc, append-nil, suc-ne-zero, Bor, arith, length-append}
 use Rattle.fort_base.specs.declared.ids.Loc.{Loc}
 use Rattle.fort_core.specs.declared.path.Path.{Path}
 use Rattle.fort_core.specs.declared.pick.Pick.{Pick, Step, Attempt, fold-roll-Pick}
@@ -7,7 +7,7 @@ use Rattle.fort_core.specs.declared.pick.Pick.TheOpen.{Pick-F}
 use Rattle.fort_core.specs.declared.pick.Pick.TheVariants.{rolls-Attempt, rolls-Step}
 use Rattle.fort_core.specs.Nodes.{all_nodes}
 use Rattle.fort_core.proofs.Falls.{nodes-Attempt, nodes-Step}
-use Rattle.fort_record.specs.Text.{further, path_text, pick_layer, pick_text, picks_text}
+use Rattle.fort_record.specs.Text.{further, path_text, pick_layer, pick_text, picks_text, FitPath, FitPick, FitPicks}
 
 pub step_text : (path : Path) (loc : Loc) → pick_text (Step path loc) ≡ codes "s " ++ (path_text path.0 ++ (32 ∷ (decimal loc.0 ++ 10 ∷ [])))
 step_text path loc = ap pick_text (sym (rolls-Step path loc)) ∙ fold-roll-Pick (List ℕ) pick_layer (Pick-F.Step path loc)
@@ -88,6 +88,49 @@ module _ (all : List ℕ) where
   pub after_end : (old new : List ℕ) (more : Bor (List Pick)) (ws : List (Bor (List Pick))) → old ++ left_text [] (ws ++ more ∷ []) ≡ all → new ≡ old ++ (122 ∷ 10 ∷ []) → new ++ left_text more.now ws ≡ all
   after_end old new more ws h e =
       ap (λ x. x ++ left_text more.now ws) e ∙ append_assoc old (122 ∷ 10 ∷ []) (left_text more.now ws) ∙ ap (λ x. old ++ x) (sym (closing_last ws more)) ∙ h
+
+-- ---- what is left is within its bounds
+
+abbrev pub FitWaits : List (Bor (List Pick)) → Type 0
+FitWaits [] = Unit {0}
+FitWaits (w ∷ ws) = FitPicks w.now × FitWaits ws
+
+abbrev pub FitLeft : List Pick → List (Bor (List Pick)) → Type 0
+FitLeft rest ws = FitPicks rest × FitWaits ws
+
+pub fit_last : (ws : List (Bor (List Pick))) (w : Bor (List Pick)) → FitWaits (ws ++ w ∷ []) → FitWaits ws × FitPicks w.now
+fit_last [] w h = (tt, h.0)
+fit_last (v ∷ vs) w h = let i = fit_last vs w h.1 in ((h.0, i.0), i.1)
+
+pub with_last : (ws : List (Bor (List Pick))) (w : Bor (List Pick)) → FitWaits ws → FitPicks w.now → FitWaits (ws ++ w ∷ [])
+with_last [] w h f = (f, tt)
+with_last (v ∷ vs) w h f = (h.0, with_last vs w h.1 f)
+
+pub step_fits : (path : Path) (loc : Loc) (more : List Pick) (ws : List (Bor (List Pick))) → FitPath path.0 → loc.0 < 2 ^ 64 → FitLeft more ws → FitLeft (Step path loc ∷ more) ws
+step_fits path loc more ws f l h = (FitPicks.fit_more (FitPick.fit_step path loc refl f l) h.0, h.1)
+
+pub head_fits : (path : Path) (inner : List Pick) (more : Bor (List Pick)) (ws : List (Bor (List Pick))) → FitPath path.0 → FitLeft inner (ws ++ more ∷ []) → FitLeft (Attempt path inner ∷ more.now) ws
+head_fits path inner more ws f h = let i = fit_last ws more h.1 in (FitPicks.fit_more (FitPick.fit_attempt path inner refl f h.0) i.1, i.0)
+
+pub end_fits : (more : Bor (List Pick)) (ws : List (Bor (List Pick))) → FitLeft more.now ws → FitLeft [] (ws ++ more ∷ [])
+end_fits more ws h = (FitPicks.fit_none, with_last ws more h.1 h.0)
+
+pub fits_step : (path : Path) (loc : Loc) → FitPath path.0 → loc.0 < 2 ^ 64 → FitPick (Step path loc)
+fits_step path loc f l = FitPick.fit_step path loc refl f l
+
+pub fits_attempt : (path : Path) (inner : List Pick) → FitPath path.0 → FitPicks inner → FitPick (Attempt path inner)
+fits_attempt path inner f i = FitPick.fit_attempt path inner refl f i
+
+pub attempt_written : (path : Path) (inner : List Pick) (old head picks new : List ℕ) → head ≡ old ++ (codes "a " ++ (path_text path.0 ++ 10 ∷ [])) → picks ≡ head ++ picks_text inner → new ≡ picks ++ (122 ∷ 10 ∷ [])
+    → new ≡ old ++ pick_text (Attempt path inner)
+attempt_written path inner old head picks new e f g =
+    g ∙ ap (λ x. x ++ (122 ∷ 10 ∷ [])) (f ∙ ap (λ x. x ++ picks_text inner) e)
+    ∙ append_assoc (old ++ head_text path.0) (picks_text inner) (122 ∷ 10 ∷ [])
+    ∙ append_assoc old (head_text path.0) (picks_text inner ++ (122 ∷ 10 ∷ []))
+    ∙ ap (λ x. old ++ x) (sym (attempt_parts path inner))
+
+pub all_fit : (rest : List Pick) (ws : List (Bor (List Pick))) → rest ≡ [] → ws ≡ [] → FitLeft rest ws
+all_fit rest ws e f = rw (e, f) (FitPicks.fit_none, tt)
 
 -- what falls
 pub step_falls : (path : Path) (loc : Loc) (more : List Pick) (ws : List (Bor (List Pick))) → left_work more ws < left_work (Step path loc ∷ more) ws

@@ -93,6 +93,13 @@ FitEnding Completed = Unit {0}
 FitEnding (Uncaught v) = IsThrown v
 FitEnding (OutOfFuel p) = FitPick p
 
+-- An ending has a text: a run has one, and where it is uncaught, what was thrown is an object.
+abbrev pub HasText : Ending → Type 0
+HasText NotRun = ⊥
+HasText Completed = Unit {0}
+HasText (Uncaught v) = (id : TypeId) × (loc : Loc) × (v ≡ Object id loc)
+HasText (OutOfFuel p) = Unit {0}
+
 -- A journal and an output have a text.
 pub record IsRecord (j : Journal) (output : List ℕ) : Type 0 where
   pub fuel : j.fuel < 2 ^ 64

@@ -1,7 +1,10 @@
 //! Records are written.
-ghost use Rattle.std.specs.Prelude.{◌≡◌, [], ◌∷◌, ◌++◌, codes, decimal, IfOk, OnOk};
+ghost use Rattle.std.specs.Prelude.{◌≡◌, ◌<◌, ◌^◌, [], ◌∷◌, ◌++◌, codes, decimal, IfOk, OnOk};
+ghost use Rattle.fort_base.specs.declared.ids.Loc.{Loc as LocOf};
+ghost use Rattle.fort_base.specs.declared.ids.TypeId.{TypeId};
 ghost use Rattle.fort_record.specs.Text.{ending_text, further, path_text, pick_text, picks_text, record_text, thrown_text};
-ghost use Rattle.fort_core.specs.declared.value.Value.{out-Value};
+ghost use Rattle.fort_record.specs.Text.{FitEnding, FitPath, FitPick, FitPicks, HasText, IsRecordText, IsThrown};
+ghost use Rattle.fort_core.specs.declared.value.Value.{Object, out-Value};
 
 use fort_base::{Bytes, List, Memory};
 use fort_core::{Ending, Journal, Path, Pick, Value};
@@ -9,14 +12,15 @@ use itoa::Buffer;
 use std::alloc::Global;
 
 /// The text of a journal and an output, in bytes. It is that of a record where the journal has an
-/// ending, and one that is uncaught has an object that was thrown, as those of runs have. The
-/// chapter "The text of a record".
+/// ending, and one that is uncaught has an object that was thrown, as those of runs have; so it is
+/// read back as this journal and this output. The chapter "The text of a record".
 ///
 /// # Errors
 ///
 /// `Memory` where memory is wanting.
 pub fn record_of(alloc: Global, journal: &Journal, output: &Bytes) -> Result<Bytes, Memory>
-    ensures { IfOk result (λ text. text ≡ record_text journal.now output.now) }
+    ensures is_text { IfOk result (λ text. text ≡ record_text journal.now output.now) }
+    ensures is_record { IfOk result (λ text. HasText journal.now.ending → IsRecordText text journal.now output.now) }
 {
     let mut out = List::new(alloc);
     out.push_slice(b"fortress record 1\nfuel ")?;
@@ -32,7 +36,8 @@ pub fn record_of(alloc: Global, journal: &Journal, output: &Bytes) -> Result<Byt
 }
 
 fn write_ending(alloc: Global, ending: &Ending, out: &mut Bytes) -> Result<(), Memory>
-    ensures { OnOk result (out.new ≡ out.old ++ ending_text ending.now) }
+    ensures text { OnOk result (out.new ≡ out.old ++ ending_text ending.now) }
+    ensures fits { OnOk result (HasText ending.now → FitEnding ending.now) }
 {
     match ending {
         Ending::NotRun => Ok(()),
@@ -46,7 +51,8 @@ fn write_ending(alloc: Global, ending: &Ending, out: &mut Bytes) -> Result<(), M
 }
 
 fn write_thrown(value: &Value, out: &mut Bytes) -> Result<(), Memory>
-    ensures { OnOk result (out.new ≡ out.old ++ thrown_text (out-Value value.now)) }
+    ensures text { OnOk result (out.new ≡ out.old ++ thrown_text (out-Value value.now)) }
+    ensures fits { OnOk result ((id : TypeId) → (loc : LocOf) → value.now ≡ Object id loc → IsThrown value.now) }
 {
     match value {
         Value::Object(id, loc) => {
@@ -60,8 +66,10 @@ fn write_thrown(value: &Value, out: &mut Bytes) -> Result<(), Memory>
     }
 }
 
+#[tactic(auto, using(crate::proofs::Texts::fits_step, crate::proofs::Texts::fits_attempt, crate::proofs::Texts::attempt_written))]
 fn write_pick(alloc: Global, pick: &Pick, out: &mut Bytes) -> Result<(), Memory>
-    ensures { OnOk result (out.new ≡ out.old ++ pick_text pick.now) }
+    ensures text { OnOk result (out.new ≡ out.old ++ pick_text pick.now) }
+    ensures fits { OnOk result (FitPick pick.now) }
 {
     match pick {
         Pick::Step(path, loc) => write_step(path, loc.0, out),
@@ -75,7 +83,8 @@ fn write_pick(alloc: Global, pick: &Pick, out: &mut Bytes) -> Result<(), Memory>
 
 // Picks with those inside them, by a loop with a stack of its own.
 fn write_picks(alloc: Global, picks: &[Pick], out: &mut Bytes) -> Result<(), Memory>
-    ensures { OnOk result (out.new ≡ out.old ++ picks_text picks.now) }
+    ensures text { OnOk result (out.new ≡ out.old ++ picks_text picks.now) }
+    ensures fits { OnOk result (FitPicks picks.now) }
 {
     let mut waiting: List<&[Pick]> = List::new(alloc);
     let mut rest = picks;
@@ -104,7 +113,9 @@ fn write_picks(alloc: Global, picks: &[Pick], out: &mut Bytes) -> Result<(), Mem
 }
 
 fn write_step(path: &Path, loc: u64, out: &mut Bytes) -> Result<(), Memory>
-    ensures { OnOk result (out.new ≡ out.old ++ (codes "s " ++ (path_text path.now.0 ++ (32 ∷ (decimal loc ++ 10 ∷ []))))) }
+    ensures text { OnOk result (out.new ≡ out.old ++ (codes "s " ++ (path_text path.now.0 ++ (32 ∷ (decimal loc ++ 10 ∷ []))))) }
+    ensures path { OnOk result (FitPath path.now.0) }
+    ensures location { loc < 2 ^ 64 }
 {
     out.push_slice(b"s ")?;
     write_path(path, out)?;
@@ -115,7 +126,8 @@ fn write_step(path: &Path, loc: u64, out: &mut Bytes) -> Result<(), Memory>
 
 // The line with which an attempt begins.
 fn write_head(path: &Path, out: &mut Bytes) -> Result<(), Memory>
-    ensures { OnOk result (out.new ≡ out.old ++ (codes "a " ++ (path_text path.now.0 ++ 10 ∷ []))) }
+    ensures text { OnOk result (out.new ≡ out.old ++ (codes "a " ++ (path_text path.now.0 ++ 10 ∷ []))) }
+    ensures path { OnOk result (FitPath path.now.0) }
 {
     out.push_slice(b"a ")?;
     write_path(path, out)?;
@@ -123,7 +135,8 @@ fn write_head(path: &Path, out: &mut Bytes) -> Result<(), Memory>
 }
 
 fn write_path(path: &Path, out: &mut Bytes) -> Result<(), Memory>
-    ensures { OnOk result (out.new ≡ out.old ++ path_text path.now.0) }
+    ensures text { OnOk result (out.new ≡ out.old ++ path_text path.now.0) }
+    ensures fits { OnOk result (FitPath path.now.0) }
 {
     match path.0.as_slice().split_first() {
         None => out.push(b'-'),
@@ -135,7 +148,8 @@ fn write_path(path: &Path, out: &mut Bytes) -> Result<(), Memory>
 }
 
 fn write_further(numbers: &[u32], out: &mut Bytes) -> Result<(), Memory>
-    ensures { OnOk result (out.new ≡ out.old ++ further numbers.now) }
+    ensures text { OnOk result (out.new ≡ out.old ++ further numbers.now) }
+    ensures fits { OnOk result (FitPath numbers.now) }
 {
     let mut rest = numbers;
     'numbers: while let Some((number, more)) = rest.split_first() {
