@@ -57,7 +57,7 @@ frames_of clock f = frame_of f ∷ []
 -- The frames of a stack, innermost first.
 abbrev pub layer : Stack-F (List Frame) → List Frame
 layer Stack-F.Empty = []
-layer (Stack-F.Over f fs) = f ∷ fs
+layer (Stack-F.Over both) = both.0 ∷ both.1
 
 abbrev pub frames : Stack → List Frame
 frames = fold-Stack (List Frame) layer

@@ -64,12 +64,12 @@ impl Place {
         }
     }
 
-    /// The same place: the innermost frame and the path are made anew, the other frames have one owner more.
+    /// The same place: the path is made anew, the frames have one owner more.
     pub fn share(&self, alloc: Global) -> Result<Place, Memory>
         ensures { IfOk result (λ place. place ≡ self.now) }
     {
         Ok(Place {
-            stack: self.stack.share(alloc)?,
+            stack: self.stack.share()?,
             path: self.path.copy(alloc)?,
         })
     }

@@ -6,10 +6,11 @@ use crate::frame::Frame;
 use fort_base::{Memory, Shared};
 use std::alloc::Global;
 
-/// Frames, innermost first. A copy shares all but the innermost one.
+/// Frames, innermost first. A copy shares all of them.
 pub enum Stack {
     Empty,
-    Over(Frame, Shared<Stack>),
+    /// The innermost frame, and the others.
+    Over(Shared<(Frame, Stack)>),
 }
 
 // By a loop along what no other stack has, so that a deep stack takes no memory to let go.
@@ -18,9 +19,9 @@ impl Drop for Stack {
         loop {
             match self {
                 Stack::Empty => return,
-                Stack::Over(_, below) => match below.last() {
+                Stack::Over(both) => match both.last() {
                     None => return,
-                    Some(below) => self = below,
+                    Some((_frame, below)) => self = below,
                 },
             }
         }
@@ -32,39 +33,39 @@ impl Stack {
     pub fn push(self, alloc: Global, frame: Frame) -> Result<Stack, Memory>
         ensures { IfOk result (λ stack. frames stack ≡ frame ∷ frames self) }
     {
-        Ok(Stack::Over(frame, Shared::new(alloc, self)?))
+        Ok(Stack::Over(Shared::new(alloc, (frame, self))?))
     }
 
-    /// The innermost frame and the others, or `None` where there is none. Where the others belong to another stack too, the
-    /// next frame is made anew; else it takes no memory.
+    /// The innermost frame and the others, or `None` where there is none. Where the frame belongs to
+    /// another stack too, it is made anew; else this takes no memory.
     pub fn pop(self, alloc: Global) -> Result<Option<(Frame, Stack)>, Memory>
         ensures { IfOk result (λ popped. MatchOption popped (frames self ≡ []) (λ pair. frames self ≡ pair.0 ∷ frames pair.1)) }
     {
         match self {
             Stack::Empty => Ok(None),
-            Stack::Over(frame, below) => match below.alone() {
-                Ok(below) => Ok(Some((frame, below))),
-                Err(below) => Ok(Some((frame, Stack::of(alloc, below)?))),
+            Stack::Over(both) => match both.alone() {
+                Ok(both) => Ok(Some(both)),
+                Err(both) => Ok(Some(copied(alloc, both)?)),
             },
         }
     }
 
-    // A stack by its shared tail.
-    fn of(alloc: Global, tail: Shared<Stack>) -> Result<Stack, Memory>
-        ensures { IfOk result (λ stack. stack ≡ tail) }
-    {
-        let copy = tail.get().share(alloc)?;
-        let _tail = tail.last();
-        Ok(copy)
-    }
-
-    /// The same stack: its innermost frame is made anew, the others have one owner more.
-    pub fn share(&self, alloc: Global) -> Result<Stack, Memory>
+    /// The same stack, with one owner more.
+    pub fn share(&self) -> Result<Stack, Memory>
         ensures { IfOk result (λ stack. stack ≡ self.now) }
     {
         match self {
             Stack::Empty => Ok(Stack::Empty),
-            Stack::Over(frame, below) => Ok(Stack::Over(frame.share(alloc)?, below.share()?)),
+            Stack::Over(both) => Ok(Stack::Over(both.share()?)),
         }
     }
+}
+
+// A frame made anew, and the others with one owner more.
+fn copied(alloc: Global, both: Shared<(Frame, Stack)>) -> Result<(Frame, Stack), Memory>
+    ensures { IfOk result (λ copy. copy ≡ both) }
+{
+    let (frame, below) = both.get();
+    let frame = frame.share(alloc)?;
+    Ok((frame, below.share()?))
 }

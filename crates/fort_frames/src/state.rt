@@ -52,7 +52,7 @@ impl State {
         }
     }
 
-    /// The same state: the innermost frame and the path are made anew, all else has one owner more.
+    /// The same state: the path is made anew, all else has one owner more.
     pub fn share(&self, alloc: Global) -> Result<State, Memory>
         ensures { IfOk result (λ state. state ≡ self.now) }
     {

@@ -71,7 +71,7 @@ fn is_root(place: &Place) -> bool
 {
     match &place.stack {
         Stack::Empty => true,
-        Stack::Over(_, _) => false,
+        Stack::Over(_) => false,
     }
 }
 

@@ -100,7 +100,7 @@ fn is_within(stack: &Stack, most: u32) -> bool {
     for _frame in 0..most {
         match at {
             Stack::Empty => return true,
-            Stack::Over(_, below) => at = below.get(),
+            Stack::Over(both) => at = &both.get().1,
         }
     }
     false
