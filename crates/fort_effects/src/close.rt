@@ -77,7 +77,7 @@ fn join_last(
     ensures { IfOk result (λ _. JoinsLast closing whole.old cells.old whole.new cells.new) }
 {
     match cells.pop() {
-        None => Err(Memory),
+        None => unreachable!(),
         Some((loc, cell)) => {
             let closed = cell.closed(closing);
             whole.join(Loc(loc), closed)?;
@@ -118,7 +118,7 @@ fn settle_last(
     ensures { IfOk result (λ _. SettlesLast closing store.old cells.old store.new cells.new) }
 {
     match cells.pop() {
-        None => Err(Memory),
+        None => unreachable!(),
         Some((loc, cell)) => {
             let closed = cell.closed(closing);
             settle(store, Loc(loc), closed)?;
@@ -148,7 +148,7 @@ impl Layers {
             mut below,
         } = self;
         let layer = match top {
-            None => return Err(Memory),
+            None => unreachable!(),
             Some(layer) => layer,
         };
         match below.pop() {

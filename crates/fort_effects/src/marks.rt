@@ -25,7 +25,7 @@ impl Layers {
         ensures kept { levels_of self.new ≡ levels_of self.old }
     {
         match &mut self.top {
-            None => Err(Memory),
+            None => unreachable!(),
             Some(top) => top.marks(alloc),
         }
     }

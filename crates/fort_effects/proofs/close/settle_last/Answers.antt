@@ -5,7 +5,7 @@ pub settle-requires : goal.settle-requires
 settle-requires c =
     suits_here c.args.closing c.args.store.now c.args.cells.now c.pop.new.self c.in-Some.loc c.in-Some.cell c.closed-closed.result c.in-Some.ensures.entries c.in-Some.ensures.updates.0 c.closed-closed.ensures c.requires.suits
 
-pub returns-in_ok-settle-in-Some : goal.returns-in_ok-settle-in-Some
-returns-in_ok-settle-in-Some c =
+pub returns : goal.returns
+returns c =
     settle_last c.args.closing c.args.store.now c.settle.new.store c.args.cells.now c.pop.new.self c.in-Some.loc c.in-Some.cell c.closed-closed.result c.in-Some.ensures.entries c.in-Some.ensures.updates.0 c.in_ok-settle-in-Some.ensures.ok
     c.closed-closed.ensures c.requires.suits
