@@ -1,3 +1,4 @@
 pub mod Opened
 pub mod Nodes
 pub mod Stack
+pub mod Weights

@@ -1,10 +1,11 @@
 //! The picks of a run, which may nest as deep as the fuel allows.
-ghost use Rattle.std.specs.Prelude.{◌≡◌, ◌<◌, [], length, IsPermutation, MatchOption};
+ghost use Rattle.std.specs.Prelude.{◌≡◌, ◌<◌, [], MatchOption};
 ghost use Rattle.fort_core.specs.Nodes.{work};
 ghost use Rattle.fort_core.specs.Opened.{opened_pick};
 
 use crate::node::PickNode;
 use crate::path::Path;
+use crate::release::last_to_front;
 use fort_base::{List, Loc};
 
 /// Which thread goes on, and how.
@@ -35,16 +36,6 @@ fn drop_all(first: List<Pick>) {
         left = rest;
     }
     left.destroy_empty();
-}
-
-fn last_to_front(picks: List<Pick>) -> List<Pick>
-    requires { 0 < length picks }
-    ensures { IsPermutation picks result }
-{
-    let mut items = picks.into_vec();
-    let last = items.len() - 1;
-    items.swap(0, last);
-    List::from_vec(items)
 }
 
 impl Pick {

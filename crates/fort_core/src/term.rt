@@ -1,6 +1,9 @@
 //! Terms.
+ghost use Rattle.std.specs.Prelude.{◌+◌};
+ghost use Rattle.fort_core.specs.Weights.{Sheds, waits, weight};
+
 use crate::form::{Mode, Order, Slot, Span};
-use crate::release::{drop_clauses, drop_marks, drop_part, drop_terms};
+use crate::release::{Left, Shed, Spent, drop_spent, many, one, spend, three, two};
 use crate::value::{Closure, Value};
 use fort_base::{List, Loc, NameId, SetId, Shared, Ty};
 
@@ -103,114 +106,106 @@ pub enum Term {
     Stepped(Shared<Term>),
 }
 
-// Along the rests of blocks by a loop, so that a long block takes no stack.
 impl Drop for Term {
     #[cycle(core)]
-    fn drop(mut self) {
-        loop {
-            match self {
-                Term::Then(first, rest) => {
-                    drop_part(first);
-                    match rest.last() {
-                        None => return,
-                        Some(rest) => self = rest,
-                    }
+    fn drop(self) {
+        let mut hand = self;
+        let mut waiting = None;
+        'turns: loop {
+            let Shed { left, spent } = hand.shed(waiting);
+            drop_spent(spent);
+            match left {
+                None => return,
+                Some(
+                    Left {
+                        hand: first,
+                        waiting: others,
+                    },
+                ) => {
+                    hand = first;
+                    waiting = others;
                 }
-                Term::Let(_, first, rest) => {
-                    drop_part(first);
-                    match rest.last() {
-                        None => return,
-                        Some(rest) => self = rest,
-                    }
-                }
-                Term::Mutable(_, _, first, rest) => {
-                    drop_part(first);
-                    match rest.last() {
-                        None => return,
-                        Some(rest) => self = rest,
-                    }
-                }
-                Term::Value(_) => return,
-                Term::Throw(thrown) => return drop_part(thrown),
-                Term::Variable(_) => return,
-                Term::Group(parts) => return drop_terms(parts),
-                Term::Fn(closure) => {
-                    let _closure = closure.last();
-                    return;
-                }
-                Term::Call(_, arguments) => return drop_terms(arguments),
-                Term::Operator(_, operands) => return drop_terms(operands),
-                Term::Apply(function, argument) => {
-                    drop_part(function);
-                    return drop_part(argument);
-                }
-                Term::Fill(_, size, value) => {
-                    drop_part(size);
-                    return drop_part(value);
-                }
-                Term::Read(_) => return,
-                Term::Write(_, value) => return drop_part(value),
-                Term::ReadField(object, _) => return drop_part(object),
-                Term::WriteField(object, _, value) => {
-                    drop_part(object);
-                    return drop_part(value);
-                }
-                Term::ReadElement(array, index) => {
-                    drop_part(array);
-                    return drop_part(index);
-                }
-                Term::WriteElement(array, index, value) => {
-                    drop_part(array);
-                    drop_part(index);
-                    return drop_part(value);
-                }
-                Term::Size(array) => return drop_part(array),
-                Term::If(test, yes, no) => {
-                    drop_part(test);
-                    drop_part(yes);
-                    return drop_part(no);
-                }
-                Term::While(test, body) => {
-                    drop_part(test);
-                    return drop_part(body);
-                }
-                Term::Typecase(_, subject, clauses, other) => {
-                    drop_clauses(clauses);
-                    drop_part(subject);
-                    return drop_part(other);
-                }
-                Term::For(_, _, _, source, body) => {
-                    drop_part(source);
-                    return drop_part(body);
-                }
-                Term::ForHalves(first, second) => {
-                    drop_part(first);
-                    return drop_part(second);
-                }
-                Term::Reduce(_, _, _, empty, _, source, body) => {
-                    drop_part(empty);
-                    drop_part(source);
-                    return drop_part(body);
-                }
-                Term::ReduceHalves(_, first, second) => {
-                    drop_part(first);
-                    return drop_part(second);
-                }
-                Term::Also(blocks) => return drop_terms(blocks),
-                Term::Try(body, _, clauses, last) => {
-                    drop_clauses(clauses);
-                    if let Some(last) = last {
-                        drop_part(last);
-                    }
-                    return drop_part(body);
-                }
-                Term::Atomic(_, body) => return drop_part(body),
-                Term::Asleep(marks, body) => {
-                    drop_marks(marks);
-                    return drop_part(body);
-                }
-                Term::Stepped(part) => return drop_part(part),
             }
+        }
+    }
+}
+
+impl Term {
+    // Takes one form apart. Clauses and marks go one in a turn.
+    fn shed(self, waiting: Option<Shared<Term>>) -> Shed
+        ensures { Sheds (weight self + waits waiting) (weight self) result }
+    {
+        match self {
+            Term::Value(value) => spend(Spent::Held(value), waiting),
+            Term::Throw(thrown) => one(thrown, waiting),
+            Term::Variable(_) => spend(Spent::Nothing, waiting),
+            Term::Group(parts) => many(parts, waiting),
+            Term::Fn(closure) => spend(Spent::Held(Value::Function(closure)), waiting),
+            Term::Call(_, arguments) => many(arguments, waiting),
+            Term::Operator(_, operands) => many(operands, waiting),
+            Term::Apply(function, argument) => two(function, argument, waiting),
+            Term::Fill(_, size, value) => two(size, value, waiting),
+            Term::Let(_, first, rest) => two(first, rest, waiting),
+            Term::Mutable(_, _, first, rest) => two(first, rest, waiting),
+            Term::Read(_) => spend(Spent::Nothing, waiting),
+            Term::Write(_, value) => one(value, waiting),
+            Term::ReadField(object, _) => one(object, waiting),
+            Term::WriteField(object, _, value) => two(object, value, waiting),
+            Term::ReadElement(array, index) => two(array, index, waiting),
+            Term::WriteElement(array, index, value) => three(array, index, value, waiting),
+            Term::Size(array) => one(array, waiting),
+            Term::Then(first, rest) => two(first, rest, waiting),
+            Term::If(test, yes, no) => three(test, yes, no, waiting),
+            Term::While(test, body) => two(test, body, waiting),
+            Term::Typecase(variable, subject, mut clauses, other) => match clauses.pop() {
+                None => {
+                    clauses.destroy_empty();
+                    two(subject, other, waiting)
+                }
+                Some((clause, _ty)) => Shed {
+                    left: Some(Left {
+                        hand: Term::Typecase(variable, subject, clauses, other),
+                        waiting,
+                    }),
+                    spent: Spent::Part(clause),
+                },
+            },
+            Term::For(_, _, _, source, body) => two(source, body, waiting),
+            Term::ForHalves(first, second) => two(first, second, waiting),
+            Term::Reduce(_, _, _, empty, _, source, body) => three(empty, source, body, waiting),
+            Term::ReduceHalves(_, first, second) => two(first, second, waiting),
+            Term::Also(parts) => many(parts, waiting),
+            Term::Try(body, variable, mut clauses, last) => match clauses.pop() {
+                None => {
+                    clauses.destroy_empty();
+                    match last {
+                        None => one(body, waiting),
+                        Some(last) => two(body, last, waiting),
+                    }
+                }
+                Some((clause, _ty)) => Shed {
+                    left: Some(Left {
+                        hand: Term::Try(body, variable, clauses, last),
+                        waiting,
+                    }),
+                    spent: Spent::Part(clause),
+                },
+            },
+            Term::Atomic(_, body) => one(body, waiting),
+            Term::Asleep(mut marks, body) => match marks.pop() {
+                None => {
+                    marks.destroy_empty();
+                    one(body, waiting)
+                }
+                Some((_loc, mark)) => Shed {
+                    left: Some(Left {
+                        hand: Term::Asleep(marks, body),
+                        waiting,
+                    }),
+                    spent: Spent::Held(mark),
+                },
+            },
+            Term::Stepped(part) => one(part, waiting),
         }
     }
 }

@@ -1,7 +1,7 @@
 //! Values and closures.
 ghost use Rattle.std.specs.Prelude.{◌≡◌, [], IfOk};
 
-use crate::release::{drop_held, drop_part, drop_values};
+use crate::release::{drop_held, drop_values};
 use crate::term::Term;
 use fort_base::{Bytes, List, Loc, Memory, Shared, Ty, TypeId};
 use std::alloc::Global;
@@ -82,7 +82,7 @@ impl Drop for Closure {
             body,
             held,
         } = self;
-        drop_part(body);
+        let _body = body.last();
         drop_held(held);
     }
 }

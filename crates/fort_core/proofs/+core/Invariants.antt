@@ -1,36 +1,39 @@
-use Rattle.std.proofs.Common.{◌≤◌, length}
-use Rattle.fort_core.specs.declared.term.Term.{size-Term}
+use Rattle.std.proofs.Common.{◌+◌, ◌*◌, ◌≤◌, length}
+use Rattle.fort_core.specs.Weights.{each, weight, value_weight, closure_weight, waits, term_work, spent_weight}
 use Rattle.fort_core.proofs.+core.Given as goal
 
-abbrev pub invariant-term::Term::drop-loop-self : goal.invariant-term::Term::drop-loop-self
-invariant-term::Term::drop-loop-self l = size-Term l.self ≤ size-Term l.initial.self
+abbrev pub decreases-term::Term::drop : goal.decreases-term::Term::drop
+decreases-term::Term::drop l = 2 * weight l.self + 1
 
-abbrev pub invariant-release::drop_held-loop-variable : goal.invariant-release::drop_held-loop-variable
-invariant-release::drop_held-loop-variable l = goal.no_deeper-release::drop_held-loop-variable l
+abbrev pub decreases-release::drop_spent : goal.decreases-release::drop_spent
+decreases-release::drop_spent l = 2 * spent_weight l.spent
 
-abbrev pub decreases-release::drop_held-loop-variable : goal.decreases-release::drop_held-loop-variable
-decreases-release::drop_held-loop-variable l = length l.held
+abbrev pub decreases-value::Value::drop : goal.decreases-value::Value::drop
+decreases-value::Value::drop l = 2 * value_weight l.self + 1
 
-abbrev pub invariant-release::drop_marks-loop-loc : goal.invariant-release::drop_marks-loop-loc
-invariant-release::drop_marks-loop-loc l = goal.no_deeper-release::drop_marks-loop-loc l
+abbrev pub decreases-value::Closure::drop : goal.decreases-value::Closure::drop
+decreases-value::Closure::drop l = 2 * closure_weight l.self
 
-abbrev pub decreases-release::drop_marks-loop-loc : goal.decreases-release::drop_marks-loop-loc
-decreases-release::drop_marks-loop-loc l = length l.marks
+abbrev pub decreases-release::drop_values : goal.decreases-release::drop_values
+decreases-release::drop_values l = 2 * each value_weight l.values
 
-abbrev pub invariant-release::drop_clauses-loop-clause : goal.invariant-release::drop_clauses-loop-clause
-invariant-release::drop_clauses-loop-clause l = goal.no_deeper-release::drop_clauses-loop-clause l
+abbrev pub decreases-release::drop_held : goal.decreases-release::drop_held
+decreases-release::drop_held l = 2 * each (λ h. value_weight h.1) l.held
 
-abbrev pub decreases-release::drop_clauses-loop-clause : goal.decreases-release::drop_clauses-loop-clause
-decreases-release::drop_clauses-loop-clause l = length l.clauses
+abbrev pub invariant-term::Term::drop-turns : goal.invariant-term::Term::drop-turns
+invariant-term::Term::drop-turns l = weight l.hand + waits l.waiting ≤ weight l.initial.hand
 
-abbrev pub invariant-release::drop_terms-loop-term : goal.invariant-release::drop_terms-loop-term
-invariant-release::drop_terms-loop-term l = goal.no_deeper-release::drop_terms-loop-term l
-
-abbrev pub decreases-release::drop_terms-loop-term : goal.decreases-release::drop_terms-loop-term
-decreases-release::drop_terms-loop-term l = length l.terms
+abbrev pub decreases-term::Term::drop-turns : goal.decreases-term::Term::drop-turns
+decreases-term::Term::drop-turns l = term_work l.hand l.waiting
 
 abbrev pub invariant-release::drop_values-loop-value : goal.invariant-release::drop_values-loop-value
-invariant-release::drop_values-loop-value l = goal.no_deeper-release::drop_values-loop-value l
+invariant-release::drop_values-loop-value l = each value_weight l.values ≤ each value_weight l.initial.values
 
 abbrev pub decreases-release::drop_values-loop-value : goal.decreases-release::drop_values-loop-value
 decreases-release::drop_values-loop-value l = length l.values
+
+abbrev pub invariant-release::drop_held-loop-variable : goal.invariant-release::drop_held-loop-variable
+invariant-release::drop_held-loop-variable l = each (λ h. value_weight h.1) l.held ≤ each (λ h. value_weight h.1) l.initial.held
+
+abbrev pub decreases-release::drop_held-loop-variable : goal.decreases-release::drop_held-loop-variable
+decreases-release::drop_held-loop-variable l = length l.held

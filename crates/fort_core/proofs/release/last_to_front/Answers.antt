@@ -1,9 +1,9 @@
 use Rattle.std.proofs.Common.{◌<◌, ◌-◌, length, IsPermutation, arith}
 use Rattle.std.proofs.lemmas.List.Sorted.{IsPermutation-swap}
-use Rattle.fort_core.proofs.pick.last_to_front.Goals as goal
+use Rattle.fort_core.proofs.release.last_to_front.Goals as goal
 
 pub returns : goal.returns
-returns c =
+returns g c =
     let xs = c.into_vec-items.result.items in
     let ys = c.swap.new.self.items in
     let some : 0 < length xs = rw c.into_vec-items.ensures c.requires in
