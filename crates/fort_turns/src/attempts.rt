@@ -17,7 +17,7 @@ ghost use Rattle.fort_acting.specs.Only.{OnlyDoes};
 ghost use Rattle.fort_turns.specs.Idles.{Follows, IsAtPlace, IsAtThread, Rests};
 
 use crate::next::{Next, Walking, closed, left};
-use crate::sweep::{Sweep, is_too_deep};
+use crate::sweep::Sweep;
 use crate::threads::turns;
 use crate::walked::Walked;
 use fort_base::{List, Loc, Memory, Shared};
@@ -46,9 +46,6 @@ pub fn at_atomic(
         return Ok(left(program, course, sweep.passed(), place, form));
     }
     if rests(&course, sweep, form.get()) {
-        if is_too_deep(&place) {
-            return Err(Memory);
-        }
         return Ok(left(program, course, sweep.passed(), place, form));
     }
     match form.get() {

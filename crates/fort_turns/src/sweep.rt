@@ -10,10 +10,6 @@ pub const TURN: u32 = 1024;
 /// frame by frame.
 const SHALLOW: u32 = 1024;
 
-/// How many frames may stand round a thread that is left asleep: its term is let go by calls as deep
-/// as it stands, which take a stack of some 400 bytes a frame.
-const DEEPEST: u32 = 4096;
-
 /// How far a machine has come in going through its threads from left to right.
 #[derive(Clone, Copy, Debug, PartialEq, Eq)]
 pub struct Sweep {
@@ -87,11 +83,6 @@ impl Sweep {
         }
         !place.path.0.is_empty() && is_within(&place.stack, SHALLOW)
     }
-}
-
-/// Whether a thread stands deeper than a thread may that is left asleep.
-pub fn is_too_deep(place: &Place) -> bool {
-    !is_within(&place.stack, DEEPEST)
 }
 
 // Whether no more frames than so many stand round a thread.
