@@ -27,7 +27,7 @@ impl Frame {
         ensures { IfOk result (λ form. form ≡ on (frame_of self) part) }
     {
         match self {
-            Frame::Node(_) => Err(Memory),
+            Frame::Node(_) => unreachable!(),
             Frame::Throw => Ok(Term::Throw(part)),
             Frame::Operand(set, values, operands) => {
                 operator(alloc, set, &values, part, &operands)

@@ -1,5 +1,5 @@
 //! Across the parts of a parallel form.
-ghost use Rattle.std.specs.Prelude.{◌≡◌, ◌∷◌, [], false, Some, IfOk, IsTrue, length, slice_get};
+ghost use Rattle.std.specs.Prelude.{◌≡◌, ◌<◌, ◌∷◌, [], false, Some, IfOk, IsTrue, length, slice_get};
 ghost use Rattle.std.specs.List.{list_any};
 ghost use Rattle.fort_machine.specs.Ends.{has_stepped, is_thrown as thrown_term, open_yet};
 ghost use Rattle.fort_machine.specs.Ends.{standing};
@@ -317,10 +317,11 @@ fn two(parts: &List<Shared<Term>>) -> Result<(Shared<Term>, Shared<Term>), Memor
 
 // The part of a number, which is there.
 fn share_at(parts: &List<Shared<Term>>, at: usize) -> Result<Shared<Term>, Memory>
+    requires { at < length parts.now }
     ensures { IfOk result (λ part. slice_get parts.now at ≡ Some part) }
 {
     match parts.get(at) {
-        None => Err(Memory),
+        None => unreachable!(),
         Some(part) => part.share(),
     }
 }

@@ -247,7 +247,7 @@ fn enter_first(alloc: Global, clock: u64, place: Place, term: &Term) -> Result<T
             let frame = Frame::Try(*variable, clauses, share_last(last)?);
             into(alloc, clock, place, frame, body)
         }
-        _ => Err(Memory),
+        _ => unreachable!(),
     }
 }
 
