@@ -12,6 +12,7 @@ ghost use Rattle.fort_carry.specs.Courses.{HasCome, IsGoing, IsWhole, around, he
 ghost use Rattle.fort_carry.specs.Calls.{Aborts, BeginsTo, CannotThrow, ClosesTo, MayAbort, MayTry, StopsTo};
 
 use crate::course::{Course, Going, Waiting};
+use crate::execution::Execution;
 use crate::steps::risen;
 use fort_base::{List, Loc, Memory, Shared, TypeId};
 use fort_core::{CoreKind, Mode, Pick, Program, Term, Value};
@@ -19,7 +20,7 @@ use fort_effects::{Closing, Layers};
 use fort_frames::{At, Place, State};
 use std::alloc::Global;
 
-impl Course {
+impl Execution {
     /// Begins an attempt of an atomic form at a place, at the cost of 1: the attempt's machine
     /// stands at the body.
     ///
@@ -125,11 +126,11 @@ impl Course {
         mode: Mode,
         body: Shared<Term>,
         taken: u32,
-    ) -> Result<Course, Memory>
+    ) -> Result<Execution, Memory>
         requires { self.spent + 1 ≤ self.fuel }
         ensures { IfOk result (BeginsTo self place mode body taken) }
     {
-        let mut course = self;
+        let mut course = self.into_course();
         let picks = course.picks;
         course.picks = List::new(alloc);
         course.outer.push(Waiting {
@@ -141,21 +142,21 @@ impl Course {
         })?;
         course.layers = course.layers.open(alloc)?;
         course.spent += 1;
-        Ok(course)
+        Execution::of(alloc, course)
     }
 
     // The step of `abort()` itself.
-    fn stop(self, alloc: Global, place: &Place) -> Result<Course, Memory>
+    fn stop(self, alloc: Global, place: &Place) -> Result<Execution, Memory>
         requires spent { self.spent ≡ all_spent (levels_of self.layers) }
         requires affords { self.spent + 1 ≤ self.fuel }
         ensures { IfOk result (StopsTo self place.now) }
     {
         let mut course = self;
-        course.layers.print(List::new(alloc), 1)?;
-        course
-            .picks
-            .push(Pick::Step(place.path.copy(alloc)?, Loc(0)))?;
-        course.spent += 1;
+        let _room = course.get().with(1);
+        let run = course.get_mut();
+        run.layers.print(List::new(alloc), 1)?;
+        run.picks.push(Pick::Step(place.path.copy(alloc)?, Loc(0)))?;
+        run.spent = run.with(1);
         Ok(course)
     }
 
@@ -168,9 +169,10 @@ impl Course {
         ensures picks { IfOk result (λ going. IfSome going (λ going. PicksAttempt self self.picks going.course)) }
     {
         let mut course = self;
-        let at = match course.outer.as_slice().last() {
+        let run = course.get_mut();
+        let at = match run.outer.as_slice().last() {
             None => unreachable!(),
-            Some(waiting) => after_abort(alloc, program, &mut course.layers, waiting)?,
+            Some(waiting) => after_abort(alloc, program, &mut run.layers, waiting)?,
         };
         match at {
             None => Ok(None),
@@ -186,7 +188,20 @@ impl Course {
 
     // The machine round the innermost attempt, of which that is the last pick, and the place of
     // its form.
-    fn close(self, alloc: Global, closing: Closing) -> Result<(Course, Place), Memory>
+    fn close(self, alloc: Global, closing: Closing) -> Result<(Execution, Place), Memory>
+        requires inside { self.outer ≢ [] }
+        requires open { IsOpen (levels_of self.layers).store (levels_of self.layers).attempts }
+        requires spent { self.spent ≡ all_spent (levels_of self.layers) }
+        ensures { IfOk result (ClosesTo closing self) }
+    {
+        let (course, place) = self.into_course().closed(alloc, closing)?;
+        Ok((Execution::of(alloc, course)?, place))
+    }
+}
+
+impl Course {
+    // The same of the course itself.
+    fn closed(self, alloc: Global, closing: Closing) -> Result<(Course, Place), Memory>
         requires inside { self.outer ≢ [] }
         requires open { IsOpen (levels_of self.layers).store (levels_of self.layers).attempts }
         requires spent { self.spent ≡ all_spent (levels_of self.layers) }

@@ -1,8 +1,9 @@
 //! How far a run has come.
-ghost use Rattle.std.specs.Prelude.{◌≡◌, ◌≢◌, ◌+◌, [], nat_le, MatchOption};
+ghost use Rattle.std.specs.Prelude.{◌≡◌, ◌≢◌, ◌+◌, ◌≤◌, [], nat_le, MatchOption};
 ghost use Rattle.std.specs.Option.{option_copied};
 ghost use Rattle.fort_effects.specs.Levels.{levels_of, seen};
 
+use crate::execution::Execution;
 use fort_base::{List, Loc, Shared};
 use fort_core::{Mode, Pick, Term, Value};
 use fort_effects::Layers;
@@ -42,20 +43,28 @@ pub struct Course {
 /// A run that goes on, with the term of its innermost machine.
 #[derive(Drop)]
 pub struct Going {
-    pub course: Course,
+    pub course: Execution,
     pub state: State,
 }
 
 impl Course {
-    /// The value at a location as the innermost machine sees it, if the location is there.
-    pub fn look(&self, loc: Loc) -> Option<&Value>
+    // The value at a location as the innermost machine sees it, if the location is there.
+    pub(crate) fn look(&self, loc: Loc) -> Option<&Value>
         ensures { option_copied result ≡ seen (levels_of self.now.layers) loc.0 }
     {
         self.layers.look(loc)
     }
 
-    /// Whether the fuel covers a cost.
-    pub fn affords(&self, cost: u64) -> bool
+    // What the run has cost with this, which the fuel covers.
+    pub(crate) fn with(&self, cost: u64) -> u64
+        requires { self.now.spent + cost ≤ self.now.fuel }
+        ensures { result ≡ self.now.spent + cost }
+    {
+        self.spent + cost
+    }
+
+    // Whether the fuel covers a cost.
+    pub(crate) fn affords(&self, cost: u64) -> bool
         ensures { result ≡ nat_le (self.now.spent + cost) self.now.fuel }
     {
         match self.fuel.checked_sub(self.spent) {
@@ -64,9 +73,9 @@ impl Course {
         }
     }
 
-    /// In an attempt's machine, how many picks the thread that waits for it took in its turn;
-    /// nothing in the root's.
-    pub fn turn(&self) -> Option<u32>
+    // In an attempt's machine, how many picks the thread that waits for it took in its turn;
+    // nothing in the root's.
+    pub(crate) fn turn(&self) -> Option<u32>
         ensures { MatchOption result (self.now.outer ≡ []) (λ _. self.now.outer ≢ []) }
     {
         match self.outer.as_slice().last() {

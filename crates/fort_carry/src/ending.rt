@@ -8,6 +8,7 @@ ghost use Rattle.fort_carry.specs.Courses.{HasCome};
 ghost use Rattle.fort_carry.specs.Calls.{IsEnded, IsRun};
 
 use crate::course::Course;
+use crate::execution::Execution;
 use fort_base::{Bytes, List};
 use fort_core::{Ending, Journal, Pick, Program, Value};
 
@@ -22,7 +23,7 @@ pub struct Ran {
     pub cost: u64,
 }
 
-impl Course {
+impl Execution {
     /// The run is completed at `()`.
     pub fn end_completed(self, program: &Program) -> Ran
         requires outside { self.outer ≡ [] }
@@ -30,7 +31,7 @@ impl Course {
         ensures { IsRun program.now self.fuel result }
     {
         let _program = program;
-        self.ended(Ending::Completed)
+        self.into_course().ended(Ending::Completed)
     }
 
     /// The run ends with a throw that nothing caught.
@@ -40,9 +41,11 @@ impl Course {
         ensures { IsRun program.now self.fuel result }
     {
         let _program = program;
-        self.ended(Ending::Uncaught(thrown))
+        self.into_course().ended(Ending::Uncaught(thrown))
     }
+}
 
+impl Course {
     // With an ending.
     pub(crate) fn ended(self, ending: Ending) -> Ran
         ensures { IsEnded self ending result }

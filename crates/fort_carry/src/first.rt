@@ -5,6 +5,7 @@ ghost use Rattle.fort_carry.specs.Courses.{IsGoing, IsWhole};
 ghost use Rattle.fort_carry.specs.Picked.{PicksNone};
 
 use crate::course::{Course, Going};
+use crate::execution::Execution;
 use fort_base::{List, Loc, Memory};
 use fort_core::Program;
 use fort_effects::Layers;
@@ -33,6 +34,7 @@ impl Going {
             fuel,
             fresh: fresh_from(program)?,
         };
+        let course = Execution::of(alloc, course)?;
         let place = Place::root(alloc);
         Ok(Going {
             course,

@@ -6,14 +6,15 @@ ghost use Rattle.fort_course.specs.Ends.{PassesLast};
 ghost use Rattle.fort_carry.specs.Courses.{around};
 ghost use Rattle.fort_carry.specs.Calls.{IsRun, MayAbort, MayTry, PassesAt};
 
-use crate::course::{Course, Waiting};
+use crate::course::Waiting;
 use crate::ending::Ran;
+use crate::execution::Execution;
 use fort_base::{List, Loc, Memory, Shared};
 use fort_core::{Ending, Mode, Pick, Program, Term};
 use fort_frames::Place;
 use std::alloc::Global;
 
-impl Course {
+impl Execution {
     /// The fuel is out at a step of the form at a place.
     ///
     /// # Errors
@@ -81,7 +82,7 @@ impl Course {
         ensures { IfOk result (IsRun program.now self.fuel) }
     {
         let _program = program;
-        let mut course = self;
+        let mut course = self.into_course();
         let mut pick = next;
         'machines: while let Some(waiting) = course.outer.pop() {
             let (outer, before) = with_last(waiting, course.picks, pick)?;

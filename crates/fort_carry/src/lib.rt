@@ -5,6 +5,7 @@
 mod attempts;
 mod course;
 mod ending;
+mod execution;
 mod first;
 mod fuel;
 mod steps;
@@ -12,3 +13,4 @@ mod steps;
 pub use attempts::single;
 pub use course::{Course, Going, Waiting};
 pub use ending::Ran;
+pub use execution::Execution;

@@ -7,13 +7,13 @@ ghost use Rattle.fort_carry.specs.Calls.{MayStep, StepsTo};
 ghost use Rattle.fort_carry.specs.Picked.{PicksStep};
 ghost use Rattle.fort_effects.specs.Calls.{AreFree};
 
-use crate::course::Course;
+use crate::execution::Execution;
 use fort_base::{Bytes, List, Loc, Memory, Shared};
 use fort_core::{Pick, Program, Term, Value};
 use fort_frames::Place;
 use std::alloc::Global;
 
-impl Course {
+impl Execution {
     /// A step that prints a text, at a cost.
     ///
     /// # Errors
@@ -28,7 +28,7 @@ impl Course {
         next: &Shared<Term>,
         text: Bytes,
         cost: u64,
-    ) -> Result<Course, Memory>
+    ) -> Result<Execution, Memory>
         requires may { MayStep program.now self place.now 0 next.now (printed text cost) }
         requires affords { self.spent + cost ≤ self.fuel }
         ensures stands { IfOk result (λ course. StandsAt program.now course place.now next.now) }
@@ -38,7 +38,8 @@ impl Course {
         let _program = program;
         let _next = next;
         let mut course = self;
-        course.layers.print(text, cost)?;
+        let _room = course.get().with(cost);
+        course.get_mut().layers.print(text, cost)?;
         course.stepped(alloc, place, Loc(0), cost)
     }
 
@@ -56,7 +57,7 @@ impl Course {
         next: &Shared<Term>,
         loc: Loc,
         value: &Value,
-    ) -> Result<Course, Memory>
+    ) -> Result<Execution, Memory>
         requires may { MayStep program.now self place.now 0 next.now (reading loc.0 value.now) }
         requires there { seen (levels_of self.layers) loc.0 ≡ Some value.now }
         requires affords { self.spent + 1 ≤ self.fuel }
@@ -68,7 +69,8 @@ impl Course {
         let _next = next;
         let _value = value;
         let mut course = self;
-        match course.layers.read(loc)? {
+        let _room = course.get().with(1);
+        match course.get_mut().layers.read(loc)? {
             None => unreachable!(),
             Some(_read) => course.stepped(alloc, place, Loc(0), 1),
         }
@@ -88,7 +90,7 @@ impl Course {
         next: &Shared<Term>,
         loc: Loc,
         value: Value,
-    ) -> Result<Course, Memory>
+    ) -> Result<Execution, Memory>
         requires may { MayStep program.now self place.now 0 next.now (writing loc.0 value) }
         requires there { IsSome (seen (levels_of self.layers) loc.0) }
         requires affords { self.spent + 1 ≤ self.fuel }
@@ -99,7 +101,8 @@ impl Course {
         let _program = program;
         let _next = next;
         let mut course = self;
-        if !course.layers.write(loc, value)? {
+        let _room = course.get().with(1);
+        if !course.get_mut().layers.write(loc, value)? {
             unreachable!()
         }
         course.stepped(alloc, place, Loc(0), 1)
@@ -119,14 +122,14 @@ impl Course {
         next: &Shared<Term>,
         values: &List<Value>,
         cost: u64,
-    ) -> Result<Course, Memory>
+    ) -> Result<Execution, Memory>
         requires may { MayStep program.now self place.now self.fresh next.now (making self.fresh values.now cost) }
         requires affords { self.spent + cost ≤ self.fuel }
         ensures stands { IfOk result (λ course. StandsAt program.now course place.now next.now) }
         ensures fuel { IfOk result (λ course. course.fuel ≡ self.fuel) }
         ensures picks { IfOk result (PicksStep self place.now self.fresh) }
     {
-        let first = Loc(self.fresh);
+        let first = Loc(self.fresh());
         self.make_at(alloc, program, place, next, values, first, cost)
     }
 
@@ -145,7 +148,7 @@ impl Course {
         values: &List<Value>,
         first: Loc,
         cost: u64,
-    ) -> Result<Course, Memory>
+    ) -> Result<Execution, Memory>
         requires may { MayStep program.now self place.now first.0 next.now (making first.0 values.now cost) }
         requires free { AreFree first.0 (length values.now) (seen (levels_of self.layers)) }
         requires affords { self.spent + cost ≤ self.fuel }
@@ -157,8 +160,11 @@ impl Course {
         let _next = next;
         let mut course = self;
         let above = above(first.0, values)?;
-        course.layers.make(first, values, cost)?;
-        course.fresh = higher(course.fresh, above);
+        let _room = course.get().with(cost);
+        let run = course.get_mut();
+        run.layers.make(first, values, cost)?;
+        let fresh = higher(run.fresh, above);
+        run.fresh = fresh;
         course.stepped(alloc, place, first, cost)
     }
 
@@ -169,14 +175,15 @@ impl Course {
         place: &Place,
         loc: Loc,
         cost: u64,
-    ) -> Result<Course, Memory>
+    ) -> Result<Execution, Memory>
         requires { self.spent + cost ≤ self.fuel }
         ensures { IfOk result (StepsTo self place.now loc.0 cost) }
     {
         let mut course = self;
-        course.picks.push(Pick::Step(place.path.copy(alloc)?, loc))?;
-        course.clock = risen(course.clock)?;
-        course.spent += cost;
+        let run = course.get_mut();
+        run.picks.push(Pick::Step(place.path.copy(alloc)?, loc))?;
+        run.clock = risen(run.clock)?;
+        run.spent = run.with(cost);
         Ok(course)
     }
 }

@@ -1,5 +1,0 @@
-use Rattle.fort_carry.proofs.Ended.{ends_uncaught}
-use Rattle.fort_carry.proofs.course.Course.end_uncaught.Goals as goal
-
-pub returns : goal.returns
-returns c = ends_uncaught c.args.program.now c.args.self c.ended.result c.args.thrown c.requires.come c.requires.outside c.ended.ensures
