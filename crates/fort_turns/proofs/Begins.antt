@@ -1,5 +1,5 @@
 -- A sweep begins.
-use Rattle.std.proofs.Common.{◌≡◌, Bool, true, false, List, [], sym, ◌∙◌, subst}
+use Rattle.std.proofs.Common.{◌≡◌, true, false, [], sym, ◌∙◌, subst}
 use Rattle.fort_core.specs.declared.program.Program.{Program}
 use Rattle.fort_core.specs.declared.term.Term.{Term}
 use Rattle.fort_frames.specs.Frames.{frames, rebuilt}

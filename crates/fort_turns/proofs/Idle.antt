@@ -1,14 +1,12 @@
 -- Where a sweep met no thread that goes on nobody may go on.
-use Rattle.std.proofs.Common.{◌≡◌, ℕ, Bool, true, false, ◌||◌, List, [], ◌∷◌, ◌++◌, Some, None, refl, ap, sym, ◌∙◌, subst, ◌⊎◌, inl, inr}
-use Rattle.std.specs.Prelude.{slice_get}
-use Rattle.fort_core.specs.declared.form.Mode.{Mode}
+use Rattle.std.proofs.Common.{◌≡◌, ℕ, Bool, true, false, ◌||◌, List, [], ◌∷◌, refl, ap, sym, ◌∙◌, subst, ◌⊎◌, inl, inr}
 use Rattle.fort_core.specs.declared.form.Mode.TheVariants as mode
 use Rattle.fort_core.specs.declared.program.Program.{Program}
 use Rattle.fort_core.specs.declared.term.Term.{Term, Asleep, out-Term}
 use Rattle.fort_core.specs.declared.term.Term as term
-use Rattle.fort_core.specs.declared.term.Term.TheVariants.{outs-Asleep, outs-Value}
+use Rattle.fort_core.specs.declared.term.Term.TheVariants.{outs-Asleep}
 use Rattle.fort_core.specs.declared.value.Value.{Value}
-use Rattle.fort_machine.specs.Effects.{Store, Effect, FitsAll, afterwards}
+use Rattle.fort_machine.specs.Effects.{Store, Effect}
 use Rattle.fort_machine.specs.Ends.{open_yet, standing, at_value, Finished, throw_of}
 use Rattle.fort_machine.specs.Ends as ends
 use Rattle.fort_machine.specs.Frames.{Frame, plug, on, road, passes, passed}
@@ -17,7 +15,7 @@ use Rattle.fort_machine.specs.Acts as acts
 use Rattle.fort_machine.specs.Forms.{act, act_at}
 use Rattle.fort_machine.specs.Parts.{IsOneOf}
 use Rattle.fort_machine.specs.Steps.{Acts, by_itself, by_call, Local, steps}
-use Rattle.fort_machine.specs.Attempts.{Form, slept, Ready, Sleeps, Awake, MayTry}
+use Rattle.fort_machine.specs.Attempts.{slept, Ready, Sleeps, Awake}
 use Rattle.fort_machine.proofs.Standing.{not_finished, or_false}
 use Rattle.fort_machine.proofs.Places.{plug_open, ready_open, one_place}
 use Rattle.fort_machine.proofs.Ready.{local_ready, stop_ready, form_ready, does_not_stuck}
@@ -26,10 +24,8 @@ use Rattle.fort_frames.specs.declared.frame.Frame as code
 use Rattle.fort_frames.specs.declared.frame.Frame.TheVariants as frame
 use Rattle.fort_frames.specs.declared.place.Place.{Place}
 use Rattle.fort_frames.specs.declared.state.At.TheVariants as at
-use Rattle.fort_frames.specs.declared.state.State.{State}
 use Rattle.fort_frames.proofs.Same.{same_term, not_passed}
-use Rattle.fort_moves.specs.Turns.{IsOver}
-use Rattle.fort_moves.specs.Sweeps.{AllMet, IsMet, AreMet, SweptAt, Swept, IsLeft, SweptTo}
+use Rattle.fort_moves.specs.Sweeps.{AllMet, IsMet, SweptAt, Swept, IsLeft, SweptTo}
 use Rattle.fort_turns.specs.declared.sweep.Sweep.{Sweep}
 use Rattle.fort_turns.specs.Stops.{MayGo, steps_on, aborts_here, tries, NobodyMayGo, IsAtEnd}
 use Rattle.fort_turns.specs.Idles.{HasNoStep, IsIdle, Idles}

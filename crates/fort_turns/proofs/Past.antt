@@ -1,22 +1,21 @@
 -- Past a thread that doesn't go on now, and on to the next turn.
-use Rattle.std.proofs.Common.{◌≡◌, ℕ, Bool, true, false, List, [], ◌∷◌, Some, None, refl, ap, sym, ◌∙◌, subst, ◌⊎◌, inl, inr, rules}
-use Rattle.fort_core.specs.declared.form.Mode.{Mode}
+use Rattle.std.proofs.Common.{◌≡◌, ℕ, Bool, true, false, List, Some, None, refl, sym, ◌∙◌, subst, rules}
 use Rattle.fort_core.specs.declared.program.Program.{Program}
 use Rattle.fort_core.specs.declared.term.Term.{Term}
 use Rattle.fort_core.specs.declared.value.Value.{Value}
 use Rattle.fort_machine.specs.Cells.{found, Fits}
-use Rattle.fort_machine.specs.Effects.{Store, Effect, FitsAll, reading, writing, only_at}
+use Rattle.fort_machine.specs.Effects.{Store, Effect, FitsAll, writing, only_at}
 use Rattle.fort_machine.specs.Acts as acts
 use Rattle.fort_machine.specs.Acts.{single}
-use Rattle.fort_machine.specs.Steps.{Acts, Does, Local}
-use Rattle.fort_machine.specs.Attempts.{Form, Sleeps, Ready}
+use Rattle.fort_machine.specs.Steps.{Does}
+use Rattle.fort_machine.specs.Attempts.{Sleeps}
 use Rattle.fort_machine.proofs.Single.{reads_what_is_there}
 use Rattle.fort_frames.specs.Frames.{frames, rebuilt}
 use Rattle.fort_frames.specs.declared.place.Place.{Place}
 use Rattle.fort_frames.specs.declared.state.At.TheVariants as at
 use Rattle.fort_effects.specs.Levels.{levels_of, seen}
 use Rattle.fort_course.specs.Course.{is_inner}
-use Rattle.fort_moves.specs.Sweeps.{Swept, SweptTo}
+use Rattle.fort_moves.specs.Sweeps.{SweptTo}
 use Rattle.fort_moves.specs.Turns.{IsMade, ready_term}
 use Rattle.fort_moves.specs.declared.turn.Ready as code
 use Rattle.fort_carry.specs.declared.course.Course.{Course}

@@ -8,14 +8,13 @@ use Rattle.fort_core.specs.declared.program.Program.{Program}
 use Rattle.fort_core.specs.declared.term.Term.{Term}
 use Rattle.fort_core.specs.declared.term.Term as term
 use Rattle.fort_core.specs.declared.value.Value.{Value}
-use Rattle.fort_machine.specs.Cells.{Cell, untouched, found, made, Fits}
-use Rattle.fort_machine.specs.Effects.{Store, Effect, FitsAll, printed, paid, reading, writing, making, made_from, only_at}
+use Rattle.fort_machine.specs.Cells.{untouched, found, made, Fits}
+use Rattle.fort_machine.specs.Effects.{Store, printed, reading, writing, making, made_from, only_at}
 use Rattle.fort_machine.specs.Ends.{throw_of}
 use Rattle.fort_machine.specs.Acts as acts
 use Rattle.fort_machine.specs.Acts.{single}
 use Rattle.fort_machine.specs.Marked.{Bare}
 use Rattle.fort_machine.specs.Steps.{Acts, steps, or_unit}
-use Rattle.fort_machine.specs.Journals.{MakesWithinBounds}
 use Rattle.fort_machine.specs.Written.{WrittenProgram}
 use Rattle.fort_machine.proofs.Effects.{made_in_row}
 use Rattle.fort_frames.specs.declared.place.Place.{Place}

@@ -1,28 +1,23 @@
 -- Attempts of a walk.
-use Rattle.std.proofs.Common.{◌≡◌, ◌≢◌, ℕ, ◌||◌, ◌&&◌, Bool, true, false, not, List, [], ◌∷◌, Some, None, refl, ap, sym, ◌∙◌, subst, ◌⊎◌, inl, inr, rules}
+use Rattle.std.proofs.Common.{◌≡◌, ◌≢◌, Bool, true, false, List, [], ◌∷◌, refl, ap, ◌⊎◌, inl, inr}
 use Rattle.std.specs.Prelude.{◌↔◌, IsTrue}
 use Rattle.fort_core.specs.declared.form.Mode.{Mode}
-use Rattle.fort_core.specs.declared.form.Mode.TheVariants as mode
 use Rattle.fort_core.specs.declared.program.Program.{Program}
-use Rattle.fort_core.specs.declared.term.Term.{Term, Atomic, Asleep, out-Term}
-use Rattle.fort_core.specs.declared.term.Term.TheVariants.{outs-Asleep, outs-Atomic}
-use Rattle.fort_core.specs.declared.value.Value.{Value}
-use Rattle.fort_machine.specs.Effects.{Store}
-use Rattle.fort_machine.specs.Acts.{ends, single}
-use Rattle.fort_machine.specs.Marked.{Bare, Marks, In}
+use Rattle.fort_core.specs.declared.term.Term.{Term, Atomic, Asleep}
+use Rattle.fort_machine.specs.Acts.{ends}
+use Rattle.fort_machine.specs.Marked.{Marks}
 use Rattle.fort_machine.specs.Steps.{Acts}
-use Rattle.fort_machine.specs.Attempts.{Form, fresh, slept, Sleeps, Awake, Ready}
+use Rattle.fort_machine.specs.Attempts.{Form, fresh, slept, Sleeps}
 use Rattle.fort_machine.specs.Written.{WrittenProgram}
 use Rattle.fort_machine.proofs.Ready.{form_ready}
 use Rattle.fort_frames.specs.Frames.{frames, rebuilt}
 use Rattle.fort_frames.specs.declared.place.Place.{Place}
 use Rattle.fort_effects.specs.Levels.{levels_of, seen}
-use Rattle.fort_picks.specs.Picks.{MayBeTried, NoneAwake}
+use Rattle.fort_picks.specs.Picks.{MayBeTried}
 use Rattle.fort_course.specs.Course.{Held, is_inner}
 use Rattle.fort_course.proofs.Reaches.{bare_here}
-use Rattle.fort_moves.specs.Sweeps.{Swept}
 use Rattle.fort_carry.specs.declared.course.Course.{Course}
-use Rattle.fort_carry.specs.Courses.{StandsAt, around, inwards}
+use Rattle.fort_carry.specs.Courses.{StandsAt, around}
 use Rattle.fort_carry.specs.Calls.{MayTry, MayAbort}
 use Rattle.fort_carry.proofs.Around.{around_some}
 use Rattle.fort_turns.specs.declared.sweep.Sweep.{Sweep}

@@ -21,17 +21,18 @@ use crate::sweep::{Sweep, is_too_deep};
 use crate::threads::turns;
 use crate::walked::Walked;
 use fort_base::{List, Loc, Memory, Shared};
-use fort_carry::{Course, single};
+use fort_carry::{Execution, single};
 use fort_core::{Mode, Program, Term, Value};
 use fort_frames::Place;
 use fort_moves::Ready;
 use std::alloc::Global;
 
 /// An atomic form is tried, or it sleeps, or its turn is over.
+#[inline(never)]
 pub fn at_atomic(
     alloc: Global,
     program: &Program,
-    course: Course,
+    course: Execution,
     sweep: Sweep,
     place: Place,
     form: Shared<Term>,
@@ -58,7 +59,7 @@ pub fn at_atomic(
 }
 
 // Whether a form sleeps, and isn't tried.
-fn rests(course: &Course, sweep: Sweep, form: &Term) -> bool
+fn rests(course: &Execution, sweep: Sweep, form: &Term) -> bool
     ensures { Rests result sweep.wakes (Sleeps (seen (levels_of course.now.layers)) form.now) }
 {
     if sweep.wakes {
@@ -68,7 +69,7 @@ fn rests(course: &Course, sweep: Sweep, form: &Term) -> bool
 }
 
 // Whether each location that a sleeping form watches has its value.
-fn sleeps(course: &Course, form: &Term) -> bool
+fn sleeps(course: &Execution, form: &Term) -> bool
     ensures { IsTrue result ↔ Sleeps (seen (levels_of course.now.layers)) form.now }
 {
     match form {
@@ -77,7 +78,7 @@ fn sleeps(course: &Course, form: &Term) -> bool
     }
 }
 
-fn unchanged(course: &Course, marks: &List<(Loc, Value)>) -> bool
+fn unchanged(course: &Execution, marks: &List<(Loc, Value)>) -> bool
     ensures { IsTrue result ↔ ((l : ℕ) (v : Value) → In l v marks.now → seen (levels_of course.now.layers) l ≡ Some v) }
 {
     for mark in marks.as_slice() {
@@ -89,7 +90,7 @@ fn unchanged(course: &Course, marks: &List<(Loc, Value)>) -> bool
 }
 
 // Whether a location has this value.
-fn has(course: &Course, loc: Loc, value: &Value) -> bool
+fn has(course: &Execution, loc: Loc, value: &Value) -> bool
     ensures { IsTrue result ↔ (seen (levels_of course.now.layers) loc.0 ≡ Some value.now) }
 {
     match course.look(loc) {
@@ -102,7 +103,7 @@ fn has(course: &Course, loc: Loc, value: &Value) -> bool
 fn begin(
     alloc: Global,
     program: &Program,
-    course: Course,
+    course: Execution,
     sweep: Sweep,
     place: Place,
     mode: Mode,
@@ -123,10 +124,11 @@ fn begin(
 }
 
 /// A step of `abort()`: it ends an attempt's machine, and is a throw in the root's.
+#[inline(never)]
 pub fn abort(
     alloc: Global,
     program: &Program,
-    course: Course,
+    course: Execution,
     sweep: Sweep,
     place: Place,
     ready: Ready,
@@ -146,7 +148,7 @@ pub fn abort(
 fn abort_attempt(
     alloc: Global,
     program: &Program,
-    course: Course,
+    course: Execution,
     place: Place,
     taken: u32,
 ) -> Result<Next, Memory>
@@ -167,7 +169,7 @@ fn abort_attempt(
 fn abort_root(
     alloc: Global,
     program: &Program,
-    course: Course,
+    course: Execution,
     sweep: Sweep,
     place: Place,
     ready: Ready,
@@ -195,7 +197,7 @@ fn abort_root(
 fn throws(
     alloc: Global,
     program: &Program,
-    course: Course,
+    course: Execution,
     sweep: Sweep,
     place: Place,
     value: Value,

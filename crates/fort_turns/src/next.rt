@@ -6,7 +6,7 @@ ghost use Rattle.fort_turns.specs.Idles.{Follows, IsAtLeft, IsAtPlace};
 use crate::sweep::Sweep;
 use crate::walked::Walked;
 use fort_base::Shared;
-use fort_carry::{Course, Going};
+use fort_carry::{Execution, Going};
 use fort_core::{Program, Term};
 use fort_frames::{At, Place, State};
 
@@ -27,7 +27,7 @@ pub enum Next {
 /// At a form of the same term.
 pub fn at_form(
     program: &Program,
-    course: Course,
+    course: Execution,
     sweep: Sweep,
     place: Place,
     form: Shared<Term>,
@@ -47,7 +47,7 @@ pub fn at_form(
 /// Past a thread that doesn't go on now.
 pub fn left(
     program: &Program,
-    course: Course,
+    course: Execution,
     sweep: Sweep,
     place: Place,
     form: Shared<Term>,
@@ -67,7 +67,7 @@ pub fn left(
 /// After a pick of a thread, which stands at a form now.
 pub fn picked(
     program: &Program,
-    course: Course,
+    course: Execution,
     sweep: Sweep,
     place: Place,
     form: Shared<Term>,

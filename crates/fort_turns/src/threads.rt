@@ -1,10 +1,12 @@
 //! A thread that has its step.
-ghost use Rattle.std.specs.Prelude.{◌≡◌, ◌≢◌, ◌↔◌, ◌+◌, ◌<◌, ◌^◌, IfOk, IsTrue};
+ghost use Rattle.std.specs.Prelude.{◌≡◌, ◌≢◌, ◌↔◌, ◌+◌, ◌<◌, ◌^◌, IfOk, IsSome, IsTrue, Some};
+ghost use Rattle.fort_core.specs.declared.term.Term as a_term;
 ghost use Rattle.fort_deal.specs.declared.deal.Deal.TheVariants as deals;
 ghost use Rattle.fort_deal.specs.Deals.{making_cost, made_by as term_of, new_values as values_of};
 ghost use Rattle.fort_deal.specs.Deals.{next_by as next_value};
 ghost use Rattle.fort_machine.specs.Acts as acts;
-ghost use Rattle.fort_machine.specs.Effects.{printed};
+ghost use Rattle.fort_machine.specs.Effects.{printed, reading, writing};
+ghost use Rattle.fort_effects.specs.Levels.{levels_of, seen};
 ghost use Rattle.fort_machine.specs.Steps.{Acts};
 ghost use Rattle.fort_machine.specs.Written.{WrittenProgram};
 ghost use Rattle.fort_moves.specs.Turns.{IsMade, ready_term};
@@ -18,7 +20,7 @@ use crate::sweep::Sweep;
 use crate::walked::Walked;
 use fort_acting::{acting, made_by, makes_count, new_values, next_by};
 use fort_base::{Bytes, List, Loc, Memory, Shared};
-use fort_carry::Course;
+use fort_carry::Execution;
 use fort_core::{Program, Term, Value};
 use fort_deal::{Deal, Goes, Makes};
 use fort_frames::Place;
@@ -29,7 +31,7 @@ use std::alloc::Global;
 pub fn at_thread(
     alloc: Global,
     program: &Program,
-    course: Course,
+    course: Execution,
     sweep: Sweep,
     place: Place,
     ready: Ready,
@@ -50,7 +52,7 @@ pub fn at_thread(
 fn dealt(
     alloc: Global,
     program: &Program,
-    course: Course,
+    course: Execution,
     sweep: Sweep,
     place: Place,
     ready: Ready,
@@ -78,10 +80,11 @@ fn is_stuck(deal: &Deal) -> bool
 }
 
 // It has no step.
+#[inline(never)]
 fn stays(
     alloc: Global,
     program: &Program,
-    course: Course,
+    course: Execution,
     sweep: Sweep,
     place: Place,
     ready: Ready,
@@ -104,7 +107,7 @@ fn stays(
 fn goes_on(
     alloc: Global,
     program: &Program,
-    course: Course,
+    course: Execution,
     sweep: Sweep,
     place: Place,
     ready: Ready,
@@ -141,7 +144,7 @@ fn goes_on(
 fn touches(
     alloc: Global,
     program: &Program,
-    course: Course,
+    course: Execution,
     sweep: Sweep,
     place: Place,
     ready: Ready,
@@ -163,10 +166,11 @@ fn touches(
 }
 
 /// It goes on as a term, with a text that it prints, at a cost.
+#[inline(never)]
 pub fn turns(
     alloc: Global,
     program: &Program,
-    course: Course,
+    course: Execution,
     sweep: Sweep,
     place: Place,
     next: Shared<Term>,
@@ -184,10 +188,11 @@ pub fn turns(
 }
 
 // The fuel is out at a step.
+#[inline(never)]
 fn out_at(
     alloc: Global,
     program: &Program,
-    course: Course,
+    course: Execution,
     place: &Place,
     loc: Loc,
 ) -> Result<Next, Memory>
@@ -198,10 +203,11 @@ fn out_at(
     Ok(Next::Ends(Walked::Ran(ran)))
 }
 
+#[inline(never)]
 fn asks(
     alloc: Global,
     program: &Program,
-    course: Course,
+    course: Execution,
     sweep: Sweep,
     place: Place,
     ready: Ready,
@@ -224,6 +230,24 @@ fn asks(
         )),
         Some(value) => value.share()?,
     };
+    reads(alloc, program, course, sweep, place, loc, goes, value)
+}
+
+// The value at a location is read, or the fuel is out.
+fn reads(
+    alloc: Global,
+    program: &Program,
+    course: Execution,
+    sweep: Sweep,
+    place: Place,
+    loc: Loc,
+    goes: Goes,
+    value: Value,
+) -> Result<Next, Memory>
+    requires may { (next : a_term.Term) → next ≡ next_value goes value → MayStep program.now course place 0 next (reading loc.0 value) }
+    requires there { seen (levels_of course.layers) loc.0 ≡ Some value }
+    ensures { IfOk result (Follows program.now course.fuel) }
+{
     if !course.affords(1) {
         return out_at(alloc, program, course, &place, Loc(0));
     }
@@ -232,10 +256,11 @@ fn asks(
     Ok(picked(program, course, sweep, place, next))
 }
 
+#[inline(never)]
 fn sets(
     alloc: Global,
     program: &Program,
-    course: Course,
+    course: Execution,
     sweep: Sweep,
     place: Place,
     ready: Ready,
@@ -257,6 +282,23 @@ fn sets(
             ready.term(alloc)?,
         ));
     }
+    writes(alloc, program, course, sweep, place, loc, value)
+}
+
+// A location that is there is written, or the fuel is out.
+fn writes(
+    alloc: Global,
+    program: &Program,
+    course: Execution,
+    sweep: Sweep,
+    place: Place,
+    loc: Loc,
+    value: Value,
+) -> Result<Next, Memory>
+    requires may { (next : a_term.Term) → next ≡ a_term.Value acts.unit → MayStep program.now course place 0 next (writing loc.0 value) }
+    requires there { IsSome (seen (levels_of course.layers) loc.0) }
+    ensures { IfOk result (Follows program.now course.fuel) }
+{
     if !course.affords(1) {
         return out_at(alloc, program, course, &place, Loc(0));
     }
@@ -266,10 +308,11 @@ fn sets(
 }
 
 // Locations are made behind all others.
+#[inline(never)]
 fn makes_some(
     alloc: Global,
     program: &Program,
-    course: Course,
+    course: Execution,
     sweep: Sweep,
     place: Place,
     ready: Ready,
@@ -281,9 +324,10 @@ fn makes_some(
 {
     let _ready = ready;
     let cost = makes.cost();
-    let loc = Loc(course.fresh);
+    let fresh = course.fresh();
+    let loc = Loc(fresh);
     let count = makes_count(&makes);
-    if !has_room(course.fresh, count) {
+    if !has_room(fresh, count) {
         return Err(Memory);
     }
     if !course.affords(cost) {

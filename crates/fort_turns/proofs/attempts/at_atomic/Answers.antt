@@ -4,7 +4,7 @@ use Rattle.fort_effects.specs.Levels.{levels_of, seen}
 use Rattle.fort_machine.specs.Attempts.{Sleeps, fresh, slept}
 use Rattle.fort_turns.specs.Idles.{Rests}
 use Rattle.fort_turns.proofs.Past.{over_left, sleeper_left}
-use Rattle.fort_turns.proofs.Trying.{form_thread, is_atomic, may_try}
+use Rattle.fort_turns.proofs.Trying.{form_thread, may_try}
 use Rattle.fort_turns.proofs.attempts.at_atomic.Goals as goal
 
 pub left-requires : goal.left-requires

@@ -1,4 +1,4 @@
-use Rattle.std.proofs.Common.{◌≡◌, true, false, refl, subst, sym, ◌∙◌}
+use Rattle.std.proofs.Common.{◌≡◌, true, false, subst, sym, ◌∙◌}
 use Rattle.fort_moves.specs.Turns.{ready_term}
 use Rattle.fort_acting.specs.Only.{IsDealt}
 use Rattle.fort_turns.proofs.threads.dealt.Goals as goal
