@@ -1,5 +1,5 @@
 -- The end of a machine's term, or of a sweep through it.
-use Rattle.std.proofs.Common.{◌≡◌, ◌≢◌, ℕ, ◌||◌, ◌&&◌, Bool, true, false, List, [], ◌∷◌, Some, None, refl, ap, sym, ◌∙◌, subst, ◌⊎◌, inl, inr}
+use Rattle.std.proofs.Common.{◌≡◌, ◌≢◌, ◌||◌, ◌&&◌, Bool, true, false, [], refl, ap, sym, ◌∙◌, subst, inl, inr}
 use Rattle.fort_core.specs.declared.program.Program.{Program}
 use Rattle.fort_core.specs.declared.term.Term.{Term}
 use Rattle.fort_core.specs.declared.term.Term as term
@@ -11,19 +11,17 @@ use Rattle.fort_machine.proofs.Standing.{value_not_throw}
 use Rattle.fort_frames.specs.Frames.{frames, rebuilt, Reaches}
 use Rattle.fort_frames.specs.States.{term_at}
 use Rattle.fort_frames.specs.declared.place.Place.{Place}
-use Rattle.fort_frames.specs.declared.state.At.{At}
 use Rattle.fort_frames.specs.declared.state.At.TheVariants as at
 use Rattle.fort_frames.specs.declared.state.State.{State}
 use Rattle.fort_effects.specs.Levels.{levels_of, seen}
 use Rattle.fort_picks.specs.Picks.{NoneAwake}
 use Rattle.fort_course.specs.Course.{is_inner}
-use Rattle.fort_moves.specs.Sweeps.{IsLeftAt, Swept, SweptTo}
+use Rattle.fort_moves.specs.Sweeps.{IsLeftAt, SweptTo}
 use Rattle.fort_carry.specs.declared.course.Course.{Course}
-use Rattle.fort_carry.specs.declared.course.Going.{Going}
-use Rattle.fort_carry.specs.Courses.{HasCome, StandsAt, IsGoing, IsWhole, around}
+use Rattle.fort_carry.specs.Courses.{HasCome, StandsAt, around}
 use Rattle.fort_turns.specs.declared.sweep.Sweep.{Sweep}
 use Rattle.fort_turns.specs.Stops.{StopsShort, stuck, IsAtEnd}
-use Rattle.fort_turns.specs.Idles.{Idles, AreIdle, AreAsleep, IsAtForm, IsAtEndOf}
+use Rattle.fort_turns.specs.Idles.{Idles, AreAsleep, IsAtForm, IsAtEndOf}
 use Rattle.fort_turns.proofs.Idle.{nobody_goes, open_no_end, value_stays}
 use Rattle.fort_turns.proofs.Begins.{sweep_begins}
 use Rattle.fort_turns.proofs.Giving.{come_reached}

@@ -1,9 +1,9 @@
 -- Where moves lead.
-use Rattle.std.proofs.Common.{◌≡◌, ℕ, Bool, true, false, List, [], ◌∷◌, refl, ap, sym, ◌∙◌, subst}
+use Rattle.std.proofs.Common.{◌≡◌, List, refl, sym, subst}
 use Rattle.fort_core.specs.declared.form.Mode.{Mode}
 use Rattle.fort_core.specs.declared.program.Program.{Program}
 use Rattle.fort_core.specs.declared.term.Term.{Term}
-use Rattle.fort_machine.specs.Attempts.{Form, goes}
+use Rattle.fort_machine.specs.Attempts.{Form}
 use Rattle.fort_machine.specs.Ends.{group}
 use Rattle.fort_frames.specs.Frames.{frames, rebuilt}
 use Rattle.fort_frames.specs.States.{term_at}
@@ -21,7 +21,7 @@ use Rattle.fort_moves.specs.declared.turn.Ready.{Ready}
 use Rattle.fort_moves.specs.declared.turn.Stop.{Stop}
 use Rattle.fort_moves.specs.declared.turn.Stop.TheVariants as stop
 use Rattle.fort_carry.specs.declared.course.Course.{Course}
-use Rattle.fort_carry.specs.Courses.{StandsAt, around}
+use Rattle.fort_carry.specs.Courses.{around}
 use Rattle.fort_turns.specs.declared.sweep.Sweep.{Sweep}
 use Rattle.fort_turns.specs.Idles.{IsAtForm, IsAtPlace, IsAtThread, IsAtEndOf}
 use Rattle.fort_turns.proofs.Idle.{idles_on}

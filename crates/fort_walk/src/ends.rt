@@ -8,17 +8,18 @@ ghost use Rattle.fort_carry.specs.Courses.{HasCome};
 ghost use Rattle.fort_turns.specs.Idles.{Follows, IsAtEndOf};
 
 use fort_base::{Memory, Shared};
-use fort_carry::{Course, Going};
+use fort_carry::{Execution, Going};
 use fort_core::{Program, Term, Value};
 use fort_frames::{At, Place, State};
 use fort_turns::{Next, Sweep, Walked, Walking, closed};
 use std::alloc::Global;
 
 /// The whole term of the innermost machine is finished, or each thread of it was passed.
+#[inline(never)]
 pub fn at_end(
     alloc: Global,
     program: &Program,
-    course: Course,
+    course: Execution,
     sweep: Sweep,
     at: At,
 ) -> Result<Next, Memory>
@@ -33,7 +34,13 @@ pub fn at_end(
     }
 }
 
-fn at_value(alloc: Global, program: &Program, course: Course, value: Value) -> Result<Next, Memory>
+#[inline(never)]
+fn at_value(
+    alloc: Global,
+    program: &Program,
+    course: Execution,
+    value: Value,
+) -> Result<Next, Memory>
     requires { HasCome program.now course (goes (Term.Value value)) }
     ensures { IfOk result (Follows program.now course.fuel) }
 {
@@ -52,7 +59,13 @@ fn at_value(alloc: Global, program: &Program, course: Course, value: Value) -> R
     }
 }
 
-fn at_throw(alloc: Global, program: &Program, course: Course, thrown: Value) -> Result<Next, Memory>
+#[inline(never)]
+fn at_throw(
+    alloc: Global,
+    program: &Program,
+    course: Execution,
+    thrown: Value,
+) -> Result<Next, Memory>
     requires { HasCome program.now course (goes (throw_of thrown)) }
     ensures { IfOk result (Follows program.now course.fuel) }
 {
@@ -76,7 +89,14 @@ fn is_unit(value: &Value) -> bool
 
 // Another sweep: from the left end of the term, where picks were taken since its last one; with
 // the sleepers, where all sleep; else nobody goes on.
-fn again(alloc: Global, program: &Program, course: Course, sweep: Sweep, term: Shared<Term>) -> Next
+#[inline(never)]
+fn again(
+    alloc: Global,
+    program: &Program,
+    course: Execution,
+    sweep: Sweep,
+    term: Shared<Term>,
+) -> Next
     requires { IsAtEndOf program.now course sweep (a_place.Left term) }
     ensures { Follows program.now course.fuel result }
 {

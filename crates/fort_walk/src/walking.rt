@@ -44,7 +44,7 @@ fn go(alloc: Global, program: &Program, walking: Walking) -> Result<Next, Memory
 {
     let Walking { going, sweep } = walking;
     let Going { course, state } = going;
-    match moved(alloc, course.clock, state)? {
+    match moved(alloc, course.clock(), state)? {
         Stop::Steps(place, ready) => at_thread(alloc, program, course, sweep, place, ready),
         Stop::Groups(place, parts) => {
             let form = Shared::new(alloc, group(alloc, parts)?)?;
