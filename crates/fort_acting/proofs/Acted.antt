@@ -1,5 +1,5 @@
 -- What the code says that a form does is what it does.
-use Rattle.std.proofs.Common.{◌≡◌, ◌≢◌, ℕ, Bool, true, false, List, [], ◌∷◌, Option, Some, None, refl, ap, sym, ◌∙◌, subst, ◌⊎◌, inl, inr}
+use Rattle.std.proofs.Common.{◌≡◌, ℕ, Bool, List, Option, Some, None, refl, ap, sym, ◌∙◌, subst, ◌⊎◌, inl, inr}
 use Rattle.std.specs.Prelude.{slice_get}
 use Rattle.fort_base.specs.declared.ids.DeclId.{DeclId}
 use Rattle.fort_base.specs.declared.ids.SetId.{SetId}
@@ -15,7 +15,7 @@ use Rattle.fort_machine.specs.Primitives.{Answer, answer_of, gives, makes_text, 
 use Rattle.fort_machine.specs.Acts.{Act, stuck, calls, throwing, throws_object, single}
 use Rattle.fort_machine.specs.Acts as acts
 use Rattle.fort_machine.specs.Calls.{Dispatches, by_body, by_answer, constructing}
-use Rattle.fort_machine.specs.Effects.{Effect, Store, FitsAll}
+use Rattle.fort_machine.specs.Effects.{Effect}
 use Rattle.fort_machine.specs.Forms.{act}
 use Rattle.fort_machine.specs.Steps.{Acts, by_itself, by_call, Does, Local, steps}
 use Rattle.fort_deal.specs.Deals.{act_of}

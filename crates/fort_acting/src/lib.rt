@@ -7,4 +7,4 @@ mod made;
 mod thread;
 
 pub use made::{made_by, makes_count, new_values, next_by};
-pub use thread::acting;
+pub use thread::{acting, acting_by};

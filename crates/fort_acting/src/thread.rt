@@ -3,19 +3,25 @@ ghost use Rattle.std.specs.Prelude.{◌≡◌, IfOk};
 ghost use Rattle.fort_machine.specs.Forms.{act};
 ghost use Rattle.fort_deal.specs.Deals.{act_of};
 ghost use Rattle.fort_moves.specs.Turns.{ready_term};
-ghost use Rattle.fort_acting.specs.Only.{IsDealt};
+ghost use Rattle.fort_disp.specs.Rows.{MayPick};
+ghost use Rattle.fort_acting.specs.Only.{CallsRun, IsDealt};
 
 use crate::made::share_values;
 use fort_base::Memory;
 use fort_core::Program;
 use fort_deal::Deal;
+use fort_disp::Tables;
 use fort_moves::Ready;
-use fort_rows_calls::called;
+use fort_rows_calls::{called, called_by};
 use fort_steps::{deal_at_throw, deal_at_value, deal_of, deal_of_node, deal_of_operands};
 use std::alloc::Global;
 
 /// What a thread's form does, and for a call what the declaration does that it runs; nothing where
-/// the call runs none.
+/// the call runs none. Every declaration is asked.
+///
+/// # Errors
+///
+/// `Memory` where memory is wanting.
 pub fn acting(alloc: Global, program: &Program, ready: &Ready) -> Result<Deal, Memory>
     ensures { IfOk result (IsDealt program.now (ready_term ready.now)) }
 {
@@ -24,6 +30,22 @@ pub fn acting(alloc: Global, program: &Program, ready: &Ready) -> Result<Deal, M
             None => Ok(Deal::Stuck),
             Some(deal) => Ok(deal),
         },
+        other => Ok(other),
+    }
+}
+
+/// The same of a form that is no call or runs a declaration, which is found by the program's tables.
+///
+/// # Errors
+///
+/// `Memory` where memory is wanting.
+pub fn acting_by(alloc: Global, tables: &Tables, ready: &Ready) -> Result<Deal, Memory>
+    requires tables { MayPick tables.now }
+    requires runs { CallsRun tables.now.program.now (ready_term ready.now) }
+    ensures { IfOk result (IsDealt tables.now.program.now (ready_term ready.now)) }
+{
+    match deal(alloc, tables.program, ready)? {
+        Deal::Calls(set, values) => called_by(alloc, tables, set, &values),
         other => Ok(other),
     }
 }

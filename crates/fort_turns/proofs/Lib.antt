@@ -7,3 +7,4 @@ pub mod Trying
 pub mod Giving
 pub mod Begins
 pub mod Dealing
+pub mod Running

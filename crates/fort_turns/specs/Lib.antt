@@ -1,3 +1,4 @@
+pub mod Defined
 pub mod Stops
 pub mod Walks
 pub mod Idles

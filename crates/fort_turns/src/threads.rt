@@ -12,39 +12,46 @@ ghost use Rattle.fort_machine.specs.Written.{WrittenProgram};
 ghost use Rattle.fort_moves.specs.Turns.{IsMade, ready_term};
 ghost use Rattle.fort_carry.specs.Calls.{MayStep, PassesAt};
 ghost use Rattle.fort_acting.specs.Only.{IsDealt, OnlyDoes};
+ghost use Rattle.fort_disp.specs.Rows.{MayPick};
+ghost use Rattle.fort_turns.specs.Defined.{AlwaysOne};
 ghost use Rattle.fort_turns.specs.Idles.{Follows, IsAtThread, TouchesStore};
 
 use crate::attempts::abort;
 use crate::next::{Next, left, picked};
 use crate::sweep::Sweep;
 use crate::walked::Walked;
-use fort_acting::{acting, made_by, makes_count, new_values, next_by};
+use fort_acting::{acting_by, made_by, makes_count, new_values, next_by};
 use fort_base::{Bytes, List, Loc, Memory, Shared};
 use fort_carry::Execution;
 use fort_core::{Program, Term, Value};
 use fort_deal::{Deal, Goes, Makes};
+use fort_disp::Tables;
 use fort_frames::Place;
 use fort_moves::Ready;
 use std::alloc::Global;
 
-/// A thread takes its step, or its turn is over, or it has no step.
+/// A thread takes its step, or its turn is over, or it has no step. A call's declaration is found by
+/// the program's tables.
 pub fn at_thread(
     alloc: Global,
-    program: &Program,
+    tables: &Tables,
     course: Execution,
     sweep: Sweep,
     place: Place,
     ready: Ready,
 ) -> Result<Next, Memory>
-    requires written { WrittenProgram program.now }
-    requires thread { IsAtThread program.now course sweep place (ready_term ready) }
+    requires written { WrittenProgram tables.now.program.now }
+    requires tables { MayPick tables.now }
+    requires one { AlwaysOne tables.now.program.now }
+    requires thread { IsAtThread tables.now.program.now course sweep place (ready_term ready) }
     requires made { IsMade ready }
-    ensures { IfOk result (Follows program.now course.fuel) }
+    ensures { IfOk result (Follows tables.now.program.now course.fuel) }
 {
+    let program = tables.program;
     if sweep.is_over(&place) {
         return Ok(left(program, course, sweep.passed(), place, ready.term(alloc)?));
     }
-    let deal = acting(alloc, program, &ready)?;
+    let deal = acting_by(alloc, tables, &ready)?;
     dealt(alloc, program, course, sweep, place, ready, deal)
 }
 

@@ -15,7 +15,7 @@ at_thread-requires-clause-made c = (steps_at _ _ _ c.args.walking.going.state _ 
 
 pub at_form-requires : goal.at_form-requires
 at_form-requires c =
-    subst (λ (a : Term). IsAtPlace c.args.program.now c.args.walking.going.course c.args.walking.sweep c.in-Groups.place a) (sym (c.in_ok-form-in-Groups.ensures ∙ c.in_ok-group-in-Groups.ensures))
+    subst (λ (a : Term). IsAtPlace c.args.tables.now.program.now c.args.walking.going.course c.args.walking.sweep c.in-Groups.place a) (sym (c.in_ok-form-in-Groups.ensures ∙ c.in_ok-group-in-Groups.ensures))
     (groups_at _ _ _ c.args.walking.going.state _ _ _ c.requires.walking (rw c.clock.ensures at c.in_ok-place.ensures.stops) c.in_ok-place.ensures.sweeps c.in-Groups.is)
 
 pub at_atomic-requires-clause-form : goal.at_atomic-requires-clause-form
