@@ -7,9 +7,11 @@ use Rattle.fort_machine.specs.Frames.{Frame}
 use Rattle.fort_typed.specs.Goes as typed
 use Rattle.fort_typed.specs.Goes.{SomeoneMayGo}
 use Rattle.fort_typed.specs.Sound.{StaysTyped}
+use Rattle.fort_typed.specs.Typing.{is_told}
+use Rattle.fort_typed.proofs.Accepted.{facts}
 use Rattle.fort_turns.specs.Stops.{MayGo, steps_on, aborts_here, tries, IsStuck, CannotGiveUp, StopsShort, stuck, cannot_give_up}
 use Rattle.fort_sound.specs.Accepted.{IsFounded, AcceptedIsSound}
-use Rattle.fort_never.specs.Never.{AcceptedNeverStops}
+use Rattle.fort_never.specs.Never.{AcceptedGoesThrough, AcceptedNeverStops}
 use Rattle.fort_never.proofs.Ends.{is_at_end}
 
 -- A thread that may go on by the words of fort_typed may so by those of the walk.
@@ -35,3 +37,7 @@ module _ (stays : StaysTyped) (someone : SomeoneMayGo) (p : Program) (founded : 
 
 pub accepted_never : AcceptedIsSound → StaysTyped → SomeoneMayGo → AcceptedNeverStops
 accepted_never sound stays someone bytes tokens p file is stops = never_short stays someone p (sound bytes tokens p file is) stops
+
+-- The rows of a sound program go through a third type.
+pub goes_through : AcceptedIsSound → AcceptedGoesThrough
+goes_through sound bytes tokens p file is a b c x y = (facts p (sound bytes tokens p file is).sound).absorbs a b c (is_told x) y

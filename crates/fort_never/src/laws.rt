@@ -1,4 +1,4 @@
-ghost use Rattle.fort_never.specs.Never.{AcceptedNeverStops};
+ghost use Rattle.fort_never.specs.Never.{AcceptedGoesThrough, AcceptedNeverStops};
 
 use fort_sound::accepted_is_sound;
 use fort_typed::{someone_may_go, stays_typed};
@@ -11,4 +11,13 @@ pub fn accepted_never_stops()
     accepted_is_sound();
     stays_typed();
     someone_may_go();
+}
+
+/// A law: in the program of an accepted file a type below one that is below a third is below the
+/// third, as a machine asks that finds its declarations by tables. The chapter is "Dispatch" of
+/// docs/SOUNDNESS.md.
+pub fn accepted_goes_through()
+    ensures { AcceptedGoesThrough }
+{
+    accepted_is_sound();
 }

@@ -1,8 +1,9 @@
-//! No run of the program of an accepted file stops short of its end.
+//! What a machine takes of the program of an accepted file: no run of it stops short of its end, and
+//! below goes through a third type.
 //!
-//! Nothing is computed here. The function names a law by its clause.
+//! Nothing is computed here. Each function names a law by its clause.
 #![tactic(auto)]
 
 mod laws;
 
-pub use laws::accepted_never_stops;
+pub use laws::{accepted_goes_through, accepted_never_stops};

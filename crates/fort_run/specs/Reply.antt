@@ -1,6 +1,6 @@
 -- What a call means to say. It restates the chapters "The command line" and "Statuses and notes" of docs/LANGUAGE.md.
 -- The code finds the reply by reading in pieces; the words below speak of whole files.
-use Rattle.std.specs.Prelude.{◌≡◌, ℕ, Bool, ◌*◌, ◌<◌, ◌≤◌, List, [], ◌∷◌, ◌++◌, codes, length}
+use Rattle.std.specs.Prelude.{◌≡◌, ℕ, ◌*◌, ◌<◌, ◌≤◌, List, [], ◌∷◌, ◌++◌, codes, length}
 use Rattle.fort_audit.specs.Audits.{Audits}
 use Rattle.fort_audit.specs.Notes.{note_of}
 use Rattle.fort_audit.specs.declared.answer.Audited.{Audited}
@@ -23,12 +23,11 @@ use Rattle.fort_core.specs.declared.journal.Ending.TheVariants.{NotRun, Complete
 use Rattle.fort_core.specs.declared.journal.Journal.{Journal}
 use Rattle.fort_core.specs.declared.program.Program.{Program}
 use Rattle.fort_core.specs.declared.term.Term.{Term}
-use Rattle.fort_machine.specs.Effects.{Store, Effect}
+use Rattle.fort_machine.specs.Effects.{Effect}
 use Rattle.fort_machine.specs.Journals.{Records}
-use Rattle.fort_machine.specs.OneDefinition.{IsOne}
-use Rattle.fort_machine.specs.Proper.{Reached}
 use Rattle.fort_record.specs.Text.{IsFormFault, IsRecordText, record_text}
 use Rattle.fort_record.specs.declared.reading.Record as a_record
+use Rattle.fort_turns.specs.Defined.{AlwaysOne}
 use Rattle.fort_diag.specs.Notes.{usage, read_fault, too_large, out_of_fuel, uncaught, refusal}
 
 -- A status, what is for standard output, what is for standard error, and the journal of a run.
@@ -86,11 +85,6 @@ TellsEnding p NotRun status note = ⊥
 TellsEnding p Completed status note = (status ≡ 0) × (note ≡ [])
 TellsEnding p (Uncaught v) status note = (status ≡ 5) × (note ≡ uncaught p v)
 TellsEnding p (OutOfFuel pick) status note = (status ≡ 6) × (note ≡ out_of_fuel)
-
--- Wherever a machine of a program comes to, the root's or an attempt's at any depth, each call of values has exactly one most specific applicable declaration, and
--- that one isn't abstract. So it is in each term of a run.
-abbrev pub AlwaysOne : Program → Type 0
-AlwaysOne p = (inner : Bool) (s : Store) (t : Term) → Reached p inner s t → IsOne p t
 
 -- The reply tells a run of a program with this fuel: its journal is the run's, what is written is of that journal and what the run printed, and status and note
 -- tell how the run ended; and in each of its terms each call has its one declaration.

@@ -7,8 +7,10 @@ ghost use Rattle.fort_lex.specs.Files.{HasTokens};
 ghost use Rattle.fort_machine.specs.Written.{WrittenProgram};
 ghost use Rattle.fort_matched.specs.Component.{StandApart};
 ghost use Rattle.fort_carry.specs.Calls.{IsRun};
+ghost use Rattle.fort_disp.specs.Rows.{GoesThrough};
+ghost use Rattle.fort_turns.specs.Defined.{AlwaysOne};
 ghost use Rattle.fort_turns.specs.Stops.{StopsShort};
-ghost use Rattle.fort_run.specs.Reply.{RunSays, AlwaysOne, TellsEnding, TellsRun, file_limit, its_output};
+ghost use Rattle.fort_run.specs.Reply.{RunSays, TellsEnding, TellsRun, file_limit, its_output};
 ghost use Rattle.fort_run.specs.Said.{said, status_of, note_of};
 
 use crate::answer::{Answer, Told, refused_by};
@@ -16,9 +18,10 @@ use fort_apart::tokens_stand_apart;
 use fort_base::{Bytes, Memory};
 use fort_core::{Ending, Program};
 use fort_diag::uncaught;
+use fort_disp::tables;
 use fort_front::{accepted_is_written, check};
 use fort_lex::{Tokens, tokens};
-use fort_never::accepted_never_stops;
+use fort_never::{accepted_goes_through, accepted_never_stops};
 use fort_sound::accepted_runs_well;
 use fort_walk::{Ran, Walked, walk};
 use std::alloc::Global;
@@ -37,6 +40,7 @@ pub(crate) fn run_file(
 {
     tokens_stand_apart();
     accepted_never_stops();
+    accepted_goes_through();
     accepted_runs_well();
     match tokens(alloc, file.as_slice()) {
         Ok(tokens) => formed(alloc, name, &tokens, fuel),
@@ -49,6 +53,7 @@ fn formed(alloc: Global, name: Bytes, tokens: &Tokens, fuel: u64) -> Result<Answ
     requires apart { StandApart tokens.now.list }
     requires never { (p : Program) → IsAccepted tokens.now p → StopsShort p → ⊥ }
     requires one { (p : Program) → IsAccepted tokens.now p → AlwaysOne p }
+    requires through { (p : Program) → IsAccepted tokens.now p → GoesThrough p }
     ensures { IfOk result (λ a. (file : Seq ℕ) → HasTokens file tokens.now → RunSays its_output name file fuel (said a)) }
 {
     accepted_is_written();
@@ -58,14 +63,17 @@ fn formed(alloc: Global, name: Bytes, tokens: &Tokens, fuel: u64) -> Result<Answ
     }
 }
 
-/// What is to say of a component's program: it runs, to its end.
+/// What is to say of a component's program: it runs, to its end. Its calls' declarations are found by
+/// its tables.
 fn run_program(alloc: Global, program: &Program, fuel: u64) -> Result<Answer, Memory>
     requires written { WrittenProgram program.now }
     requires never { StopsShort program.now → ⊥ }
     requires one { AlwaysOne program.now }
+    requires through { GoesThrough program.now }
     ensures { IfOk result (λ a. TellsRun its_output program.now fuel (said a)) }
 {
-    match walk(alloc, program, fuel)? {
+    let tables = tables(alloc, program)?;
+    match walk(alloc, &tables, fuel)? {
         Walked::Ran(ran) => told(alloc, program, fuel, ran),
         Walked::Stuck => unreachable!(),
     }

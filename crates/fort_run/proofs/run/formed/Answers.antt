@@ -8,6 +8,7 @@ run_program-requires c = record {
   written = c.accepted_is_written.ensures c.args.tokens.now c.in-Ok.program c.requires.apart c.in-Ok.ensures;
   never = c.requires.never c.in-Ok.program c.in-Ok.ensures;
   one = c.requires.one c.in-Ok.program c.in-Ok.ensures;
+  through = c.requires.through c.in-Ok.program c.in-Ok.ensures;
 }
 
 pub returns-in-Ok : goal.returns-in-Ok

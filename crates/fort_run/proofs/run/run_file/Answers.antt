@@ -11,6 +11,7 @@ formed-requires c =
       apart = c.tokens_stand_apart.ensures c.args.file.now c.in-Ok.tokens has;
       never = λ p is. c.accepted_never_stops.ensures c.args.file.now c.in-Ok.tokens p has is;
       one = λ p is inner s t reached. (c.accepted_runs_well.ensures c.args.file.now c.in-Ok.tokens p has is inner s t reached).one;
+      through = λ p is. c.accepted_goes_through.ensures c.args.file.now c.in-Ok.tokens p has is;
     }
 
 pub returns-in-Ok : goal.returns-in-Ok
