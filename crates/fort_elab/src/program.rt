@@ -9,49 +9,29 @@ ghost use Rattle.fort_translation.specs.Read.{given_of};
 use crate::bodies::bodies;
 use crate::declarations::declarations;
 use crate::sets::core_sets;
-use fort_base::{Bytes, List, Memory, SetId, Shared, TypeTable};
+use fort_base::{Bytes, List, Memory, SetId, Shared};
 use fort_builtin::BUILT_IN;
 use fort_core::{CoreDecl, Program, Term};
 use fort_hier::Hierarchy;
-use fort_known::{Known as Facts, set_of};
+use fort_known::set_among;
 use fort_set::Members;
 use fort_shapes::{opening, opening_types, shapes};
 use fort_translation::Known;
 use fort_typed_form::Typed;
 use std::alloc::Global;
 
-/// The set of a function's name and number of parameters, among those of a component with these
-/// types.
-#[tactic(auto, unfolding(fort_known::specs::Sets::set_of))]
-fn function_set(
-    table: &TypeTable,
-    types: &[Bytes],
-    members: &Members,
-    name: &[u8],
-    width: usize,
-) -> Result<SetId, Memory>
+/// The set of a function's name and number of parameters.
+fn function_set(members: &Members, name: &[u8], width: usize) -> Result<SetId, Memory>
     ensures { IfOk result (λ set. set ≡ function_set members.now name.now width) }
 {
-    let facts = Facts {
-        table,
-        types,
-        names: &[],
-        members,
-        owner: None,
-    };
-    set_of(&facts, name, false, width)
+    set_among(members.sets.as_slice(), name, false, width)
 }
 
 /// The call of `run` without arguments.
-fn first_term(
-    alloc: Global,
-    table: &TypeTable,
-    types: &[Bytes],
-    members: &Members,
-) -> Result<Shared<Term>, Memory>
+fn first_term(alloc: Global, members: &Members) -> Result<Shared<Term>, Memory>
     ensures { IfOk result (λ term. term ≡ Call (function_set members.now (codes "run") 0) []) }
 {
-    let set = function_set(table, types, members, b"run", 0)?;
+    let set = function_set(members, b"run", 0)?;
     Shared::new(alloc, Term::Call(set, List::new(alloc)))
 }
 
@@ -93,14 +73,14 @@ pub fn elaborate(
     let initials = typed.initials.as_slice();
     let variables = members.variables.as_slice();
     let shapes = shapes(alloc, texts, initials, members)?;
-    let widen = function_set(&table, names.as_slice(), members, b"widen", 1)?;
+    let widen = function_set(members, b"widen", 1)?;
     let known = Known {
         texts,
         shapes: shapes.as_slice(),
         widen,
     };
     let decls = declared(alloc, &known, members, typed)?;
-    let first = first_term(alloc, &table, names.as_slice(), members)?;
+    let first = first_term(alloc, members)?;
     let opening = opening(alloc, texts, initials, variables, shapes.as_slice())?;
     let opening_types = opening_types(alloc, variables, shapes.as_slice())?;
     let sets = core_sets(alloc, members.sets.as_slice())?;

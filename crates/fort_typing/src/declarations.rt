@@ -45,9 +45,8 @@ pub fn judged_body(
 {
     let within = Known {
         table: known.table,
-        types: known.types,
         names: known.names,
-        members: known.members,
+        index: known.index,
         owner: form.owner,
     };
     body(

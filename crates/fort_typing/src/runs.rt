@@ -36,7 +36,7 @@ pub fn has_run(known: &Known) -> Result<bool, Memory>
     ensures { IfOk result (λ it. it ≡ has_run (facts known.now)) }
 {
     let set = set_of(known, b"run", false, 0)?;
-    match known.members.sets.get(set.0 as usize) {
+    match known.index.members.sets.get(set.0 as usize) {
         Some(found) => Ok(any_unit(found.members.as_slice())),
         None => Ok(false),
     }

@@ -1,15 +1,15 @@
 //! Typing of a component.
-ghost use Rattle.std.specs.Prelude.{◌≡◌, IfOk, IfErr, Ok};
+ghost use Rattle.std.specs.Prelude.{◌≡◌, IfOk, IfErr, Ok, None};
 ghost use Rattle.fort_typing_whole.specs.Whole.{typed_whole};
 ghost use Rattle.fort_typing.specs.Typing.{facts_of, IsFault};
 
 use crate::progress::Progress;
 use crate::runs::has_run;
 use fort_base::rules::NO_RUN;
-use fort_base::{Bytes, CheckFault};
+use fort_base::{Bytes, CheckFault, TypeTable};
 use fort_form::Forms;
 use fort_hier::Hierarchy;
-use fort_known::Known;
+use fort_known::{Index, Known, index_of};
 use fort_set::Members;
 use fort_typed_form::Typed;
 use std::alloc::Global;
@@ -23,22 +23,36 @@ use std::alloc::Global;
 ///
 /// Of the rules 601 to 614 that the component breaks the one at the earliest place, and of several
 /// at one place the lowest; 609 only where it breaks no other. `Memory` where memory is wanting.
-#[tactic(auto, unfolding(fort_typing_whole::specs::Whole::typed_whole))]
-pub fn typed(
+pub fn typed<'a>(
     alloc: Global,
     names: &[Bytes],
     forms: &Forms,
-    hierarchy: &Hierarchy,
-    members: &Members,
+    hierarchy: &'a Hierarchy,
+    members: &'a Members,
 ) -> Result<Typed, CheckFault>
     ensures ok { IfOk result (λ it. typed_whole (facts_of names.now hierarchy.now members.now) forms.now ≡ Ok it) }
     ensures fault { IfErr result (λ fault. IsFault (facts_of names.now hierarchy.now members.now) forms.now fault) }
 {
+    let index = index_of(alloc, hierarchy.names.as_slice(), members)?;
+    typed_by(alloc, names, forms, &hierarchy.table, &index)
+}
+
+/// The same with the table of the declared types, and the index by name.
+#[tactic(auto, unfolding(fort_typing_whole::specs::Whole::typed_whole))]
+fn typed_by(
+    alloc: Global,
+    names: &[Bytes],
+    forms: &Forms,
+    table: &TypeTable,
+    index: &Index,
+) -> Result<Typed, CheckFault>
+    ensures ok { IfOk result (λ it. typed_whole (record { table = table.now; types = index.now.types.now; names = names.now; members = index.now.members.now; owner = None }) forms.now ≡ Ok it) }
+    ensures fault { IfErr result (λ fault. IsFault (record { table = table.now; types = index.now.types.now; names = names.now; members = index.now.members.now; owner = None }) forms.now fault) }
+{
     let known = Known {
-        table: &hierarchy.table,
-        types: hierarchy.names.as_slice(),
+        table,
         names,
-        members,
+        index,
         owner: None,
     };
     let mut progress = Progress::begin(alloc);

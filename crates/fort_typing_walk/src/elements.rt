@@ -237,7 +237,9 @@ pub fn takes(known: &Known, typed: &TypedForm) -> bool
 {
     match typed {
         TypedForm::Local(_, _, mutable) => *mutable,
-        TypedForm::Top(_, number) => is_mutable(known.members.variables.get(*number as usize)),
+        TypedForm::Top(_, number) => is_mutable(
+            known.index.members.variables.get(*number as usize),
+        ),
         TypedForm::ReadField(_, object, name) => match type_of(object.get()) {
             Ty::Named(ty) => is_mutable(field_of(known, *ty, *name)),
             _ => false,
