@@ -1,11 +1,10 @@
 -- The commands that words are.
-use Rattle.std.proofs.Common.{◌≡◌, ℕ, ◌+◌, List, [], ◌∷◌, length, get_or, refl, ap, sym, ◌∙◌, subst, false, Result, IfOk, IfErr}
+use Rattle.std.proofs.Common.{◌≡◌, ℕ, ◌+◌, List, [], ◌∷◌, length, get_or, refl, ap, sym, ◌∙◌, subst, false}
 use Rattle.std.proofs.lemmas.Bool.{eqb-false}
 use Rattle.std.specs.Prelude.{codes, nat_eq, unwrap_or}
-use Rattle.fort_cmd.specs.declared.command.CmdFault.{CmdFault}
 use Rattle.fort_cmd.specs.declared.command.Command.{Command}
 use Rattle.fort_cmd.specs.declared.command.Command.TheVariants.{Check, Show, Run, Bench, Record, Audit}
-use Rattle.fort_cmd.specs.Words.{IsNumber, Given, nothing, Gives, only, AsksRun, AsksBank, word_of, Asks, IsCommand, IsNoCommand, Explains, OneCommand, default_workers, default_fuel, most_accounts}
+use Rattle.fort_cmd.specs.Words.{IsNumber, Given, nothing, Gives, only, AsksRun, AsksBank, word_of, Asks, IsNoCommand, OneCommand, default_workers, default_fuel, most_accounts}
 use Rattle.fort_cmd.proofs.Parts.{one_given}
 
 -- ---- the commands' own words
@@ -20,7 +19,7 @@ same_behind one two ws rest e = cc
 abbrev sum_of : List ℕ → ℕ
 sum_of word = length word + get_or word 0 0
 
-unlike : (one two : List ℕ) → nat_eq (sum_of one) (sum_of two) ≡ false → one ≡ two → ⊥
+pub unlike : (one two : List ℕ) → nat_eq (sum_of one) (sum_of two) ≡ false → one ≡ two → ⊥
 unlike one two d e = eqb-false (sum_of one) (sum_of two) d (ap sum_of e)
 
 -- ---- no command of a word
@@ -28,42 +27,6 @@ unlike one two d e = eqb-false (sum_of one) (sum_of two) d (ap sum_of e)
 none_asked : (word : List ℕ) (ws : List (List ℕ)) → ((c : Command) → word ≡ word_of c → Asks ws c → ⊥) → IsNoCommand (word ∷ ws)
 none_asked word ws none c is =
     none c (same_word word (word_of c) ws is.behind is.words_are) (subst (λ x. Asks x c) (same_behind word (word_of c) ws is.behind is.words_are) is.asks)
-
-pub no_check_command : (ws : List (List ℕ)) → ((file : List ℕ) → Gives ws nothing (only (file ∷ [])) → ⊥)
-    → IsNoCommand (codes "check" ∷ ws)
-no_check_command ws none = none_asked (codes "check") ws go
-  where
-    go : (c : Command) → codes "check" ≡ word_of c → Asks ws c → ⊥
-    go (Check file) e x = none file x
-    go (Show file) e x = unlike (codes "check") (codes "show") refl e
-    go (Run file workers fuel) e x = unlike (codes "check") (codes "run") refl e
-    go (Bench n) e x = unlike (codes "check") (codes "bench") refl e
-    go (Record file workers fuel) e x = unlike (codes "check") (codes "record") refl e
-    go (Audit file kept) e x = unlike (codes "check") (codes "audit") refl e
-
-pub no_show_command : (ws : List (List ℕ)) → ((file : List ℕ) → Gives ws nothing (only (file ∷ [])) → ⊥)
-    → IsNoCommand (codes "show" ∷ ws)
-no_show_command ws none = none_asked (codes "show") ws go
-  where
-    go : (c : Command) → codes "show" ≡ word_of c → Asks ws c → ⊥
-    go (Check file) e x = unlike (codes "show") (codes "check") refl e
-    go (Show file) e x = none file x
-    go (Run file workers fuel) e x = unlike (codes "show") (codes "run") refl e
-    go (Bench n) e x = unlike (codes "show") (codes "bench") refl e
-    go (Record file workers fuel) e x = unlike (codes "show") (codes "record") refl e
-    go (Audit file kept) e x = unlike (codes "show") (codes "audit") refl e
-
-pub no_run_command : (ws : List (List ℕ)) → ((file : List ℕ) (workers fuel : ℕ) → AsksRun ws file workers fuel → ⊥)
-    → IsNoCommand (codes "run" ∷ ws)
-no_run_command ws none = none_asked (codes "run") ws go
-  where
-    go : (c : Command) → codes "run" ≡ word_of c → Asks ws c → ⊥
-    go (Check file) e x = unlike (codes "run") (codes "check") refl e
-    go (Show file) e x = unlike (codes "run") (codes "show") refl e
-    go (Run file workers fuel) e x = none file workers fuel x
-    go (Bench n) e x = unlike (codes "run") (codes "bench") refl e
-    go (Record file workers fuel) e x = unlike (codes "run") (codes "record") refl e
-    go (Audit file kept) e x = unlike (codes "run") (codes "audit") refl e
 
 pub no_bench_command : (ws : List (List ℕ)) → ((number : List ℕ) (n : ℕ) → Gives ws nothing (only (number ∷ [])) → IsNumber most_accounts number n → ⊥)
     → IsNoCommand (codes "bench" ∷ ws)
@@ -77,30 +40,6 @@ no_bench_command ws none = none_asked (codes "bench") ws go
     go (Record file workers fuel) e x = unlike (codes "bench") (codes "record") refl e
     go (Audit file kept) e x = unlike (codes "bench") (codes "audit") refl e
 
-pub no_record_command : (ws : List (List ℕ)) → ((file : List ℕ) (workers fuel : ℕ) → AsksRun ws file workers fuel → ⊥)
-    → IsNoCommand (codes "record" ∷ ws)
-no_record_command ws none = none_asked (codes "record") ws go
-  where
-    go : (c : Command) → codes "record" ≡ word_of c → Asks ws c → ⊥
-    go (Check file) e x = unlike (codes "record") (codes "check") refl e
-    go (Show file) e x = unlike (codes "record") (codes "show") refl e
-    go (Run file workers fuel) e x = unlike (codes "record") (codes "run") refl e
-    go (Bench n) e x = unlike (codes "record") (codes "bench") refl e
-    go (Record file workers fuel) e x = none file workers fuel x
-    go (Audit file kept) e x = unlike (codes "record") (codes "audit") refl e
-
-pub no_audit_command : (ws : List (List ℕ)) → ((file kept : List ℕ) → Gives ws nothing (only (file ∷ kept ∷ [])) → ⊥)
-    → IsNoCommand (codes "audit" ∷ ws)
-no_audit_command ws none = none_asked (codes "audit") ws go
-  where
-    go : (c : Command) → codes "audit" ≡ word_of c → Asks ws c → ⊥
-    go (Check file) e x = unlike (codes "audit") (codes "check") refl e
-    go (Show file) e x = unlike (codes "audit") (codes "show") refl e
-    go (Run file workers fuel) e x = unlike (codes "audit") (codes "run") refl e
-    go (Bench n) e x = unlike (codes "audit") (codes "bench") refl e
-    go (Record file workers fuel) e x = unlike (codes "audit") (codes "record") refl e
-    go (Audit file kept) e x = none file kept x
-
 same_file : (a b : List ℕ) → only (a ∷ []) ≡ only (b ∷ []) → a ≡ b
 same_file a b e = let z : a ∷ [] ≡ b ∷ [] = ap (λ (g : Given). g.files) e in cc
 
@@ -109,33 +48,6 @@ pub without_number : (ws : List (List ℕ)) (number : List ℕ) → Gives ws not
     → IsNoCommand (codes "bench" ∷ ws)
 without_number ws number x none = no_bench_command ws (λ other n y is.
     none n (subst (λ w. IsNumber most_accounts w n) (sym (same_file number other (one_given ws nothing (only (number ∷ [])) (only (other ∷ [])) x y))) is))
-
--- ---- a command of a word
-
-pub is_command : (c : Command) (ws : List (List ℕ)) → Asks ws c → IsCommand (word_of c ∷ ws) c
-is_command c ws x = record { behind = ws; words_are = refl; asks = x }
-
-pub is_bench_command : (ws : List (List ℕ)) (number : List ℕ) (n : ℕ) → Gives ws nothing (only (number ∷ [])) → IsNumber most_accounts number n
-    → IsCommand (codes "bench" ∷ ws) (Bench n)
-is_bench_command ws number n x is = is_command (Bench n) ws (record { number = number; gives = x; is = is })
-
--- ---- any word
-
-pub no_words : IsNoCommand []
-no_words c is = let z : [] ≡ word_of c ∷ is.behind = is.words_are in cc
-
-pub no_such_word : (word : List ℕ) (ws : List (List ℕ)) → (word ≡ codes "run" → ⊥) → (word ≡ codes "check" → ⊥) → (word ≡ codes "show" → ⊥)
-    → (word ≡ codes "bench" → ⊥) → (word ≡ codes "record" → ⊥) → (word ≡ codes "audit" → ⊥)
-    → IsNoCommand (word ∷ ws)
-no_such_word word ws no_run no_check no_show no_bench no_record no_audit = none_asked word ws go
-  where
-    go : (c : Command) → word ≡ word_of c → Asks ws c → ⊥
-    go (Check file) e x = no_check e
-    go (Show file) e x = no_show e
-    go (Run file workers fuel) e x = no_run e
-    go (Bench n) e x = no_bench e
-    go (Record file workers fuel) e x = no_record e
-    go (Audit file kept) e x = no_audit e
 
 -- ---- one command at most
 
@@ -205,13 +117,3 @@ one_command words a b p q =
     let e : word_of a ∷ p.behind ≡ word_of b ∷ q.behind = sym p.words_are ∙ q.words_are in
     same_asked p.behind a b (same_word (word_of a) (word_of b) p.behind q.behind e) p.asks
     (subst (λ ws. Asks ws b) (same_behind (word_of a) (word_of b) p.behind q.behind e) q.asks)
-
--- What is a command of words is one of the same words.
-pub same_words : (r : Result Command CmdFault) (ws rest : List (List ℕ)) (word shown name : List ℕ) → ws ≡ word ∷ rest → shown ≡ word → shown ≡ name
-    → IfOk r (IsCommand (name ∷ rest)) → IfOk r (IsCommand ws)
-same_words r ws rest word shown name e q p k = subst (λ x. IfOk r (IsCommand x)) (ap (λ w. w ∷ rest) (sym p ∙ q) ∙ sym e) k
-
--- What is none is none of the same words.
-pub same_fault : (r : Result Command CmdFault) (ws rest : List (List ℕ)) (word shown name : List ℕ) → ws ≡ word ∷ rest → shown ≡ word → shown ≡ name
-    → IfErr r (Explains (name ∷ rest)) → IfErr r (Explains ws)
-same_fault r ws rest word shown name e q p k = subst (λ x. IfErr r (Explains x)) (ap (λ w. w ∷ rest) (sym p ∙ q) ∙ sym e) k

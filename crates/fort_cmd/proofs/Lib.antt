@@ -1,6 +1,11 @@
-pub mod Splits
 pub mod Parts
-pub mod Options
-pub mod Loops
-pub mod Filed
 pub mod Commands
+pub mod Leaves
+pub mod Rows
+pub mod Looks
+pub mod Turns
+pub mod Complete
+pub mod Sound
+pub mod Top
+pub mod Matched
+pub mod Outcome

@@ -1,8 +1,9 @@
 -- The parts of words: words begin with one part at most, and give one thing at most.
-use Rattle.std.proofs.Common.{◌≡◌, ◌≢◌, ℕ, ◌+◌, ◌≤◌, List, [], ◌∷◌, ◌++◌, length, get_or, refl, ap, sym, ◌∙◌, subst, arith, inl, inr, true, false, length-append}
-use Rattle.std.specs.Prelude.{codes, nat_eq}
+use Rattle.std.proofs.Common.{◌≡◌, ℕ, ◌+◌, ◌≤◌, List, [], ◌∷◌, ◌++◌, length, get_or, refl, ap, sym, ◌∙◌, subst, arith, inl, inr, true, false, length-append}
+use Rattle.std.specs.Prelude.{codes, nat_eq, Some, None}
 use Rattle.std.specs.List.{starts_with}
-use Rattle.fort_cmd.specs.Words.{IsNumber, BeginsWith, InTwo, InOne, Choice, Workers, Fuel, name_of, most_of, NamesFile, Given, nothing, AddsFiles, AddsNumber, Adds, AddsMarked, AddsNamed, AddsOption, Gives, GivesNoMore, GivesPart}
+use Rattle.fort_cmd.specs.Words.{IsNumber, BeginsWith, InTwo, InOne, Choice, Workers, Fuel, name_of, most_of, NamesFile, Given, AddsFiles, AddsNumber, Adds, AddsMarked, AddsNamed, AddsOption, Gives, GivesNoMore, GivesPart}
+use Rattle.fort_cmd.specs.Line.{Kind, OfFile, OfRun, OfAudit, TakesOptions}
 
 -- ---- the first word
 
@@ -124,7 +125,7 @@ one_part ws before one two rest others (AddsOption choice n b a) (AddsNamed file
 one_part ws before one two rest others (AddsOption choice n b a) (AddsOption choice' m b' a') =
     two_options ws before one two rest others choice choice' n m b a b' a'
 
-no_part : (ws : List (List ℕ)) (before after : Given) (rest : List (List ℕ)) → Adds ws before after rest → ws ≡ [] → ⊥
+pub no_part : (ws : List (List ℕ)) (before after : Given) (rest : List (List ℕ)) → Adds ws before after rest → ws ≡ [] → ⊥
 no_part ws before after rest (AddsMarked files e r a) q = let z : [] ≡ codes "--" ∷ files = sym q ∙ e in cc
 no_part ws before after rest (AddsNamed file names e a) q = let z : [] ≡ file ∷ rest = sym q ∙ e in cc
 no_part ws before after rest (AddsOption choice n b a) q =
@@ -142,7 +143,7 @@ one_given ws before one two (GivesPart more rest p g) (GivesPart more' rest' p' 
 
 -- ---- files stay
 
-more_files : (before after : Given) (files : List (List ℕ)) → AddsFiles before files after → length before.files ≤ length after.files
+pub more_files : (before after : Given) (files : List (List ℕ)) → AddsFiles before files after → length before.files ≤ length after.files
 more_files before after files a =
     let l : length after.files ≡ length before.files + length files = ap (λ (g : Given). length g.files) a ∙ length-append before.files files in omega (arith, l)
 
@@ -155,36 +156,26 @@ files_stay_by ws before after rest (AddsMarked files e r a) = more_files before 
 files_stay_by ws before after rest (AddsNamed file names e a) = more_files before after (file ∷ []) a
 files_stay_by ws before after rest (AddsOption choice n b a) = as_many_files choice before after n a
 
-files_stay : (ws : List (List ℕ)) (before after : Given) → Gives ws before after → length before.files ≤ length after.files
+pub files_stay : (ws : List (List ℕ)) (before after : Given) → Gives ws before after → length before.files ≤ length after.files
 files_stay ws before after (GivesNoMore e a) = let l : length after.files ≡ length before.files = ap (λ (g : Given). length g.files) a in omega (arith, l)
 files_stay ws before after (GivesPart more rest p g) =
     omega (arith, files_stay_by ws before more rest p, files_stay rest more after g)
 
--- ---- what words from some place on give
+-- ---- options stay
 
--- What words give is what their rest gives beside what is given so far.
-abbrev pub Continues : List (List ℕ) → List (List ℕ) → Given → Type 0
-Continues ws rest now = (g : Given) → (Gives ws nothing g → Gives rest now g) × (Gives rest now g → Gives ws nothing g)
+no_option_by : (ws : List (List ℕ)) (before after : Given) (rest : List (List ℕ)) → Adds ws before after rest → (after.workers ≡ None) × (after.fuel ≡ None)
+    → (before.workers ≡ None) × (before.fuel ≡ None)
+no_option_by ws before after rest (AddsMarked files e r a) o = (sym (ap (λ (g : Given). g.workers) a) ∙ o.0, sym (ap (λ (g : Given). g.fuel) a) ∙ o.1)
+no_option_by ws before after rest (AddsNamed file names e a) o = (sym (ap (λ (g : Given). g.workers) a) ∙ o.0, sym (ap (λ (g : Given). g.fuel) a) ∙ o.1)
+no_option_by ws before after rest (AddsOption Workers n b a) o = let z : Some n ≡ None = sym (ap (λ (g : Given). g.workers) a.1) ∙ o.0 in absurd cc
+no_option_by ws before after rest (AddsOption Fuel n b a) o = let z : Some n ≡ None = sym (ap (λ (g : Given). g.fuel) a.1) ∙ o.1 in absurd cc
 
-pub begun : (ws : List (List ℕ)) → Continues ws ws nothing
-begun ws = λ g. (λ x. x, λ x. x)
+no_option : (ws : List (List ℕ)) (before after : Given) → Gives ws before after → (after.workers ≡ None) × (after.fuel ≡ None)
+    → (before.workers ≡ None) × (before.fuel ≡ None)
+no_option ws before after (GivesNoMore e a) o = (sym (ap (λ (g : Given). g.workers) a) ∙ o.0, sym (ap (λ (g : Given). g.fuel) a) ∙ o.1)
+no_option ws before after (GivesPart more rest p g) o = no_option_by ws before more rest p (no_option rest more after g o)
 
-pub gone_on : (ws rest : List (List ℕ)) (now more : Given) (behind : List (List ℕ)) → Continues ws rest now → Adds rest now more behind → Continues ws behind more
-gone_on ws rest now more behind k p = λ g. (λ x. go g ((k g).0 x), λ x. (k g).1 (GivesPart more behind p x))
-  where
-    go : (g : Given) → Gives rest now g → Gives behind more g
-    go g (GivesNoMore e a) = absurd (no_part rest now more behind p e)
-    go g (GivesPart other rest' p' h) =
-        let s = one_part rest now other more rest' behind p' p in subst (λ b. Gives behind b g) s.0 (subst (λ r. Gives r other g) s.1 h)
-
-pub stopped : (ws rest : List (List ℕ)) (now : Given) → Continues ws rest now
-    → ((after : Given) (behind : List (List ℕ)) → length after.files ≤ 2 → Adds rest now after behind → ⊥)
-    → rest ≢ [] → (g : Given) → length g.files ≤ 2 → Gives ws nothing g → ⊥
-stopped ws rest now k none some g l x = go ((k g).0 x)
-  where
-    go : Gives rest now g → ⊥
-    go (GivesNoMore e a) = some e
-    go (GivesPart more behind p h) = none more behind (omega (arith, l, files_stay behind more g h)) p
-
-pub ended : (ws rest : List (List ℕ)) (now : Given) → Continues ws rest now → rest ≡ [] → Gives ws nothing now
-ended ws rest now k e = (k now).1 (GivesNoMore e refl)
+pub options_stay : (kind : Kind) (ws : List (List ℕ)) (before after : Given) → Gives ws before after → TakesOptions kind after → TakesOptions kind before
+options_stay OfRun ws before after g o = tt
+options_stay OfFile ws before after g o = no_option ws before after g o
+options_stay OfAudit ws before after g o = no_option ws before after g o

@@ -1,12 +1,21 @@
 //! The commands.
-ghost use Rattle.std.specs.Prelude.{◌≡◌, ◌∷◌, map, codes, string_bytes, IfOk, IfErr};
-ghost use Rattle.fort_cmd.specs.Words.{Explains, IsCommand, file_of};
+ghost use Rattle.std.specs.Prelude.{◌≡◌, ◌≢◌, ◌∷◌, ◌↔◌, ℕ, List as Seq, Option, Some, unwrap_or, map, codes, string_bytes, IfOk, IfErr, IsTrue};
+ghost use Rattle.clap.specs.Words.{Row, found_of, kind_of, rows_of};
+ghost use Rattle.fort_cmd.specs.Words.{Explains, Fuel, IsCommand, Workers, default_fuel, default_workers, file_of};
+ghost use Rattle.fort_cmd.specs.Line.{FoundNumber, IsOf, Kind, OfFile, OfRun, OfAudit, Reads, row, row_of_id};
 ghost use Rattle.fort_cmd.specs.declared.command.CmdFault.TheVariants as a_fault;
 
-use crate::asked::{file_alone, run_asked, two_alone};
-use crate::word::{is_word, number_of};
+use crate::line::line;
+use clap::error::ErrorKind;
+use clap::{ArgMatches, Error};
 use fort_base::{Bytes, List, Memory};
-use std::alloc::Global;
+use std::alloc::{AllocError, Global};
+
+/// The workers of a run where no word gives them.
+const DEFAULT_WORKERS: u32 = 4;
+
+/// The fuel of a run where no word gives it.
+const DEFAULT_FUEL: u64 = 2_000_000;
 
 /// The most accounts of the bank.
 const MOST_ACCOUNTS: u32 = 10_000;
@@ -44,6 +53,14 @@ impl From<Memory> for CmdFault {
     }
 }
 
+impl From<AllocError> for CmdFault {
+    ghost from_gives = { λ _ fault. fault ≡ a_fault.Memory };
+
+    fn from(_error: AllocError) -> CmdFault {
+        CmdFault::Memory
+    }
+}
+
 impl Command {
     ghost use Rattle.std.specs.Prelude.{◌≡◌, option_map};
 
@@ -76,100 +93,127 @@ pub fn command_of(alloc: Global, words: &[String]) -> Result<Command, CmdFault>
     ensures ok { IfOk result (IsCommand (map string_bytes words.now)) }
     ensures cause { IfErr result (Explains (map string_bytes words.now)) }
 {
-    let [word, behind @ ..] = words else {
-        return Err(CmdFault::NotACommand);
+    let matches = match line(alloc)?.try_get_matches_from(words) {
+        Ok(matches) => matches,
+        Err(error) => return Err(fault_of(&error)),
     };
-    let word = word.as_bytes();
-    if is_word(word, b"run") {
-        return run_of(alloc, behind);
+    match matches.subcommand() {
+        Some((name, given)) => named(alloc, name, given),
+        None => Err(CmdFault::NotACommand),
     }
-    if is_word(word, b"check") {
-        return check_of(alloc, behind);
-    }
-    if is_word(word, b"show") {
-        return show_of(alloc, behind);
-    }
-    if is_word(word, b"bench") {
-        return bench_of(behind);
-    }
-    if is_word(word, b"record") {
-        return record_of(alloc, behind);
-    }
-    if is_word(word, b"audit") {
-        return audit_of(alloc, behind);
-    }
-    Err(CmdFault::NotACommand)
 }
 
-/// The command to run that stands behind its word.
-fn run_of(alloc: Global, behind: &[String]) -> Result<Command, CmdFault>
-    ensures ok { IfOk result (IsCommand (codes "run" ∷ map string_bytes behind.now)) }
-    ensures cause { IfErr result (Explains (codes "run" ∷ map string_bytes behind.now)) }
+/// Why there is no command where the words were refused.
+fn fault_of(error: &Error) -> CmdFault
+    ensures { (kind_of error.now ≢ ErrorKind.OutOfMemory) ↔ (result ≡ a_fault.NotACommand) }
 {
-    let Some(run) = run_asked(behind) else {
-        return Err(CmdFault::NotACommand);
-    };
-    let file = List::from_slice(alloc, run.file.as_bytes())?;
-    Ok(Command::Run(file, run.workers, u64::from(run.fuel)))
+    match error.kind() {
+        ErrorKind::OutOfMemory => CmdFault::Memory,
+        _ => CmdFault::NotACommand,
+    }
 }
 
-/// The command to check that stands behind its word.
-fn check_of(alloc: Global, behind: &[String]) -> Result<Command, CmdFault>
-    ensures ok { IfOk result (IsCommand (codes "check" ∷ map string_bytes behind.now)) }
-    ensures cause { IfErr result (Explains (codes "check" ∷ map string_bytes behind.now)) }
+/// The command of this name, with what was found behind it.
+fn named(alloc: Global, name: &str, given: &ArgMatches<'_>) -> Result<Command, CmdFault>
+    ensures ok { (kind : Kind) (behind : Seq (Seq ℕ)) → IsOf kind name.now → Reads kind behind (rows_of (found_of given.now)) → IfOk result (IsCommand (name.now ∷ behind)) }
+    ensures cause { (kind : Kind) (behind : Seq (Seq ℕ)) → IsOf kind name.now → Reads kind behind (rows_of (found_of given.now)) → IfErr result (Explains (name.now ∷ behind)) }
 {
-    let Some(file) = file_alone(behind) else {
-        return Err(CmdFault::NotACommand);
-    };
-    Ok(Command::Check(List::from_slice(alloc, file.as_bytes())?))
+    if name == "run" {
+        return run_of(alloc, given);
+    }
+    if name == "check" {
+        return check_of(alloc, given);
+    }
+    if name == "show" {
+        return show_of(alloc, given);
+    }
+    if name == "bench" {
+        return bench_of(given);
+    }
+    if name == "record" {
+        return record_of(alloc, given);
+    }
+    audit_of(alloc, given)
 }
 
-/// The command to show that stands behind its word.
-fn show_of(alloc: Global, behind: &[String]) -> Result<Command, CmdFault>
-    ensures ok { IfOk result (IsCommand (codes "show" ∷ map string_bytes behind.now)) }
-    ensures cause { IfErr result (Explains (codes "show" ∷ map string_bytes behind.now)) }
+/// The command to run.
+fn run_of(alloc: Global, given: &ArgMatches<'_>) -> Result<Command, CmdFault>
+    ensures ok { (behind : Seq (Seq ℕ)) → Reads OfRun behind (rows_of (found_of given.now)) → IfOk result (IsCommand (codes "run" ∷ behind)) }
+    ensures cause { (behind : Seq (Seq ℕ)) → Reads OfRun behind (rows_of (found_of given.now)) → IfErr result (λ fault. fault ≡ a_fault.Memory) }
 {
-    let Some(file) = file_alone(behind) else {
-        return Err(CmdFault::NotACommand);
-    };
-    Ok(Command::Show(List::from_slice(alloc, file.as_bytes())?))
+    let file = word_of(alloc, given, "file")?;
+    Ok(Command::Run(file, workers_of(given), fuel_of(given)))
 }
 
-/// The bank that stands behind its word.
-fn bench_of(behind: &[String]) -> Result<Command, CmdFault>
-    ensures ok { IfOk result (IsCommand (codes "bench" ∷ map string_bytes behind.now)) }
-    ensures cause { IfErr result (Explains (codes "bench" ∷ map string_bytes behind.now)) }
+/// The command to check.
+fn check_of(alloc: Global, given: &ArgMatches<'_>) -> Result<Command, CmdFault>
+    ensures ok { (behind : Seq (Seq ℕ)) → Reads OfFile behind (rows_of (found_of given.now)) → IfOk result (IsCommand (codes "check" ∷ behind)) }
+    ensures cause { (behind : Seq (Seq ℕ)) → Reads OfFile behind (rows_of (found_of given.now)) → IfErr result (λ fault. fault ≡ a_fault.Memory) }
 {
-    let Some(number) = file_alone(behind) else {
-        return Err(CmdFault::NotACommand);
-    };
-    let Some(accounts) = number_of(number, MOST_ACCOUNTS) else {
-        return Err(CmdFault::NotACommand);
-    };
-    Ok(Command::Bench(accounts))
+    Ok(Command::Check(word_of(alloc, given, "file")?))
 }
 
-/// The command to record that stands behind its word.
-fn record_of(alloc: Global, behind: &[String]) -> Result<Command, CmdFault>
-    ensures ok { IfOk result (IsCommand (codes "record" ∷ map string_bytes behind.now)) }
-    ensures cause { IfErr result (Explains (codes "record" ∷ map string_bytes behind.now)) }
+/// The command to show.
+fn show_of(alloc: Global, given: &ArgMatches<'_>) -> Result<Command, CmdFault>
+    ensures ok { (behind : Seq (Seq ℕ)) → Reads OfFile behind (rows_of (found_of given.now)) → IfOk result (IsCommand (codes "show" ∷ behind)) }
+    ensures cause { (behind : Seq (Seq ℕ)) → Reads OfFile behind (rows_of (found_of given.now)) → IfErr result (λ fault. fault ≡ a_fault.Memory) }
 {
-    let Some(run) = run_asked(behind) else {
-        return Err(CmdFault::NotACommand);
-    };
-    let file = List::from_slice(alloc, run.file.as_bytes())?;
-    Ok(Command::Record(file, run.workers, u64::from(run.fuel)))
+    Ok(Command::Show(word_of(alloc, given, "file")?))
 }
 
-/// The command to audit that stands behind its word.
-fn audit_of(alloc: Global, behind: &[String]) -> Result<Command, CmdFault>
-    ensures ok { IfOk result (IsCommand (codes "audit" ∷ map string_bytes behind.now)) }
-    ensures cause { IfErr result (Explains (codes "audit" ∷ map string_bytes behind.now)) }
+/// The bank. The number of its accounts stands where a file would.
+fn bench_of(given: &ArgMatches<'_>) -> Result<Command, CmdFault>
+    ensures ok { (behind : Seq (Seq ℕ)) → Reads OfFile behind (rows_of (found_of given.now)) → IfOk result (IsCommand (codes "bench" ∷ behind)) }
+    ensures cause { (behind : Seq (Seq ℕ)) → Reads OfFile behind (rows_of (found_of given.now)) → IfErr result (Explains (codes "bench" ∷ behind)) }
 {
-    let Some(two) = two_alone(behind) else {
-        return Err(CmdFault::NotACommand);
-    };
-    let file = List::from_slice(alloc, two.file.as_bytes())?;
-    let kept = List::from_slice(alloc, two.kept.as_bytes())?;
+    match given.get_one::<u32>("file") {
+        Some(accounts) if 1 <= accounts && accounts <= MOST_ACCOUNTS => {
+            Ok(Command::Bench(accounts))
+        }
+        _ => Err(CmdFault::NotACommand),
+    }
+}
+
+/// The command to record.
+fn record_of(alloc: Global, given: &ArgMatches<'_>) -> Result<Command, CmdFault>
+    ensures ok { (behind : Seq (Seq ℕ)) → Reads OfRun behind (rows_of (found_of given.now)) → IfOk result (IsCommand (codes "record" ∷ behind)) }
+    ensures cause { (behind : Seq (Seq ℕ)) → Reads OfRun behind (rows_of (found_of given.now)) → IfErr result (λ fault. fault ≡ a_fault.Memory) }
+{
+    let file = word_of(alloc, given, "file")?;
+    Ok(Command::Record(file, workers_of(given), fuel_of(given)))
+}
+
+/// The command to audit.
+fn audit_of(alloc: Global, given: &ArgMatches<'_>) -> Result<Command, CmdFault>
+    ensures ok { (behind : Seq (Seq ℕ)) → Reads OfAudit behind (rows_of (found_of given.now)) → IfOk result (IsCommand (codes "audit" ∷ behind)) }
+    ensures cause { (behind : Seq (Seq ℕ)) → Reads OfAudit behind (rows_of (found_of given.now)) → IfErr result (λ fault. fault ≡ a_fault.Memory) }
+{
+    let file = word_of(alloc, given, "file")?;
+    let kept = word_of(alloc, given, "record")?;
     Ok(Command::Audit(file, kept))
+}
+
+/// The word that was found for an argument that has to stand there.
+fn word_of(alloc: Global, given: &ArgMatches<'_>, id: &str) -> Result<Bytes, CmdFault>
+    ensures ok { (word : Seq ℕ) → row_of_id id.now (rows_of (found_of given.now)) ≡ Some (row id.now word) → IfOk result (λ bytes. bytes ≡ word) }
+    ensures cause { (word : Seq ℕ) → row_of_id id.now (rows_of (found_of given.now)) ≡ Some (row id.now word) → IfErr result (λ fault. fault ≡ a_fault.Memory) }
+{
+    match given.get_str(id) {
+        Some(word) => Ok(List::from_slice(alloc, word.as_bytes())?),
+        None => Err(CmdFault::NotACommand),
+    }
+}
+
+/// The workers that were found, or the default.
+fn workers_of(given: &ArgMatches<'_>) -> u32
+    ensures { (n : Option ℕ) → FoundNumber Workers (rows_of (found_of given.now)) n → result ≡ unwrap_or n default_workers }
+{
+    given.get_one::<u32>("workers").unwrap_or(DEFAULT_WORKERS)
+}
+
+/// The fuel that was found, or the default.
+fn fuel_of(given: &ArgMatches<'_>) -> u64
+    ensures { (n : Option ℕ) → FoundNumber Fuel (rows_of (found_of given.now)) n → result ≡ unwrap_or n default_fuel }
+{
+    given.get_one::<u64>("fuel").unwrap_or(DEFAULT_FUEL)
 }
