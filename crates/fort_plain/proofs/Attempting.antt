@@ -1,23 +1,22 @@
 -- Attempts that picks make: begun, or not legal, or past the fuel; and where a pick's thread isn't what it says.
-use Rattle.std.proofs.Common.{◌≡◌, ◌≢◌, ℕ, ◌+◌, ◌<◌, ◌≤◌, Bool, true, false, List, [], ◌∷◌, ◌++◌, Option, Some, None, refl, ap, sym, ◌∙◌, subst, arith, ◌⊎◌, inl, inr}
+use Rattle.std.proofs.Common.{◌≡◌, ℕ, ◌+◌, ◌<◌, Bool, true, List, ◌∷◌, ap, sym, ◌∙◌, subst, arith, ◌⊎◌, inl, inr}
 use Rattle.fort_core.specs.declared.form.Mode.{Mode}
 use Rattle.fort_core.specs.declared.path.Path.{Path}
 use Rattle.fort_core.specs.declared.pick.Pick.{Pick, Step, Attempt}
 use Rattle.fort_core.specs.declared.program.Program.{Program}
-use Rattle.fort_core.specs.declared.term.Term.{Term, Atomic, Asleep, out-Term}
+use Rattle.fort_core.specs.declared.term.Term.{Term, out-Term}
 use Rattle.fort_core.specs.declared.term.Term.TheVariants.{outs-Asleep, outs-Atomic}
-use Rattle.fort_machine.specs.Effects.{Store, Effect, FitsAll}
-use Rattle.fort_machine.specs.Frames.{Frame, plug, road}
+use Rattle.fort_machine.specs.Effects.{Effect}
+use Rattle.fort_machine.specs.Frames.{Frame}
 use Rattle.fort_machine.specs.Acts.{Act, stuck, ends}
 use Rattle.fort_machine.specs.Forms.{act, act_at}
 use Rattle.fort_machine.specs.Steps.{Acts, by_itself, by_call, Local, steps}
 use Rattle.fort_machine.specs.Attempts.{Form, fresh, slept, Ready, Sleeps, Awake, MayTry as MayTryThere, goes}
-use Rattle.fort_machine.specs.Runs.{location, path_to}
-use Rattle.fort_machine.specs.Journals.{MakesWithinBounds}
+use Rattle.fort_machine.specs.Runs.{location}
 use Rattle.fort_machine.specs.Written.{WrittenProgram}
 use Rattle.fort_machine.proofs.Places.{one_place}
 use Rattle.fort_machine.proofs.Ready.{form_ready, does_not_stuck}
-use Rattle.fort_frames.specs.Frames.{frames, outward, rebuilt, Reaches}
+use Rattle.fort_frames.specs.Frames.{frames, outward}
 use Rattle.fort_frames.specs.States.{term_at}
 use Rattle.fort_frames.specs.declared.place.Place.{Place}
 use Rattle.fort_frames.specs.declared.state.State.{State}
@@ -27,7 +26,7 @@ use Rattle.fort_picks.specs.Picks.{NoneAwake}
 use Rattle.fort_course.specs.Course.{is_inner}
 use Rattle.fort_course.proofs.Keeps.{moves_keep}
 use Rattle.fort_course.proofs.Reaches.{bare_here}
-use Rattle.fort_moves.specs.Turns.{IsAt, IsMade, IsStep, IsTry, ready_term}
+use Rattle.fort_moves.specs.Turns.{IsAt, IsStep, IsTry, ready_term}
 use Rattle.fort_moves.specs.declared.turn.Ready as code
 use Rattle.fort_carry.specs.declared.course.Course.{Course}
 use Rattle.fort_carry.specs.declared.course.Going.{Going}
@@ -35,7 +34,7 @@ use Rattle.fort_carry.specs.Courses.{HasCome, StandsAt, IsGoing, around}
 use Rattle.fort_carry.specs.Calls.{MayTry}
 use Rattle.fort_carry.specs.Picked.{PicksNothing, PicksAttempt}
 use Rattle.fort_plain.specs.Legal.{AreLegal}
-use Rattle.fort_plain.specs.Paths.{NoThread, AllSleep, whole}
+use Rattle.fort_plain.specs.Paths.{NoThread, whole}
 use Rattle.fort_plain.specs.Takes.{NoPick, IsIllegal, Begins, Leaves, IsThreadAt, ActsOn, term_round}
 use Rattle.fort_plain.specs.declared.act.Acted.{Acted}
 use Rattle.fort_plain.specs.declared.act.Turn.{Turn}

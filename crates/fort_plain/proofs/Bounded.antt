@@ -1,5 +1,5 @@
 -- What the parts of a stretch made and cost.
-use Rattle.std.proofs.Common.{◌≡◌, ℕ, ◌+◌, ◌≤◌, List, [], ◌∷◌, Option, Some, None, refl, arith, subst, ap}
+use Rattle.std.proofs.Common.{◌≡◌, ◌+◌, ◌≤◌, Option, None, refl, arith, subst, ap}
 use Rattle.fort_core.specs.declared.form.Mode.{Mode}
 use Rattle.fort_core.specs.declared.program.Program.{Program}
 use Rattle.fort_core.specs.declared.term.Term.{Term}

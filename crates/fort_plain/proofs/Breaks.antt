@@ -1,7 +1,6 @@
 -- A journal that breaks is none of a run.
-use Rattle.std.proofs.Common.{◌≡◌, ℕ, ◌+◌, ◌<◌, ◌≤◌, true, false, List, [], ◌∷◌, ◌++◌, length, take, drop, refl, ap, sym, ◌∙◌, subst, arith, ◌⊎◌, inl, inr}
+use Rattle.std.proofs.Common.{◌≡◌, ℕ, ◌+◌, ◌<◌, ◌≤◌, true, false, List, [], ◌∷◌, ◌++◌, length, take, drop, refl, ap, sym, subst, arith, ◌⊎◌, inl, inr}
 use Rattle.std.proofs.lemmas.List.{take-append-drop}
-use Rattle.fort_core.specs.declared.journal.Journal.{Journal}
 use Rattle.fort_core.specs.declared.pick.Pick.{Pick}
 use Rattle.fort_core.specs.declared.program.Program.{Program}
 use Rattle.fort_core.specs.declared.term.Term.{Term}
@@ -10,7 +9,7 @@ use Rattle.fort_machine.specs.Attempts.{goes}
 use Rattle.fort_machine.specs.Runs.{Runs}
 use Rattle.fort_machine.specs.Journals.{opening_store, MakesWithinBounds, IsRun, IsJournal}
 use Rattle.fort_machine.proofs.Split.{runs_part}
-use Rattle.fort_plain.specs.Replays.{RunsWithin, BreaksAt, BrokenIsNone}
+use Rattle.fort_plain.specs.Replays.{RunsWithin, BrokenIsNone}
 use Rattle.fort_plain.proofs.Bounded.{first_bounded}
 
 append_nil : (xs : List Pick) → xs ++ [] ≡ xs

@@ -1,15 +1,13 @@
 -- What a pick costs that is next, whether it is finished or not.
-use Rattle.std.proofs.Common.{◌≡◌, ℕ, ◌+◌, ◌<◌, ◌≤◌, Bool, true, false, List, [], ◌∷◌, ◌++◌, refl, ap, sym, ◌∙◌, subst, arith, ◌⊎◌, inl, inr}
+use Rattle.std.proofs.Common.{◌≡◌, ◌+◌, Bool, true, false, List, [], ◌∷◌, ◌++◌, refl, ap, sym, ◌∙◌, subst, arith, inl, inr}
 use Rattle.fort_core.specs.declared.form.Mode.{Mode}
-use Rattle.fort_core.specs.declared.path.Path.{Path}
-use Rattle.fort_core.specs.declared.pick.Pick.{Pick, Step, Attempt, out-Pick}
-use Rattle.fort_core.specs.declared.pick.Pick.TheVariants.{outs-Step, outs-Attempt}
+use Rattle.fort_core.specs.declared.pick.Pick.{Pick, Attempt}
 use Rattle.fort_core.specs.declared.program.Program.{Program}
 use Rattle.fort_core.specs.declared.term.Term.{Term}
 use Rattle.fort_machine.specs.Effects.{Store, Effect, both, afterwards, aborting}
 use Rattle.fort_machine.specs.Frames.{Frame, plug, trodden}
 use Rattle.fort_machine.specs.Attempts.{Ended, goes, Form, Closes, completed, failed, gave_up, fell_asleep}
-use Rattle.fort_machine.specs.Runs.{Runs, none, step, stop, attempt, Begun, so_far, inside, path_to, location}
+use Rattle.fort_machine.specs.Runs.{Runs, none, step, stop, attempt, Begun, so_far, inside, path_to}
 use Rattle.fort_machine.specs.Journals.{IsNext}
 use Rattle.fort_machine.proofs.Places.{one_place}
 use Rattle.fort_machine.proofs.Ready.{form_ready}

@@ -1,5 +1,5 @@
 -- The end of a replay.
-use Rattle.std.proofs.Common.{◌≡◌, ◌≢◌, ℕ, ◌+◌, ◌<◌, ◌≤◌, Bool, true, false, List, [], ◌∷◌, ◌++◌, length, take, drop, refl, ap, sym, ◌∙◌, subst, arith, ◌⊎◌, inl, inr}
+use Rattle.std.proofs.Common.{◌≡◌, ℕ, ◌+◌, ◌<◌, ◌≤◌, Bool, true, false, List, [], ◌∷◌, ◌++◌, length, take, refl, ap, sym, ◌∙◌, subst, arith, inl, inr}
 use Rattle.std.proofs.Math.Seq.{take-length}
 use Rattle.fort_core.specs.declared.journal.Ending.{Ending}
 use Rattle.fort_core.specs.declared.journal.Ending.TheVariants as ending
@@ -13,26 +13,24 @@ use Rattle.fort_machine.specs.Effects.{Store, Effect, idle, both, afterwards}
 use Rattle.fort_machine.specs.Ends.{Finished, throw_of, at_value, at_throw}
 use Rattle.fort_machine.specs.Ends as ends
 use Rattle.fort_machine.specs.Acts.{unit}
-use Rattle.fort_machine.specs.Attempts.{Ended, goes, aborts}
+use Rattle.fort_machine.specs.Attempts.{goes}
 use Rattle.fort_machine.specs.Runs.{Runs, none, step, stop, attempt, Begun}
-use Rattle.fort_machine.specs.Journals.{MakesWithinBounds, IsJournal, IsNext, IsRun, Ends, PassesFuel, Records, opening_store}
-use Rattle.fort_machine.proofs.Runs.{append}
+use Rattle.fort_machine.specs.Journals.{MakesWithinBounds, IsJournal, IsNext, Ends, opening_store}
 use Rattle.fort_machine.proofs.Single.{one_run}
 use Rattle.fort_machine.proofs.WholeEffects.{idle_both}
 use Rattle.fort_machine.proofs.Standing.{standing-Value, standing-throw, value_not_throw}
-use Rattle.fort_effects.specs.Levels.{Levels, levels_of, seen, spent}
+use Rattle.fort_effects.specs.Levels.{levels_of, spent}
 use Rattle.fort_course.specs.Course.{Comes}
 use Rattle.fort_course.specs.Ends.{HasRun}
 use Rattle.fort_course.proofs.Bounds.{both_bounded}
 use Rattle.fort_course.proofs.Passes.{completed_run, uncaught_run}
-use Rattle.fort_course.proofs.Store.{levels_by, seen_base}
 use Rattle.fort_carry.specs.declared.course.Course.{Course}
 use Rattle.fort_carry.specs.declared.course.Going.{Going}
-use Rattle.fort_carry.specs.Courses.{IsGoing, around, inwards}
+use Rattle.fort_carry.specs.Courses.{IsGoing, inwards}
 use Rattle.fort_plain.specs.Legal.{AreLegal, a_run, begun_last, NoRun}
 use Rattle.fort_plain.specs.Paths.{IsSettled, whole}
 use Rattle.fort_plain.specs.Replays.{RunsWithin, BreaksAt, EndsAt, EndsSo, IsNoPick, Replays}
-use Rattle.fort_plain.specs.Within.{EndsWith, NeverRuns, NotWithin}
+use Rattle.fort_plain.specs.Within.{EndsWith, NeverRuns}
 use Rattle.fort_plain.specs.declared.journal.Replayed.{Replayed}
 use Rattle.fort_plain.specs.declared.journal.Replayed.TheVariants as replayed
 use Rattle.fort_plain.specs.declared.settled.Settled.{Settled}

@@ -1,11 +1,9 @@
 -- The way to a thread.
-use Rattle.std.proofs.Common.{◌≡◌, ◌≢◌, ℕ, ◌+◌, ◌<◌, ◌≤◌, ◌||◌, Bool, true, false, List, [], ◌∷◌, ◌++◌, length, take, drop, Option, Some, None, refl, ap, sym, ◌∙◌, subst, arith, ◌⊎◌, inl, inr, Result, IfOk}
+use Rattle.std.proofs.Common.{◌≡◌, ℕ, List, refl, ap, sym, ◌∙◌, subst, Result, IfOk}
 use Rattle.std.proofs.lemmas.Result.{IfOk-weaker}
 use Rattle.fort_base.specs.declared.refusal.Memory.{Memory}
-use Rattle.std.specs.Prelude.{slice_get, slice_set, nat_lt}
 use Rattle.fort_core.specs.declared.path.Path.{Path}
 use Rattle.fort_core.specs.declared.term.Term.{Term}
-use Rattle.fort_core.specs.declared.term.Term as term
 use Rattle.fort_core.specs.declared.value.Value.{Value}
 use Rattle.fort_machine.specs.Ends.{Finished, open_yet, standing, standing_at, throw_of}
 use Rattle.fort_machine.specs.Ends as ends
@@ -23,10 +21,10 @@ use Rattle.fort_machine.proofs.Places.{plug_open, ready_open}
 use Rattle.fort_machine.proofs.Ready.{form_ready}
 use Rattle.fort_frames.proofs.Same.{same_term}
 use Rattle.fort_core.specs.declared.term.Term.TheVariants.{outs-Stepped}
-use Rattle.fort_plain.specs.Paths.{NoThread, IsFound, IsSought, whole}
+use Rattle.fort_plain.specs.Paths.{NoThread, IsFound, IsSought}
 use Rattle.fort_plain.specs.declared.find.Seek.{Seek}
 use Rattle.fort_plain.specs.declared.find.Found.{Found}
-use Rattle.fort_plain.proofs.Paths.{finished_none, none_below, none_above}
+use Rattle.fort_plain.proofs.Paths.{finished_none}
 
 pub value_none : (a : At) (v : Value) (path : Path) → a ≡ at.Value v → NoThread (term_at a) path
 value_none a v path e = finished_none (term_at a) path (ends.Finished.value v (ap term_at e))

@@ -1,28 +1,23 @@
 -- The last pick of all, legal or begun, from within attempts out to the root's machine.
-use Rattle.std.proofs.Common.{◌≡◌, ◌≢◌, ℕ, ◌+◌, ◌≤◌, ◌&&◌, Bool, true, false, List, [], ◌∷◌, ◌++◌, refl, ap, sym, ◌∙◌, subst, arith, append_assoc, ◌⊎◌, inl, inr}
-use Rattle.fort_core.specs.declared.path.Path.{Path}
+use Rattle.std.proofs.Common.{◌≡◌, ℕ, ◌+◌, ◌&&◌, Bool, true, false, List, [], ◌∷◌, ◌++◌, refl, ap, sym, ◌∙◌, subst, arith, append_assoc}
 use Rattle.fort_core.specs.declared.pick.Pick.{Pick, Attempt}
 use Rattle.fort_core.specs.declared.program.Program.{Program}
 use Rattle.fort_core.specs.declared.term.Term.{Term}
 use Rattle.fort_machine.specs.Effects.{Store, Effect, idle, both, afterwards, aborting}
-use Rattle.fort_machine.specs.Attempts.{Ended, goes}
+use Rattle.fort_machine.specs.Attempts.{goes}
 use Rattle.fort_machine.specs.Runs.{Runs, none, Begun}
 use Rattle.fort_machine.specs.Journals.{MakesWithinBounds, opening_store}
 use Rattle.fort_machine.proofs.Runs.{append, runs_fit}
 use Rattle.fort_machine.proofs.WholeEffects.{afterwards_both, both_assoc, idle_both}
 use Rattle.fort_frames.specs.Frames.{frames, rebuilt}
-use Rattle.fort_effects.specs.Levels.{Levels, levels_of, seen, spent, attempts_cost}
 use Rattle.fort_effects.specs.declared.cell.Closing.TheVariants as closing
 use Rattle.fort_picks.proofs.Picks.{attempt_is_begun, begun_within}
-use Rattle.fort_course.specs.Course.{Held, Base, root_base, base_of, Waits, AllWait, Comes, is_inner}
+use Rattle.fort_course.specs.Course.{Held, Base, root_base, base_of, Waits, AllWait}
 use Rattle.fort_course.proofs.Bounds.{both_bounded, closing_bounded}
-use Rattle.fort_course.proofs.Store.{levels_by, store_by, seen_base, inner_is}
-use Rattle.fort_carry.specs.declared.course.Course.{Course}
-use Rattle.fort_carry.specs.Courses.{HasCome, around}
 use Rattle.fort_plain.specs.Legal.{AreLegal, a_run, begun_last}
-use Rattle.fort_plain.specs.Within.{AreSources, IsFirst, IsSource, EndsWith, is_none, inmost}
+use Rattle.fort_plain.specs.Within.{AreSources, is_none}
 use Rattle.fort_plain.specs.declared.take.Source.{Source}
-use Rattle.fort_plain.proofs.Within.{spent_before, spent_step, spent_now, and_true}
+use Rattle.fort_plain.proofs.Within.{spent_before, spent_step}
 
 pub join_legal : (p : Program) (ajar inner : Bool) (s : Store) (picks more : List Pick) (t u : Term) (d e : Effect) → Runs p inner true s picks t (goes u) d → AreLegal p ajar inner (afterwards d s) more u e → AreLegal p ajar inner s (picks ++ more) t (both d e)
 join_legal p ajar inner s picks more t u d e k (a_run r g) = a_run r (append s picks t (goes u) d k u refl more r e g)

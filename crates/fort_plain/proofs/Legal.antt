@@ -1,14 +1,14 @@
 -- Legal picks: before and behind others, and within an attempt.
-use Rattle.std.proofs.Common.{◌≡◌, ◌≢◌, ℕ, ◌+◌, ◌≤◌, ◌&&◌, Bool, true, false, List, [], ◌∷◌, ◌++◌, refl, ap, sym, ◌∙◌, subst, arith, ◌⊎◌, inl, inr}
+use Rattle.std.proofs.Common.{◌≡◌, ◌+◌, ◌≤◌, ◌&&◌, Bool, true, false, List, [], ◌∷◌, ◌++◌, refl, ap, sym, ◌∙◌, subst, arith}
 use Rattle.fort_core.specs.declared.form.Mode.{Mode}
-use Rattle.fort_core.specs.declared.pick.Pick.{Pick, Step, Attempt}
+use Rattle.fort_core.specs.declared.pick.Pick.{Pick, Attempt}
 use Rattle.fort_core.specs.declared.program.Program.{Program}
-use Rattle.fort_core.specs.declared.term.Term.{Term, Atomic, Asleep, out-Term}
+use Rattle.fort_core.specs.declared.term.Term.{Term, out-Term}
 use Rattle.fort_core.specs.declared.term.Term.TheVariants.{outs-Asleep, outs-Atomic}
-use Rattle.fort_machine.specs.Effects.{Store, Effect, idle, both, afterwards, aborting}
-use Rattle.fort_machine.specs.Frames.{Frame, plug, road}
-use Rattle.fort_machine.specs.Attempts.{Ended, goes, Form, fresh, slept, Ready, Closes}
-use Rattle.fort_machine.specs.Runs.{Runs, none, step, stop, attempt, Begun, so_far, inside, path_to, location}
+use Rattle.fort_machine.specs.Effects.{Store, Effect, idle, both, afterwards}
+use Rattle.fort_machine.specs.Frames.{Frame, plug}
+use Rattle.fort_machine.specs.Attempts.{Ended, goes, Form, fresh, slept, Closes}
+use Rattle.fort_machine.specs.Runs.{Runs, none, step, stop, attempt, Begun, so_far, inside, path_to}
 use Rattle.fort_machine.specs.Journals.{MakesWithinBounds}
 use Rattle.fort_machine.proofs.Places.{one_place}
 use Rattle.fort_machine.proofs.Ready.{form_ready}
@@ -18,7 +18,7 @@ use Rattle.fort_machine.proofs.Split.{runs_part}
 use Rattle.fort_machine.proofs.WholeEffects.{afterwards_both, both_assoc, idle_both}
 use Rattle.fort_plain.specs.Legal.{AreLegal, a_run, begun_last}
 use Rattle.fort_plain.specs.Within.{is_none}
-use Rattle.fort_plain.proofs.Bounded.{first_bounded, second_bounded, begun_bounded, begun_costs, closes_bounded, closes_costs}
+use Rattle.fort_plain.proofs.Bounded.{first_bounded, begun_bounded, begun_costs, closes_bounded, closes_costs}
 
 -- ---- picks before and behind
 

@@ -1,11 +1,11 @@
 -- Out of a part, and beside it.
-use Rattle.std.proofs.Common.{◌≡◌, ◌≢◌, ℕ, ◌+◌, ◌<◌, ◌≤◌, Bool, true, false, List, [], ◌∷◌, ◌++◌, length, take, drop, Option, Some, None, refl, ap, sym, ◌∙◌, subst, arith, Result, IfOk}
+use Rattle.std.proofs.Common.{◌≡◌, ◌≢◌, ℕ, ◌+◌, ◌<◌, ◌≤◌, true, false, List, [], ◌∷◌, ◌++◌, length, take, refl, ap, sym, ◌∙◌, subst, arith, Result, IfOk}
 use Rattle.fort_base.specs.declared.refusal.Memory.{Memory}
-use Rattle.std.specs.Prelude.{slice_get, slice_set}
+use Rattle.std.specs.Prelude.{slice_set}
 use Rattle.std.proofs.lemmas.List.{take-append-le}
 use Rattle.fort_core.specs.declared.path.Path.{Path}
 use Rattle.fort_core.specs.declared.term.Term.{Term, Stepped}
-use Rattle.fort_machine.specs.Ends.{open_yet, standing, stepped}
+use Rattle.fort_machine.specs.Ends.{open_yet, standing}
 use Rattle.fort_machine.specs.Frames.{in_group, in_call, in_function, in_argument, in_first_half, in_second_half, in_first_reduced, in_second_reduced, in_block, on, plug, part_number}
 use Rattle.fort_machine.specs.Frames as machine
 use Rattle.fort_machine.proofs.Standing.{stepped_open}
@@ -18,7 +18,7 @@ use Rattle.fort_frames.specs.declared.head.Head.{Head}
 use Rattle.fort_frames.specs.declared.node.Node.{Node}
 use Rattle.fort_frames.specs.declared.place.Place.{Place}
 use Rattle.fort_moves.proofs.Enters.{plain_frames}
-use Rattle.fort_moves.proofs.Parts.{put_part, suits_back, reaches_back}
+use Rattle.fort_moves.proofs.Parts.{put_part, suits_back}
 use Rattle.fort_plain.specs.Paths.{IsInside, IsBeside, IsOpenAt, IsSought}
 use Rattle.fort_plain.specs.declared.find.Seek.{Seek}
 

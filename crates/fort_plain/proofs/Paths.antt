@@ -1,5 +1,5 @@
 -- Which thread a path names.
-use Rattle.std.proofs.Common.{◌≡◌, ◌≢◌, ℕ, ◌+◌, ◌<◌, ◌≤◌, ◌&&◌, Bool, true, false, List, [], ◌∷◌, ◌++◌, zero, suc, length, take, drop, Option, Some, None, refl, ap, sym, ◌∙◌, subst, arith, ◌⊎◌, inl, inr}
+use Rattle.std.proofs.Common.{◌≡◌, ◌≢◌, ℕ, ◌+◌, ◌&&◌, Bool, true, false, List, [], ◌∷◌, ◌++◌, zero, suc, length, take, drop, Option, Some, None, refl, ap, sym, ◌∙◌, subst, arith, ◌⊎◌, inl, inr}
 use Rattle.std.proofs.lemmas.List.{take-append-drop}
 use Rattle.std.specs.Prelude.{slice_get, nat_le, if◌then◌else◌}
 use Rattle.std.proofs.Math.Seq.{take-length}
@@ -24,7 +24,7 @@ use Rattle.fort_frames.specs.declared.head.Head.TheVariants as head
 use Rattle.fort_frames.specs.declared.place.Place.{Place}
 use Rattle.fort_frames.proofs.Same.{same_term, not_passed, same_thread}
 use Rattle.fort_moves.specs.Turns.{IsOver}
-use Rattle.fort_moves.proofs.Waits.{Kind, lone, between, kind_of, sides_of, beside_is, Coming, serial, parallel, next_at, by_kind, next_on, take_middle, drop_sides, at_middle}
+use Rattle.fort_moves.proofs.Waits.{Kind, lone, between, kind_of, sides_of, beside_is, serial, parallel, next_at, by_kind, next_on, take_middle, drop_sides, at_middle}
 use Rattle.fort_plain.specs.Paths.{NoThread}
 
 abbrev number_of : Kind → List ℕ

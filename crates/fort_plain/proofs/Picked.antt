@@ -1,5 +1,5 @@
 -- What a legal pick was: a step of the thread that it names, or an attempt.
-use Rattle.std.proofs.Common.{◌≡◌, ◌≢◌, ℕ, ◌+◌, ◌<◌, ◌≤◌, Bool, true, false, List, [], ◌∷◌, ◌++◌, Option, Some, None, refl, ap, sym, ◌∙◌, subst, arith, ◌⊎◌, inl, inr}
+use Rattle.std.proofs.Common.{◌≡◌, ℕ, ◌+◌, ◌≤◌, Bool, true, false, List, [], ◌∷◌, ◌++◌, ap, sym, ◌∙◌, subst, arith}
 use Rattle.fort_base.specs.declared.ids.Loc.{Loc}
 use Rattle.fort_core.specs.declared.form.Mode.{Mode}
 use Rattle.fort_core.specs.declared.path.Path.{Path}
@@ -8,10 +8,10 @@ use Rattle.fort_core.specs.declared.pick.Pick.TheVariants.{outs-Step, outs-Attem
 use Rattle.fort_core.specs.declared.program.Program.{Program}
 use Rattle.fort_core.specs.declared.term.Term.{Term}
 use Rattle.fort_machine.specs.Effects.{Store, Effect, FitsAll, idle, both, afterwards}
-use Rattle.fort_machine.specs.Frames.{Frame, plug, road, passed}
+use Rattle.fort_machine.specs.Frames.{Frame, plug, passed}
 use Rattle.fort_machine.specs.Acts.{ends}
 use Rattle.fort_machine.specs.Steps.{Acts, Local}
-use Rattle.fort_machine.specs.Attempts.{Ended, goes, aborts, Form, MayTry, Ready}
+use Rattle.fort_machine.specs.Attempts.{Ended, goes, Form, MayTry, Ready}
 use Rattle.fort_machine.specs.Runs.{Runs, none, step, stop, attempt, Begun, so_far, inside, path_to, location}
 use Rattle.fort_machine.specs.Journals.{MakesWithinBounds}
 use Rattle.fort_machine.proofs.Places.{one_place}

@@ -1,5 +1,5 @@
 -- The picks of the machines that wait, as attempts begin and end.
-use Rattle.std.proofs.Common.{◌≡◌, ◌≢◌, ℕ, ◌+◌, ◌&&◌, Bool, true, false, List, [], ◌∷◌, ◌++◌, refl, ap, sym, ◌∙◌, subst, append_assoc, ◌⊎◌, inl, inr}
+use Rattle.std.proofs.Common.{◌≡◌, ◌&&◌, Bool, List, [], ◌∷◌, ◌++◌, refl, ap, sym, ◌∙◌, subst, append_assoc}
 use Rattle.fort_base.specs.declared.ids.Loc.{Loc}
 use Rattle.fort_core.specs.declared.path.Path.{Path}
 use Rattle.fort_core.specs.declared.pick.Pick.{Pick, Step, Attempt, out-Pick}
@@ -9,11 +9,10 @@ use Rattle.fort_course.specs.Course.{Held}
 use Rattle.fort_carry.specs.declared.course.Course.{Course}
 use Rattle.fort_carry.specs.declared.course.Going.{Going}
 use Rattle.fort_carry.specs.declared.course.Waiting.{Waiting}
-use Rattle.fort_carry.specs.Courses.{IsGoing, around, held, inwards}
-use Rattle.fort_carry.specs.Picked.{PicksAttempt}
+use Rattle.fort_carry.specs.Courses.{around, held, inwards}
 use Rattle.fort_carry.proofs.Around.{last_is_first}
 use Rattle.fort_plain.specs.Takes.{GoesOn, Begins, Leaves}
-use Rattle.fort_plain.specs.Within.{AreSources, IsFirst, IsSource, IsInside, IsSourceOf, IsWithin, HasSources, TakesPick, IsHere, is_none, inmost}
+use Rattle.fort_plain.specs.Within.{AreSources, IsFirst, IsSource, IsInside, IsSourceOf, IsWithin, HasSources, TakesPick, IsHere, inmost}
 use Rattle.fort_plain.specs.declared.take.Source.{Source}
 use Rattle.fort_plain.specs.declared.take.Within.{Within}
 

@@ -13,14 +13,14 @@ use Rattle.fort_machine.specs.Acts as acts
 use Rattle.fort_machine.specs.Acts.{single}
 use Rattle.fort_machine.specs.Marked.{Bare}
 use Rattle.fort_machine.specs.Steps.{Acts, Does, Local, steps, or_unit}
-use Rattle.fort_machine.specs.Attempts.{Ready, aborts}
+use Rattle.fort_machine.specs.Attempts.{aborts}
 use Rattle.fort_machine.specs.Runs.{Runs, none, location}
 use Rattle.fort_machine.specs.Journals.{MakesWithinBounds}
 use Rattle.fort_machine.specs.Written.{WrittenProgram}
 use Rattle.fort_machine.proofs.Effects.{made_in_row, row_made}
 use Rattle.fort_machine.proofs.Single.{reads_what_is_there}
 use Rattle.fort_machine.proofs.WholeEffects.{idle_both}
-use Rattle.fort_frames.specs.Frames.{frames, outward, rebuilt}
+use Rattle.fort_frames.specs.Frames.{frames, outward}
 use Rattle.fort_frames.specs.declared.place.Place.{Place}
 use Rattle.fort_frames.specs.declared.state.At.TheVariants as at
 use Rattle.fort_frames.proofs.Same.{same_term}
@@ -39,7 +39,7 @@ use Rattle.fort_carry.specs.Picked.{PicksStep, PicksAttempt}
 use Rattle.fort_acting.specs.Only.{OnlyDoes}
 use Rattle.fort_acting.proofs.Acted.{does_this, ends_only}
 use Rattle.fort_plain.specs.Legal.{AreLegal, a_run}
-use Rattle.fort_plain.specs.Takes.{NoPick, IsIllegal, GoesOn, LeavesBy, Stops, IsLast, IsTurn, IsThreadAt, DoesOnly, TurnsOnly, term_round, StepsOn}
+use Rattle.fort_plain.specs.Takes.{NoPick, IsIllegal, LeavesBy, Stops, IsLast, IsTurn, IsThreadAt, DoesOnly, TurnsOnly, term_round, StepsOn}
 use Rattle.fort_plain.specs.declared.act.Acted.TheVariants as acted
 use Rattle.fort_plain.specs.declared.act.Turn.{Turn}
 use Rattle.fort_plain.proofs.Picked.{OwnStep, own, own_stop, own_step}

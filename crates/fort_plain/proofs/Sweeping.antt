@@ -1,8 +1,8 @@
 -- A sweep through the threads of a term.
-use Rattle.std.proofs.Common.{◌≡◌, ◌≢◌, ℕ, ◌+◌, ◌<◌, Bool, true, false, ◌||◌, List, [], ◌∷◌, ◌++◌, Option, Some, None, refl, ap, sym, ◌∙◌, subst, ◌⊎◌, inl, inr, Result, IfOk}
+use Rattle.std.proofs.Common.{◌≡◌, ℕ, Bool, true, false, List, [], ◌∷◌, refl, ap, sym, ◌∙◌, subst, ◌⊎◌, inl, inr, Result, IfOk}
 use Rattle.std.proofs.lemmas.Result.{IfOk-weaker}
 use Rattle.fort_base.specs.declared.refusal.Memory.{Memory}
-use Rattle.std.specs.Prelude.{slice_get, IsTrue}
+use Rattle.std.specs.Prelude.{IsTrue}
 use Rattle.fort_core.specs.declared.form.Mode.TheVariants as mode
 use Rattle.fort_core.specs.declared.term.Term.{Term}
 use Rattle.fort_machine.specs.Effects.{Store}
@@ -10,7 +10,7 @@ use Rattle.fort_machine.specs.Ends.{Finished}
 use Rattle.fort_machine.specs.Ends as ends
 use Rattle.fort_machine.specs.Frames.{Frame, plug, on, road, passes, passed}
 use Rattle.fort_machine.specs.Parts.{IsOneOf}
-use Rattle.fort_machine.specs.Attempts.{Form, slept, Ready, Sleeps, Awake}
+use Rattle.fort_machine.specs.Attempts.{slept, Ready, Sleeps, Awake}
 use Rattle.fort_machine.proofs.Standing.{not_finished, or_false}
 use Rattle.fort_machine.proofs.Places.{plug_open, ready_open}
 use Rattle.fort_machine.proofs.Ready.{form_ready}
@@ -24,7 +24,7 @@ use Rattle.fort_frames.specs.declared.state.At.TheVariants as at
 use Rattle.fort_frames.specs.declared.state.State.{State}
 use Rattle.fort_frames.proofs.Same.{same_term, not_passed}
 use Rattle.fort_picks.specs.Picks.{NoneAwake}
-use Rattle.fort_moves.specs.Sweeps.{AllMet, IsMet, AreMet, SweptAt, Swept, IsLeft, IsLeftAt, SweptTo, MissesNone}
+use Rattle.fort_moves.specs.Sweeps.{AllMet, IsMet, SweptAt, Swept, IsLeft, SweptTo, MissesNone}
 use Rattle.fort_moves.specs.Turns.{IsAt, IsStep, IsTry, IsGathered, ready_term}
 use Rattle.fort_moves.specs.declared.turn.Ready as ready
 use Rattle.fort_moves.specs.declared.turn.Stop.TheVariants as stop

@@ -1,5 +1,5 @@
 -- What picks of the root's machine come to, with those within.
-use Rattle.std.proofs.Common.{◌≡◌, ◌≢◌, ℕ, ◌+◌, ◌≤◌, ◌&&◌, Bool, true, false, List, [], ◌∷◌, ◌++◌, refl, ap, sym, ◌∙◌, subst, arith, ◌⊎◌, inl, inr}
+use Rattle.std.proofs.Common.{◌≡◌, ◌≢◌, ℕ, ◌+◌, ◌&&◌, Bool, true, false, List, [], ◌∷◌, ◌++◌, refl, ap, sym, ◌∙◌, subst, arith}
 use Rattle.fort_core.specs.declared.pick.Pick.{Pick}
 use Rattle.fort_core.specs.declared.program.Program.{Program}
 use Rattle.fort_core.specs.declared.term.Term.{Term}
@@ -11,7 +11,7 @@ use Rattle.fort_machine.specs.Journals.{MakesWithinBounds, opening_store}
 use Rattle.fort_effects.specs.Levels.{Levels, levels_of, seen, spent}
 use Rattle.fort_course.specs.Course.{Held, base_of, AllWait, Comes, is_inner}
 use Rattle.fort_course.proofs.Bounds.{both_bounded}
-use Rattle.fort_course.proofs.Store.{levels_by, store_by, seen_base, inner_is}
+use Rattle.fort_course.proofs.Store.{store_by, seen_base, inner_is}
 use Rattle.fort_carry.specs.declared.course.Course.{Course}
 use Rattle.fort_carry.specs.declared.course.Going.{Going}
 use Rattle.fort_carry.specs.declared.course.Waiting.{Waiting}
@@ -20,14 +20,14 @@ use Rattle.fort_carry.specs.Calls.{CannotThrow}
 use Rattle.fort_plain.specs.Legal.{AreLegal, a_run, NoWay, NoRun}
 use Rattle.fort_plain.specs.Paths.{whole}
 use Rattle.fort_plain.specs.Takes.{NoPick, IsIllegal, GoesOn, Begins, Leaves, LeavesBy, Stops, IsLast}
-use Rattle.fort_plain.specs.Within.{AreSources, EndsWith, GoesWithin, HasSources, IsAttempt, IsHere, IsInside, IsLeft, IsSourceOf, IsWithin, NeverRuns, NotWithin, Takes, TakesLast, TakesOn, TakesPick, inmost, is_none}
+use Rattle.fort_plain.specs.Within.{AreSources, GoesWithin, HasSources, IsAttempt, IsHere, IsInside, IsLeft, IsSourceOf, IsWithin, NeverRuns, NotWithin, Takes, TakesLast, TakesOn, TakesPick, inmost, is_none}
 use Rattle.fort_plain.specs.declared.act.Turn.{Turn}
 use Rattle.fort_plain.specs.declared.take.Next.{Next}
 use Rattle.fort_plain.specs.declared.take.Next.TheVariants as next
 use Rattle.fort_plain.specs.declared.take.Source.{Source}
 use Rattle.fort_plain.specs.declared.take.Taken.TheVariants as taken
 use Rattle.fort_plain.specs.declared.take.Within.{Within}
-use Rattle.fort_plain.proofs.Lasting.{AllLegal, all_legal, join_legal, root_run}
+use Rattle.fort_plain.proofs.Lasting.{all_legal, join_legal, root_run}
 use Rattle.fort_plain.proofs.Sources.{next_step, next_source, last_source, outer_source}
 use Rattle.fort_plain.proofs.Within.{NoLevel, spent_before, spent_now, first_level, out_way, unclosed_way, unthrown_way}
 

@@ -1,12 +1,12 @@
 -- Where an attempt's machine has no way on, neither has the one round it, up to the root's.
-use Rattle.std.proofs.Common.{◌≡◌, ◌≢◌, ℕ, ◌+◌, ◌≤◌, ◌&&◌, Bool, true, false, List, [], ◌∷◌, ◌++◌, Some, None, refl, ap, sym, ◌∙◌, subst, arith, ◌⊎◌, inl, inr}
+use Rattle.std.proofs.Common.{◌≡◌, ℕ, ◌+◌, ◌&&◌, Bool, true, false, List, [], ◌∷◌, ◌++◌, None, refl, ap, sym, ◌∙◌, subst, arith}
 use Rattle.fort_core.specs.declared.form.Mode.{Mode}
 use Rattle.fort_core.specs.declared.form.Mode.TheVariants as mode
 use Rattle.fort_core.specs.declared.path.Path.{Path}
 use Rattle.fort_core.specs.declared.pick.Pick.{Pick, Attempt}
 use Rattle.fort_core.specs.declared.program.Program.{Program}
 use Rattle.fort_core.specs.declared.term.Term.{Term}
-use Rattle.fort_machine.specs.Effects.{Store, Effect, both, afterwards}
+use Rattle.fort_machine.specs.Effects.{Effect, both, afterwards}
 use Rattle.fort_machine.specs.Ends.{Finished}
 use Rattle.fort_machine.specs.Ends as ends
 use Rattle.fort_machine.specs.Acts.{single}
@@ -22,10 +22,10 @@ use Rattle.fort_effects.specs.Levels.{Levels, seen, spent, attempts_cost}
 use Rattle.fort_course.specs.Course.{Held, Base, root_base, base_of, Waits, AllWait, Comes, is_inner}
 use Rattle.fort_course.proofs.Store.{levels_by, store_by, seen_base, inner_is}
 use Rattle.fort_plain.specs.Legal.{AreLegal, NoWay, NoRun}
-use Rattle.fort_plain.specs.Within.{AreSources, IsFirst, IsSource, is_none}
+use Rattle.fort_plain.specs.Within.{AreSources, is_none}
 use Rattle.fort_plain.specs.declared.take.Source.{Source}
-use Rattle.fort_plain.proofs.Bounded.{first_bounded, second_bounded}
-use Rattle.fort_plain.proofs.Legal.{PartedLegal, part_legal, InnerRun, InnerLegal, inner_legal}
+use Rattle.fort_plain.proofs.Bounded.{second_bounded}
+use Rattle.fort_plain.proofs.Legal.{part_legal, InnerLegal, inner_legal}
 
 pub path_is : (clock : ℕ) (place : Place) → place.path ≡ path_to (outward clock (frames place.stack))
 path_is clock place = λ i. record { 0 = (place.is_path ∙ same_thread clock (frames place.stack)) i }

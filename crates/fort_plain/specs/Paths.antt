@@ -3,7 +3,6 @@ use Rattle.std.specs.Prelude.{◌≡◌, ℕ, ◌<◌, ◌≤◌, Bool, true, fa
 use Rattle.fort_core.specs.declared.path.Path.{Path}
 use Rattle.fort_core.specs.declared.term.Term.{Term}
 use Rattle.fort_core.specs.declared.term.Term as term
-use Rattle.fort_core.specs.declared.value.Value.{Value}
 use Rattle.fort_machine.specs.Effects.{Store}
 use Rattle.fort_machine.specs.Ends.{Finished, open_yet, standing, throw_of}
 use Rattle.fort_machine.specs.Frames.{Frame, plug, passed}

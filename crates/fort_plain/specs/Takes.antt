@@ -1,10 +1,9 @@
 -- Chapter "Runs": one pick of the innermost machine of a run. The code does what the form's row says; the definition asks for every legal pick.
-use Rattle.std.specs.Prelude.{◌≡◌, ◌≢◌, ℕ, ◌+◌, ◌≤◌, Bool, true, false, List, [], ◌∷◌, ◌++◌, Option, Some, None}
+use Rattle.std.specs.Prelude.{◌≡◌, ◌≢◌, ℕ, ◌+◌, Bool, true, false, List, [], ◌∷◌, ◌++◌, Option, Some, None}
 use Rattle.fort_core.specs.declared.pick.Pick.{Pick, Step, Attempt}
 use Rattle.fort_core.specs.declared.program.Program.{Program}
 use Rattle.fort_core.specs.declared.term.Term.{Term}
-use Rattle.fort_core.specs.declared.value.Value.{Value}
-use Rattle.fort_machine.specs.Effects.{Store, Effect, FitsAll, paid, printed}
+use Rattle.fort_machine.specs.Effects.{Store, Effect, paid, printed}
 use Rattle.fort_machine.specs.Ends.{Finished}
 use Rattle.fort_machine.specs.Acts.{Act, ends}
 use Rattle.fort_machine.specs.Attempts.{Ready, Sleeps, Awake, aborts}
@@ -15,7 +14,7 @@ use Rattle.fort_frames.specs.Frames.{frames, rebuilt}
 use Rattle.fort_frames.specs.declared.place.Place.{Place}
 use Rattle.fort_effects.specs.Levels.{levels_of, seen}
 use Rattle.fort_picks.specs.Picks.{MayBeTried}
-use Rattle.fort_course.specs.Course.{Held, is_inner}
+use Rattle.fort_course.specs.Course.{is_inner}
 use Rattle.fort_carry.specs.Courses.{StandsAt, IsGoing, around}
 use Rattle.fort_carry.specs.Calls.{CannotThrow}
 use Rattle.fort_carry.specs.Picked.{PicksAttempt}
@@ -26,7 +25,6 @@ use Rattle.fort_acting.specs.Only.{OnlyDoes}
 use Rattle.fort_deal.specs.declared.deal.Deal.{Deal}
 use Rattle.fort_deal.specs.declared.deal.Deal.TheVariants as deal
 use Rattle.fort_plain.specs.Legal.{AreLegal, NoWay}
-use Rattle.fort_plain.specs.Paths.{whole}
 use Rattle.fort_plain.specs.declared.act.Acted.{Acted}
 use Rattle.fort_plain.specs.declared.act.Acted.TheVariants as acted
 use Rattle.fort_plain.specs.declared.act.Turn.{Turn}

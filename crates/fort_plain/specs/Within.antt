@@ -1,5 +1,5 @@
 -- Chapter "Runs": a pick of the root's machine that is being replayed, with the attempts that are open in it. The code keeps a stack of picks.
-use Rattle.std.specs.Prelude.{◌≡◌, ◌≢◌, ℕ, ◌+◌, Bool, true, false, ◌&&◌, List, [], ◌∷◌, ◌++◌}
+use Rattle.std.specs.Prelude.{◌≡◌, ◌≢◌, ℕ, Bool, true, false, ◌&&◌, List, [], ◌∷◌, ◌++◌}
 use Rattle.fort_core.specs.declared.path.Path.{Path}
 use Rattle.fort_core.specs.declared.pick.Pick.{Pick, Attempt}
 use Rattle.fort_core.specs.declared.program.Program.{Program}
@@ -8,7 +8,7 @@ use Rattle.fort_machine.specs.Effects.{Effect}
 use Rattle.fort_machine.specs.Attempts.{goes}
 use Rattle.fort_machine.specs.Runs.{Runs}
 use Rattle.fort_machine.specs.Journals.{MakesWithinBounds, opening_store}
-use Rattle.fort_effects.specs.Levels.{levels_of, seen}
+use Rattle.fort_effects.specs.Levels.{levels_of}
 use Rattle.fort_course.specs.Course.{Held}
 use Rattle.fort_carry.specs.Courses.{IsGoing, around}
 use Rattle.fort_carry.specs.declared.course.Course.{Course}

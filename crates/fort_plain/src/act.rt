@@ -10,7 +10,7 @@ use crate::attempts::begin;
 use crate::find::{Found, find};
 use crate::steps::step;
 use fort_base::{List, Loc, Memory};
-use fort_carry::{Course, Going};
+use fort_carry::{Execution, Going};
 use fort_core::{Path, Pick, Program};
 use fort_frames::State;
 use std::alloc::Global;
@@ -40,7 +40,7 @@ pub enum Acted {
     /// It costs more than what is left of the fuel.
     Passes,
     /// The last of all is legal, and isn't carried out: the run before it, and what all costs with it.
-    Last(Course, u64),
+    Last(Execution, u64),
 }
 
 /// Takes a pick of the innermost machine.
@@ -72,7 +72,7 @@ pub fn act(
 fn step_at(
     alloc: Global,
     program: &Program,
-    course: Course,
+    course: Execution,
     state: State,
     turn: Turn,
     path: &Path,
@@ -83,7 +83,7 @@ fn step_at(
     requires turn { IsTurn turn }
     ensures { IfOk result (ActsOn program.now course (whole course.clock state) turn (a_step path.now loc)) }
 {
-    match find(alloc, course.clock, state, path)? {
+    match find(alloc, course.clock(), state, path)? {
         Found::Steps(place, ready) => step(alloc, program, course, turn, place, ready, loc),
         Found::Tries(_place, _form) => Ok(Acted::Illegal),
         Found::Nothing => Ok(Acted::Illegal),
@@ -93,7 +93,7 @@ fn step_at(
 fn attempt_at(
     alloc: Global,
     program: &Program,
-    course: Course,
+    course: Execution,
     state: State,
     turn: Turn,
     path: &Path,
@@ -106,7 +106,7 @@ fn attempt_at(
 {
     let _within = within;
     let _turn = turn;
-    match find(alloc, course.clock, state, path)? {
+    match find(alloc, course.clock(), state, path)? {
         Found::Tries(place, form) => begin(alloc, program, course, place, form),
         Found::Steps(_place, _ready) => Ok(Acted::Illegal),
         Found::Nothing => Ok(Acted::Illegal),

@@ -17,7 +17,7 @@ use crate::act::Acted;
 use crate::awake::{all_sleep, sleeps};
 use crate::settled::{Settled, settle};
 use fort_base::{Memory, Shared};
-use fort_carry::{Course, Going};
+use fort_carry::{Execution, Going};
 use fort_core::{Mode, Program, Term};
 use fort_frames::Place;
 use std::alloc::Global;
@@ -31,7 +31,7 @@ use std::alloc::Global;
 pub fn begin(
     alloc: Global,
     program: &Program,
-    course: Course,
+    course: Execution,
     place: Place,
     form: Shared<Term>,
 ) -> Result<Acted, Memory>
@@ -69,7 +69,7 @@ pub fn begin(
 // Whether a form sleeps while another thread of its machine is awake.
 fn must_wait(
     alloc: Global,
-    course: &Course,
+    course: &Execution,
     place: &Place,
     form: &Shared<Term>,
 ) -> Result<bool, Memory>
@@ -88,7 +88,7 @@ fn must_wait(
 fn open_attempt(
     alloc: Global,
     program: &Program,
-    course: Course,
+    course: Execution,
     place: Place,
     form: &Shared<Term>,
     mode: Mode,
@@ -119,7 +119,7 @@ pub fn close(alloc: Global, program: &Program, going: Going) -> Result<Option<Go
     ensures { IfOk result (Closes program.now going.course (whole going.course.clock going.state)) }
 {
     let Going { course, state } = going;
-    match settle(alloc, course.clock, state)? {
+    match settle(alloc, course.clock(), state)? {
         Settled::Value(value) => Ok(Some(course.complete(alloc, program, value)?)),
         Settled::Throw(thrown) => Ok(Some(course.fail(alloc, program, thrown)?)),
         Settled::Open => Ok(None),

@@ -9,7 +9,7 @@ ghost use Rattle.fort_plain.specs.Paths.{AllSleep, IsNoForm};
 
 use crate::aside::{Out, leave_frame, node_form};
 use fort_base::{List, Loc, Memory, Shared};
-use fort_carry::Course;
+use fort_carry::Execution;
 use fort_core::{Term, Value};
 use fort_frames::{At, Place, Stack, State};
 use fort_moves::{Stop, moved};
@@ -23,7 +23,7 @@ use std::alloc::Global;
 /// `Memory` where memory is wanting.
 pub fn all_sleep(
     alloc: Global,
-    course: &Course,
+    course: &Execution,
     place: &Place,
     form: &Shared<Term>,
 ) -> Result<bool, Memory>
@@ -31,7 +31,7 @@ pub fn all_sleep(
     requires reached { Reaches course.now.clock (frames place.now.stack) form.now }
     ensures { IfOk result (AllSleep (seen (levels_of course.now.layers)) (rebuilt course.now.clock (frames place.now.stack) form.now)) }
 {
-    let term = whole_term(alloc, course.clock, place.share(alloc)?, form.share()?)?;
+    let term = whole_term(alloc, course.clock(), place.share(alloc)?, form.share()?)?;
     sweep(alloc, course, term)
 }
 
@@ -77,14 +77,14 @@ fn is_root(place: &Place) -> bool
 
 // From the left end of a term through its threads, as long as they sleep.
 #[tactic(auto, using(crate::proofs::Sweeping::from_left, crate::proofs::Sweeping::past_sleeper, crate::proofs::Sweeping::past_group, crate::proofs::Sweeping::thread_awake, crate::proofs::Sweeping::form_awake, crate::proofs::Sweeping::all_asleep))]
-fn sweep(alloc: Global, course: &Course, term: Shared<Term>) -> Result<bool, Memory>
+fn sweep(alloc: Global, course: &Execution, term: Shared<Term>) -> Result<bool, Memory>
     ensures { IfOk result (AllSleep (seen (levels_of course.now.layers)) term) }
 {
     let place = Place::root(alloc);
     let at = At::Form(term);
     let mut state = State { place, at };
     for _turn in 0..u64::MAX {
-        match moved(alloc, course.clock, state)? {
+        match moved(alloc, course.clock(), state)? {
             Stop::Steps(_place, _ready) => return Ok(false),
             Stop::Tries(place, form) => {
                 if !sleeps(course, form.get()) {
@@ -116,7 +116,7 @@ fn none_awake(at: At) -> Result<bool, Memory>
 }
 
 /// Whether a form sleeps: each location that it watches has its value.
-pub fn sleeps(course: &Course, form: &Term) -> bool
+pub fn sleeps(course: &Execution, form: &Term) -> bool
     ensures { IsTrue result ↔ Sleeps (seen (levels_of course.now.layers)) form.now }
 {
     match form {
@@ -125,7 +125,7 @@ pub fn sleeps(course: &Course, form: &Term) -> bool
     }
 }
 
-fn unchanged(course: &Course, marks: &List<(Loc, Value)>) -> bool
+fn unchanged(course: &Execution, marks: &List<(Loc, Value)>) -> bool
     ensures { IsTrue result ↔ ((l : ℕ) (v : Value) → In l v marks.now → seen (levels_of course.now.layers) l ≡ Some v) }
 {
     for mark in marks.as_slice() {
@@ -137,7 +137,7 @@ fn unchanged(course: &Course, marks: &List<(Loc, Value)>) -> bool
 }
 
 // Whether a location has this value.
-fn has(course: &Course, loc: Loc, value: &Value) -> bool
+fn has(course: &Execution, loc: Loc, value: &Value) -> bool
     ensures { IsTrue result ↔ (seen (levels_of course.now.layers) loc.0 ≡ Some value.now) }
 {
     match course.look(loc) {

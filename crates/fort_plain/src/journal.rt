@@ -10,7 +10,7 @@ ghost use Rattle.fort_plain.specs.Replays.{EndsAt, EndsSo, IsNoPick, Replays};
 use crate::settled::{Settled, settle};
 use crate::take::{Taken, take};
 use fort_base::{Bytes, List, Memory};
-use fort_carry::{Course, Going};
+use fort_carry::{Execution, Going};
 use fort_core::{Ending, Journal, Pick, Program, Value};
 use std::alloc::Global;
 
@@ -36,7 +36,7 @@ pub fn replay(alloc: Global, program: &Program, journal: &Journal) -> Result<Rep
 {
     let mut going = Going::first(alloc, program, journal.fuel)?;
     for pick in journal.picks.as_slice() {
-        let count = going.course.picks.len() as u64;
+        let count = going.course.get().picks.len() as u64;
         match take(alloc, program, going, pick, false)? {
             Taken::Out(later) => going = later,
             Taken::Illegal => return Ok(Replayed::Broken(count)),
@@ -88,7 +88,7 @@ fn finished(
 {
     let _program = program;
     let Going { course, state } = going;
-    let term = settle(alloc, course.clock, state)?;
+    let term = settle(alloc, course.clock(), state)?;
     if ends_so(&term, ending) {
         Ok(run(course))
     } else {
@@ -116,10 +116,10 @@ fn is_unit(value: &Value) -> bool
 }
 
 // What the root's machine printed and cost.
-fn run(course: Course) -> Replayed
+fn run(course: Execution) -> Replayed
     ensures { result ≡ Replayed.Run (levels_of course.layers).output (levels_of course.layers).cost }
 {
-    let account = course.layers.account();
+    let account = course.account();
     Replayed::Run(account.output, account.cost)
 }
 
@@ -138,9 +138,10 @@ fn out_of_fuel(
     requires outside { going.course.outer ≡ [] }
     ensures { IfOk result (EndsAt program.now going.course.fuel going.course.picks (Ending.OutOfFuel pick.now) count) }
 {
-    let fuel = going.course.fuel;
-    let mut going = going;
-    going.course.fuel = most(fuel);
+    let Going { course, state } = going;
+    let fuel = course.get().fuel;
+    let course = course.with_fuel(most(fuel));
+    let going = Going { course, state };
     match take(alloc, program, going, pick, true)? {
         Taken::Last(course, cost) => {
             if cost <= fuel {

@@ -14,7 +14,7 @@ ghost use Rattle.fort_plain.specs.Takes.{DoesOnly, IsThreadAt, IsTurn, StepsOn, 
 use crate::act::{Acted, Turn};
 use fort_acting::{acting, made_by, makes_count, new_values, next_by};
 use fort_base::{Bytes, List, Loc, Memory, Shared};
-use fort_carry::{Course, Going, single};
+use fort_carry::{Execution, Going, single};
 use fort_core::{Program, Term, Value};
 use fort_deal::{Deal, Goes, Makes};
 use fort_frames::{At, Place, State};
@@ -29,7 +29,7 @@ use std::alloc::Global;
 pub fn step(
     alloc: Global,
     program: &Program,
-    course: Course,
+    course: Execution,
     turn: Turn,
     place: Place,
     ready: Ready,
@@ -48,7 +48,7 @@ pub fn step(
 fn dealt(
     alloc: Global,
     program: &Program,
-    course: Course,
+    course: Execution,
     turn: Turn,
     place: Place,
     ready: Ready,
@@ -80,7 +80,7 @@ fn is_stuck(deal: &Deal) -> bool
 fn goes_on(
     alloc: Global,
     program: &Program,
-    course: Course,
+    course: Execution,
     turn: Turn,
     place: Place,
     ready: &Ready,
@@ -114,7 +114,7 @@ fn goes_on(
 fn touches(
     alloc: Global,
     program: &Program,
-    course: Course,
+    course: Execution,
     turn: Turn,
     place: Place,
     ready: &Ready,
@@ -142,7 +142,7 @@ fn touches(
 fn turns(
     alloc: Global,
     program: &Program,
-    course: Course,
+    course: Execution,
     turn: Turn,
     place: Place,
     ready: &Ready,
@@ -180,10 +180,10 @@ fn names_one(loc: Loc) -> bool
 }
 
 // What all costs with this.
-fn with(course: &Course, cost: u64) -> Result<u64, Memory>
+fn with(course: &Execution, cost: u64) -> Result<u64, Memory>
     ensures { IfOk result (λ all. all ≡ course.now.spent + cost) }
 {
-    match course.spent.checked_add(cost) {
+    match course.spent().checked_add(cost) {
         None => Err(Memory),
         Some(all) => Ok(all),
     }
@@ -192,7 +192,7 @@ fn with(course: &Course, cost: u64) -> Result<u64, Memory>
 fn asks(
     alloc: Global,
     program: &Program,
-    course: Course,
+    course: Execution,
     turn: Turn,
     place: Place,
     ready: &Ready,
@@ -229,7 +229,7 @@ fn asks(
 fn sets(
     alloc: Global,
     program: &Program,
-    course: Course,
+    course: Execution,
     turn: Turn,
     place: Place,
     ready: &Ready,
@@ -265,7 +265,7 @@ fn sets(
 fn makes_some(
     alloc: Global,
     program: &Program,
-    course: Course,
+    course: Execution,
     turn: Turn,
     place: Place,
     ready: &Ready,
@@ -297,7 +297,7 @@ fn makes_some(
 }
 
 // Whether so many locations from one on are below 2 to the 64, and none of them is there.
-fn are_free(course: &Course, loc: Loc, count: u64) -> bool
+fn are_free(course: &Execution, loc: Loc, count: u64) -> bool
     ensures { IsTrue result ↔ ((loc.0 + count ≤ 2 ^ 64) × AreFree loc.0 count (seen (levels_of course.now.layers))) }
 {
     for at in 0..count {
@@ -309,7 +309,7 @@ fn are_free(course: &Course, loc: Loc, count: u64) -> bool
 }
 
 // Whether the location so far behind one is below 2 to the 64, and isn't there.
-fn is_free(course: &Course, loc: Loc, at: u64) -> bool
+fn is_free(course: &Execution, loc: Loc, at: u64) -> bool
     ensures { IsTrue result ↔ ((loc.0 + «at» < 2 ^ 64) × (seen (levels_of course.now.layers) (loc.0 + «at») ≡ None)) }
 {
     match loc.0.checked_add(at) {
@@ -322,7 +322,7 @@ fn is_free(course: &Course, loc: Loc, at: u64) -> bool
 fn aborts(
     alloc: Global,
     program: &Program,
-    course: Course,
+    course: Execution,
     turn: Turn,
     place: Place,
     ready: &Ready,
@@ -351,7 +351,7 @@ fn aborts(
 fn abort_attempt(
     alloc: Global,
     program: &Program,
-    course: Course,
+    course: Execution,
     turn: Turn,
     place: Place,
     ready: &Ready,

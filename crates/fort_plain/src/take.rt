@@ -7,7 +7,7 @@ ghost use Rattle.fort_plain.specs.Within.{GoesWithin, IsAttempt, IsHere, IsLeft,
 use crate::act::{Acted, Turn, act};
 use crate::attempts::close;
 use fort_base::{List, Memory};
-use fort_carry::{Course, Going};
+use fort_carry::{Execution, Going};
 use fort_core::{Pick, Program};
 use std::alloc::Global;
 
@@ -22,7 +22,7 @@ pub enum Taken {
     Passes,
     /// The last of all is legal, or begun, and isn't carried out to its end: the run with the attempts
     /// that are open, and what all costs with it.
-    Last(Course, u64),
+    Last(Execution, u64),
 }
 
 /// The picks of an attempt.
@@ -134,7 +134,7 @@ fn go<'a>(alloc: Global, program: &Program, within: Within<'a>) -> Result<Next<'
     requires within { IsWithin program.now within }
     ensures { IfOk result (GoesWithin program.now within.entry) }
 {
-    let at = within.going.course.picks.len();
+    let at = within.going.course.get().picks.len();
     let picks = within.source.picks;
     match picks.get(at) {
         Some(pick) => one(alloc, program, within, pick, picks.len() - at == 1),
@@ -226,7 +226,7 @@ fn end<'a>(alloc: Global, program: &Program, within: Within<'a>) -> Result<Next<
             course,
             state: _state,
         } = going;
-        let cost = course.spent;
+        let cost = course.spent();
         return Ok(Next::Ends(Taken::Last(course, cost)));
     }
     match close(alloc, program, going)? {

@@ -6,7 +6,6 @@ use Rattle.fort_carry.specs.Calls.{MayTry}
 use Rattle.fort_machine.proofs.Ready.{form_ready}
 use Rattle.fort_plain.specs.Takes.{MustWait, term_round}
 use Rattle.fort_plain.proofs.Attempting.{sleeper_waits, may_try}
-use Rattle.fort_plain.proofs.Testing.{is_atomic}
 use Rattle.fort_plain.proofs.attempts.begin.Goals as goal
 
 pub must_wait-requires-clause-ready : goal.must_wait-requires-clause-ready

@@ -1,4 +1,4 @@
-use Rattle.std.proofs.Common.{◌≡◌, IfOk, subst, sym, ap, ◌∙◌}
+use Rattle.std.proofs.Common.{◌≡◌, IfOk, subst, sym, ◌∙◌}
 use Rattle.fort_core.specs.declared.term.Term.{Term}
 use Rattle.fort_machine.specs.Ends.{open_yet, standing}
 use Rattle.fort_effects.specs.Levels.{levels_of, seen}
@@ -12,9 +12,10 @@ whole_term-requires-clause-is_open c = subst (λ (t : Term). standing t ≡ open
 
 pub whole_term-requires-clause-reached : goal.whole_term-requires-clause-reached
 whole_term-requires-clause-reached c =
-    subst (λ (p : Place). Reaches c.args.course.now.clock (frames p.stack) c.in_ok-share-2.field-0) (sym c.in_ok-share.ensures) (subst (λ (t : Term). Reaches c.args.course.now.clock (frames c.args.place.now.stack) t) (sym c.in_ok-share-2.ensures) c.requires.reached)
+    rw c.clock.ensures
+    (subst (λ (p : Place). Reaches c.args.course.now.clock (frames p.stack) c.in_ok-share-2.field-0) (sym c.in_ok-share.ensures) (subst (λ (t : Term). Reaches c.args.course.now.clock (frames c.args.place.now.stack) t) (sym c.in_ok-share-2.ensures) c.requires.reached))
 
 pub returns : goal.returns
 returns c =
     subst (λ (t : Term). IfOk c.sweep.result (AllSleep (seen (levels_of c.args.course.now.layers)) t))
-    (c.in_ok-term.ensures ∙ (λ i. rebuilt c.args.course.now.clock (frames (c.in_ok-share.ensures i).stack) (c.in_ok-share-2.ensures i))) c.sweep.ensures
+    ((rw c.clock.ensures at c.in_ok-term.ensures) ∙ (λ i. rebuilt c.args.course.now.clock (frames (c.in_ok-share.ensures i).stack) (c.in_ok-share-2.ensures i))) c.sweep.ensures

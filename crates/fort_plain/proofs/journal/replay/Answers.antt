@@ -1,8 +1,7 @@
-use Rattle.std.proofs.Common.{◌≡◌, ◌≤◌, [], ◌∷◌, ◌++◌, Some, length, false, refl, sym, ◌∙◌, ap, subst, arith}
+use Rattle.std.proofs.Common.{◌≡◌, ◌≤◌, Some, length, false, refl, subst, arith}
 use Rattle.std.specs.Prelude.{slice_get, IfOk}
 use Rattle.std.proofs.lemmas.Option.{slice_get_read}
 use Rattle.std.proofs.lemmas.Result.{IfOk-weaker}
-use Rattle.fort_core.specs.declared.pick.Pick.{Pick}
 use Rattle.fort_plain.specs.Replays.{EndsAt}
 use Rattle.fort_plain.specs.Within.{Takes}
 use Rattle.fort_plain.proofs.Replaying.{breaks_here, ends_here, goes_here}
@@ -34,7 +33,7 @@ returns-in-Illegal c =
     let pick = c.pick-item.result in
     let at = slice_get_read items (length items) c.loop-pick.pick-index pick refl c.loop-pick-test.true c.pick-item.is in
     let h = subst (Takes c.args.program.now g.course.fuel false g.course.picks pick) c.in-Illegal.is c.in_ok-later.ensures in
-    breaks_here _ _ _ _ pick _ c.loop-pick.invariant (subst (λ ps. slice_get ps c.loop-pick.pick-index ≡ Some pick) c.as_slice-pick-items.ensures at) c.len-count.ensures (h.never g.course.fuel)
+    breaks_here _ _ _ _ pick _ c.loop-pick.invariant (subst (λ ps. slice_get ps c.loop-pick.pick-index ≡ Some pick) c.as_slice-pick-items.ensures at) (rw c.get.ensures at c.len-count.ensures) (h.never g.course.fuel)
 
 pub returns-in-Passes : goal.returns-in-Passes
 returns-in-Passes c =
@@ -43,7 +42,7 @@ returns-in-Passes c =
     let pick = c.pick-item.result in
     let at = slice_get_read items (length items) c.loop-pick.pick-index pick refl c.loop-pick-test.true c.pick-item.is in
     let h = subst (Takes c.args.program.now g.course.fuel false g.course.picks pick) c.in-Passes.is c.in_ok-later.ensures in
-    breaks_here _ _ _ _ pick _ c.loop-pick.invariant (subst (λ ps. slice_get ps c.loop-pick.pick-index ≡ Some pick) c.as_slice-pick-items.ensures at) c.len-count.ensures h.none
+    breaks_here _ _ _ _ pick _ c.loop-pick.invariant (subst (λ ps. slice_get ps c.loop-pick.pick-index ≡ Some pick) c.as_slice-pick-items.ensures at) (rw c.get.ensures at c.len-count.ensures) h.none
 
 pub unreachable-requires : goal.unreachable-requires
 unreachable-requires c =

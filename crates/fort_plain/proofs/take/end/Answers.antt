@@ -5,7 +5,7 @@ use Rattle.fort_plain.proofs.Taking.{close_within, last_end, open_end}
 use Rattle.fort_plain.proofs.take.end.Goals as goal
 
 pub returns-then-source : goal.returns-then-source
-returns-then-source c = last_end _ c.args.within c.requires.within c.requires.over c.if-source.true
+returns-then-source c = rw c.spent-cost.ensures (last_end _ c.args.within c.requires.within c.requires.over c.if-source.true)
 
 pub returns-in-None : goal.returns-in-None
 returns-in-None c =

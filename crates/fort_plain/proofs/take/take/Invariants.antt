@@ -1,4 +1,3 @@
-use Rattle.std.proofs.Common.{[], ◌∷◌, ◌++◌}
 use Rattle.fort_plain.specs.Within.{TakesOn}
 use Rattle.fort_plain.proofs.take.take.Given as goal
 
