@@ -18,6 +18,7 @@ use std::alloc::Global;
 
 /// Goes into a form: to its first part, or to its step.
 #[tactic(auto, using(crate::proofs::Enters::enters_by_itself, crate::proofs::Kept::kept_here))]
+#[inline(never)]
 pub fn enter(alloc: Global, clock: u64, place: Place, term: Shared<Term>) -> Result<Turn, Memory>
     requires { Reaches clock (frames place.stack) term }
     ensures turns { IfOk result (IsTurn clock (rebuilt clock (frames place.stack) term)) }
@@ -66,6 +67,7 @@ pub fn enter(alloc: Global, clock: u64, place: Place, term: Shared<Term>) -> Res
 
 // A mark: round an open part of a parallel form it is that part's; elsewhere no step puts one.
 #[tactic(auto, using(crate::proofs::Enters::odd_value, crate::proofs::Enters::odd_throw, crate::proofs::Kept::odd_kept))]
+#[cold]
 fn at_mark(
     alloc: Global,
     clock: u64,
@@ -86,6 +88,7 @@ fn at_mark(
 }
 
 #[tactic(auto, using(crate::proofs::Enters::odd_at_root, crate::proofs::Kept::odd_root))]
+#[cold]
 fn at_open_mark(
     alloc: Global,
     clock: u64,
@@ -187,6 +190,7 @@ fn odd_in_order(
 }
 
 // Into the first part of a form that goes from left to right.
+#[inline(never)]
 fn enter_first(alloc: Global, clock: u64, place: Place, term: &Term) -> Result<Turn, Memory>
     requires in_order { GoesInOrder (out-Term term.now) }
     requires reached { Reaches clock (frames place.stack) term.now }
@@ -272,6 +276,7 @@ pub fn into(
 }
 
 #[tactic(auto, using(crate::proofs::Kept::kept_here))]
+#[inline(never)]
 fn enter_throw(
     alloc: Global,
     clock: u64,
@@ -293,6 +298,7 @@ fn enter_throw(
 
 // Into a tuple that is no value.
 #[tactic(auto, using(crate::proofs::Enters::group_thread, crate::proofs::Kept::opened_kept, crate::proofs::Kept::steps_kept))]
+#[inline(never)]
 fn enter_group(
     alloc: Global,
     clock: u64,
@@ -313,6 +319,7 @@ fn enter_group(
 }
 
 #[tactic(auto, using(crate::proofs::Enters::no_first, crate::proofs::Enters::first_operand, crate::proofs::Enters::no_operands, crate::proofs::Kept::kept_here))]
+#[inline(never)]
 fn enter_operator(
     alloc: Global,
     clock: u64,

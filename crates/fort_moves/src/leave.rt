@@ -20,6 +20,7 @@ use std::alloc::Global;
 
 /// Goes out of a part that came to a value, or out of the whole term.
 #[tactic(auto, using(crate::proofs::Kept::kept_out))]
+#[inline(never)]
 pub fn leave(alloc: Global, clock: u64, place: Place, value: Value) -> Result<Turn, Memory>
     requires { Reaches clock (frames place.stack) (Term.Value value) }
     ensures turns { IfOk result (IsTurn clock (rebuilt clock (frames place.stack) (Term.Value value))) }
@@ -86,6 +87,7 @@ fn leave_frame(
 
 // A form whose last part came to a value has its step.
 #[tactic(auto, using(crate::proofs::Enters::value_ready, crate::proofs::Kept::steps_below))]
+#[inline(never)]
 fn step_of_value(clock: u64, below: Place, frame: Frame, value: Value) -> Result<Turn, Memory>
     requires in_order { IsInOrder frame }
     requires last { IsLast frame }
@@ -99,6 +101,7 @@ fn step_of_value(clock: u64, below: Place, frame: Frame, value: Value) -> Result
 
 // One operand more is a value.
 #[tactic(auto, using(crate::proofs::Enters::operands_end_thread, crate::proofs::Enters::operand_next, crate::proofs::Kept::kept_here))]
+#[inline(never)]
 fn next_operand(
     alloc: Global,
     clock: u64,
@@ -145,6 +148,7 @@ fn share_at(parts: &List<Shared<Term>>, at: usize) -> Result<Option<Shared<Term>
 /// Goes out of a part that came to a throw, or out of the whole term. A form that goes from left
 /// to right has its step then.
 #[tactic(auto, using(crate::proofs::Kept::kept_out))]
+#[inline(never)]
 pub fn fall(alloc: Global, clock: u64, place: Place, thrown: Value) -> Result<Turn, Memory>
     requires { Reaches clock (frames place.stack) (throw_of thrown) }
     ensures turns { IfOk result (IsTurn clock (rebuilt clock (frames place.stack) (throw_of thrown))) }
@@ -192,6 +196,7 @@ fn step_of_throw(clock: u64, below: Place, frame: Frame, thrown: Value) -> Resul
 
 // A part back in its place, with its mark where it is open and has one, and on to the next part.
 #[tactic(auto, using(crate::proofs::Parts::put_part, crate::proofs::Parts::reaches_back, crate::proofs::Parts::suits_back, crate::proofs::Kept::back_kept))]
+#[inline(never)]
 fn back(
     alloc: Global,
     clock: u64,
@@ -248,6 +253,7 @@ fn with_mark(alloc: Global, part: Shared<Term>) -> Result<Shared<Term>, Memory>
 /// Goes out of a part that is left unfinished, with its mark where it has one, and on to what is
 /// beside it; or out of the whole term.
 #[tactic(auto, using(crate::proofs::Kept::kept_out))]
+#[inline(never)]
 pub fn left(alloc: Global, clock: u64, place: Place, term: Shared<Term>) -> Result<Turn, Memory>
     requires { Reaches clock (frames place.stack) term }
     ensures turns { IfOk result (IsTurn clock (rebuilt clock (frames place.stack) term)) }
