@@ -12,3 +12,5 @@ mod primitives;
 mod records;
 #[cfg(test)]
 mod stores;
+#[cfg(test)]
+mod terms;
