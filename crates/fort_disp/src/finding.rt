@@ -16,6 +16,7 @@ use fort_value::has_type;
 use std::sync::ledger::Ledger;
 
 // Whether the argument in a place is there and has the parameter's type.
+#[inline(always)]
 fn takes(program: &Program, decl: &CoreDecl, values: &List<Value>, place: usize) -> bool
     ensures { result ≡ takes_it program.now (slice_get values.now place) (slice_get decl.now.parameters place) }
 {
@@ -31,6 +32,7 @@ fn takes(program: &Program, decl: &CoreDecl, values: &List<Value>, place: usize)
 
 // Whether there are as many arguments as parameters, and the first so many have the parameters'
 // types.
+#[inline(always)]
 fn suits(program: &Program, decl: &CoreDecl, values: &List<Value>, count: usize) -> bool
     ensures { result ≡ fits_first program.now values.now decl.now.parameters count }
 {
@@ -45,6 +47,7 @@ fn suits(program: &Program, decl: &CoreDecl, values: &List<Value>, count: usize)
     true
 }
 
+#[inline(always)]
 fn fits(program: &Program, number: DeclId, values: &List<Value>, count: usize) -> bool
     ensures { result ≡ fits_it program.now values.now count number }
 {

@@ -6,7 +6,8 @@ use Rattle.std.proofs.lemmas.Option.{slice_get_read}
 use Rattle.std.specs.Bool.{⊤, beq}
 use Rattle.std.specs.Cmp.Lexicographic.{bytes_decides}
 use Rattle.fort_set.specs.declared.member.MemberSet.{MemberSet}
-use Rattle.fort_known.specs.Spellings.{Spelling, any_spelling}
+use Rattle.fort_builtin.specs.Types.{any_spelling}
+use Rattle.fort_known.specs.Spellings.{Spelling}
 use Rattle.fort_known.specs.Sets.{any_set, first_set, has_name, is_set_of}
 use Rattle.fort_known.specs.Names.{shows, type_number, is_type}
 use Rattle.fort_known.specs.Places.{place_by, is_itself, set_name}

@@ -1,11 +1,13 @@
 -- The chapter "Typing", names: what a name in an expression stands for, and which names can't be bound. The code keeps it by the names' numbers.
-use Rattle.std.specs.Prelude.{ℕ, suc, nat_eq, nat_le, Bool, true, false, cond, not, ◌&&◌, ◌||◌, List, [], ◌∷◌, Option, Some, None, codes, get_or, slice_get}
+use Rattle.std.specs.Prelude.{ℕ, suc, nat_eq, nat_le, Bool, true, false, cond, not, ◌&&◌, ◌||◌, List, [], ◌∷◌, Option, Some, None, codes, slice_get}
 use Rattle.std.specs.Str.{bytes_eq}
 use Rattle.fort_base.specs.declared.ids.NameId.{NameId}
 use Rattle.fort_base.specs.declared.ids.TypeId.{TypeId}
 use Rattle.fort_base.specs.declared.ty.Ty.{Ty}
 use Rattle.fort_base.specs.declared.ty.Ty.TheOpen.{Ty-F}
-use Rattle.fort_known.specs.Spellings.{Spelling, any_spelling}
+use Rattle.fort_builtin.specs.declared.types.TheConstants.{ZZ32, RANGE}
+use Rattle.fort_builtin.specs.Types.{any_spelling}
+use Rattle.fort_known.specs.Spellings.{Spelling}
 use Rattle.fort_set.specs.declared.field.Field.{Field}
 use Rattle.fort_set.specs.declared.member.Member.{Member}
 use Rattle.fort_set.specs.declared.member.MemberSet.{MemberSet}
@@ -57,7 +59,7 @@ variable k name = field_in k.members.variables name
 
 -- the number of a built-in leaf: ZZ32, ZZ64, String, Boolean, Range
 abbrev pub is_leaf_number : ℕ → Bool
-is_leaf_number n = nat_le 2 n && nat_le n 6
+is_leaf_number n = nat_le ZZ32.0 n && nat_le n RANGE.0
 
 -- the number of the type that is spelled so, where these are the types' names; past the last one where none is
 abbrev pub type_number : List Spelling → Spelling → ℕ

@@ -7,10 +7,6 @@ use Rattle.fort_ops.specs.declared.op.Op.TheVariants as an_op
 abbrev pub Spelling : Type 0
 Spelling = List ℕ
 
--- `Any`, which is a type but no declared one
-unfoldable pub any_spelling : Spelling
-any_spelling = codes "Any"
-
 -- An operator's set has its first spelling as name; an operator word is its own name.
 abbrev pub operator_spelling : List Spelling → Op → Spelling
 operator_spelling names an_op.Juxt = codes "juxtaposition"

@@ -1,7 +1,7 @@
 //! What a name stands for, and whether it is visible.
 ghost use Rattle.std.specs.Prelude.{◌≡◌, IfOk};
 ghost use Rattle.std.specs.Option.{option_copied};
-ghost use Rattle.fort_known.specs.Names.{is_object, single, standing, standing_single, standing_top, variable, is_type, is_visible, any_declared, shows};
+ghost use Rattle.fort_known.specs.Names.{is_leaf_number, is_object, single, standing, standing_single, standing_top, variable, is_type, is_visible, any_declared, shows};
 ghost use Rattle.fort_known.specs.Sets.{any_set};
 ghost use Rattle.fort_known.specs.Read.{facts, standing_of};
 
@@ -10,6 +10,7 @@ use crate::known::Known;
 use crate::names::{binding, field_in, field_of, number_in, own_field, type_number};
 use crate::sets::{has_name, is_function, spelled};
 use fort_base::{Memory, NameId, TypeId};
+use fort_builtin::{ANY, RANGE, ZZ32};
 use fort_scope::{Binding, Scope};
 use fort_set::{Field, Member, MemberSet};
 
@@ -30,12 +31,19 @@ pub enum Standing<'a> {
     Nothing,
 }
 
+// Whether the number is that of a built-in leaf.
+fn is_leaf_number(number: usize) -> bool
+    ensures { result ≡ is_leaf_number number }
+{
+    ZZ32.0 as usize <= number && number <= RANGE.0 as usize
+}
+
 /// Whether the type of a number is an object: of the objects and leaves one that is no built-in leaf.
 fn is_object(known: &Known, number: usize) -> bool
     ensures { result ≡ is_object (facts known.now) number }
 {
     match known.index.members.objects.get(number) {
-        Some(object) => *object && !(2 <= number && number <= 6),
+        Some(object) => *object && !is_leaf_number(number),
         None => false,
     }
 }
@@ -89,11 +97,11 @@ pub fn stands_for<'a>(
 }
 
 /// Whether some type is spelled so.
-#[tactic(auto, unfolding(crate::specs::Spellings::any_spelling))]
+#[tactic(auto, unfolding(fort_builtin::specs::Types::any_spelling))]
 fn is_type(index: &Index, spelling: &[u8]) -> bool
     ensures { result ≡ is_type index.now.types.now spelling.now }
 {
-    index.type_named(spelling).is_some() || b"Any".as_slice() == spelling
+    index.type_named(spelling).is_some() || ANY == spelling
 }
 
 /// Whether the component declares one of the declarations.

@@ -25,7 +25,8 @@ use Rattle.fort_typed.specs.Sound.{opening}
 use Rattle.fort_typed.proofs.Rules.{Trans}
 use Rattle.fort_typed.proofs.Made.{function_has}
 use Rattle.fort_typed.proofs.Order.{itself}
-use Rattle.fort_typing_rules.specs.Types.{zz32, range_id, given_at, given, tuple_of, parameter_type}
+use Rattle.fort_builtin.specs.declared.types.TheConstants.{RANGE}
+use Rattle.fort_typing_rules.specs.Types.{zz32, given_at, given, tuple_of, parameter_type}
 use Rattle.fort_typing_rules.specs.Typing as rule
 use Rattle.fort_translation.specs.Making.{Maker, after, naming}
 use Rattle.fort_translation.specs.Parts.{Given}
@@ -172,9 +173,9 @@ module _ (k : Knows) (p : Program) where
 -- ---- what generators give
 
 module _ (k : Knows) (g : Given) (p : Program) (U : Suits k g p) where
-  is_range : (i : TypeId) (ty : Ty) (c : Bool) → nat_le i.0 range_id.0 && nat_le range_id.0 i.0 ≡ c → cond c (Some zz32) None ≡ Some ty → (i ≡ range_id) × (ty ≡ zz32)
+  is_range : (i : TypeId) (ty : Ty) (c : Bool) → nat_le i.0 RANGE.0 && nat_le RANGE.0 i.0 ≡ c → cond c (Some zz32) None ≡ Some ty → (i ≡ RANGE) × (ty ≡ zz32)
   is_range i ty false q e = absurd cc
-  is_range i ty true q e = go (nat_le i.0 range_id.0) (nat_le range_id.0 i.0) refl refl q
+  is_range i ty true q e = go (nat_le i.0 RANGE.0) (nat_le RANGE.0 i.0) refl refl q
     where
       both : (n m : ℕ) → n ≤ m → m ≤ n → n ≡ m
       both n m a b = omega arith
@@ -182,8 +183,8 @@ module _ (k : Knows) (g : Given) (p : Program) (U : Suits k g p) where
       same : (a b : TypeId) → a.0 ≡ b.0 → a ≡ b
       same a b r = ap (λ (n : ℕ). let z : TypeId = record { 0 = n } in z) r
 
-      go : (x y : Bool) → nat_le i.0 range_id.0 ≡ x → nat_le range_id.0 i.0 ≡ y → x && y ≡ true → (i ≡ range_id) × (ty ≡ zz32)
-      go true true a b r = (same i range_id (both i.0 range_id.0 (leb-true i.0 range_id.0 a) (leb-true range_id.0 i.0 b)), cc)
+      go : (x y : Bool) → nat_le i.0 RANGE.0 ≡ x → nat_le RANGE.0 i.0 ≡ y → x && y ≡ true → (i ≡ RANGE) × (ty ≡ zz32)
+      go true true a b r = (same i RANGE (both i.0 RANGE.0 (leb-true i.0 RANGE.0 a) (leb-true RANGE.0 i.0 b)), cc)
       go true false a b r = absurd cc
       go false y a b r = absurd cc
 
@@ -192,7 +193,7 @@ module _ (k : Knows) (g : Given) (p : Program) (U : Suits k g p) where
     where
       go : (x : Ty-F Ty) → out-Ty t ≡ x → given_at x ≡ Some ty → ItemsOf p t ty
       go (Ty-F.Named i) q r =
-          let w = is_range i ty (nat_le i.0 range_id.0 && nat_le range_id.0 i.0) refl r in
+          let w = is_range i ty (nat_le i.0 RANGE.0 && nat_le RANGE.0 i.0) refl r in
           inl (named_is t i q ∙ ap a_type.Named w.0 ∙ sym U.range, w.1 ∙ sym U.small)
       go (Ty-F.Array a) q r = let z : a ≡ ty = cc in inr (array_is t a q ∙ ap a_type.Array z)
       go Ty-F.Nothing q r = absurd cc

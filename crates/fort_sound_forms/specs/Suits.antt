@@ -19,11 +19,11 @@ use Rattle.fort_machine.specs.Types.{below}
 use Rattle.fort_typed.specs.Typing.{small_type, truth_type, thrown_type, ShapeOf, Makes, FieldOf, HasV, Called}
 use Rattle.fort_typed.specs.Signatures.{large_type, text_type, range_type}
 use Rattle.fort_typed.specs.Sound.{RowsThrough, opening}
-use Rattle.fort_builtin.specs.declared.types.TheConstants.{MATCH_FAILURE, EMPTY_REDUCTION}
+use Rattle.fort_builtin.specs.declared.types.TheConstants.{MATCH_FAILURE, EMPTY_REDUCTION, RANGE}
 use Rattle.fort_known.specs.Known.{Knows}
 use Rattle.fort_known.specs.Names.{field_of, single}
 use Rattle.fort_known.specs.Sets.{operator_set}
-use Rattle.fort_typing_rules.specs.Types.{zz32, zz64, string, boolean, exception, range_id, IsBelow}
+use Rattle.fort_typing_rules.specs.Types.{zz32, zz64, string, boolean, exception, IsBelow}
 use Rattle.fort_typing_rules.specs.Calls.{set_at}
 use Rattle.fort_typing_rules.specs.Typing as rule
 use Rattle.fort_typing_laws.specs.Deciding.{IsType}
@@ -51,7 +51,7 @@ pub record Suits (k : Knows) (g : Given) (p : Program) : Type 0 where
   pub large : large_type p ≡ zz64
   pub text : text_type p ≡ string
   pub truth : truth_type p ≡ boolean
-  pub range : range_type p ≡ Named range_id
+  pub range : range_type p ≡ Named RANGE
   pub thrown : thrown_type p ≡ exception
   -- each declaration of a set stands in the program's set of that number
   pub declared : (set : SetId) (s : MemberSet) (i : ℕ) (d : Member) → set_at k set ≡ Some s → StandsAt s i d → Declares p set d

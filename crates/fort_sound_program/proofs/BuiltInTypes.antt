@@ -41,7 +41,7 @@ module _ (c : Component) where
       let g = as_long (declared_by (all_types c.names (heads_of c)) c.names) (heads_of c) in omega arith
 
   -- the declaration of a built-in number is built in
-  built_in_at : (a : ℕ) (d : DeclaredType) → a < TYPE_COUNT → slice_get (declares c) a ≡ Some d → slice_get built_in_declared a ≡ Some d
+  pub built_in_at : (a : ℕ) (d : DeclaredType) → a < TYPE_COUNT → slice_get (declares c) a ≡ Some d → slice_get built_in_declared a ≡ Some d
   unfolding own_types
   built_in_at a d l e =
       let n = built_in_count in

@@ -1,6 +1,6 @@
 -- The built-in types of a program: leaves, and single objects that are exceptions.
 use Rattle.std.proofs.Common.{◌≡◌, ◌⊎◌, inl, inr, ◌<◌, ℕ, zero, suc, List, [], ◌∷◌, length, Some, None, refl, sym, ap, ◌∙◌, subst, arith}
-use Rattle.std.specs.Prelude.{option_and_then, Contains}
+use Rattle.std.specs.Prelude.{◌≤◌, option_and_then, Contains}
 use Rattle.std.specs.List.{slice_get}
 use Rattle.std.proofs.lemmas.Option.{slice_get_within}
 use Rattle.fort_base.specs.declared.ids.Loc.{Loc}
@@ -8,8 +8,9 @@ use Rattle.fort_base.specs.declared.ids.NameId.{NameId}
 use Rattle.fort_base.specs.declared.ids.TypeId.{TypeId}
 use Rattle.fort_base.specs.declared.ty.Ty.{Ty}
 use Rattle.fort_base.specs.declared.ty.Ty.TheVariants.{Named, outs-Named}
+use Rattle.fort_types.specs.declared.hierarchy.DeclaredType.{DeclaredType}
 use Rattle.fort_types.specs.declared.hierarchy.TypeKind.TheVariants as a_kind
-use Rattle.fort_types.specs.Hierarchy.{stop, along, Leaf}
+use Rattle.fort_types.specs.Hierarchy.{Path, stop, along, Leaf}
 use Rattle.fort_types.specs.Types.{named}
 use Rattle.fort_core.specs.declared.program.BuiltIn.{BuiltIn}
 use Rattle.fort_core.specs.declared.program.CoreKind.TheVariants as kind
@@ -21,9 +22,10 @@ use Rattle.fort_machine.specs.Forms.{place_of}
 use Rattle.fort_token.specs.declared.token.Tokens.{Tokens}
 use Rattle.fort_tree.specs.declared.declarations.Component.{Component}
 use Rattle.fort_tree.specs.declared.grouped.Groups.{Groups}
-use Rattle.fort_builtin.specs.declared.types.TheConstants.{BUILT_IN, TYPE_COUNT, EXCEPTION}
+use Rattle.fort_builtin.specs.declared.types.TheConstants.{BUILT_IN, TYPE_COUNT, OBJECT, EXCEPTION}
 use Rattle.fort_builtin.specs.Objects.{location, kind_at, shape_at, place_behind, shapes_of, shapes_from}
 use Rattle.fort_builtin.specs.Types.{BuiltInType, types, declared_by_row, above_of}
+use Rattle.fort_builtin.proofs.PlainTypes.{plain_at}
 use Rattle.fort_hier.specs.declared.accepted.Hierarchy.{Hierarchy}
 use Rattle.fort_hier.specs.Hierarchies.{declares}
 use Rattle.fort_set.specs.declared.member.Members.{Members}
@@ -38,7 +40,7 @@ use Rattle.fort_typed.proofs.Order.{transitive}
 use Rattle.fort_typed.proofs.Rules.{sub_v}
 use Rattle.fort_translation.specs.Shapes.{own_shapes, shapes}
 use Rattle.fort_sound_program.specs.Checked.{Checked}
-use Rattle.fort_sound_program.proofs.BuiltInTypes.{stays, counted}
+use Rattle.fort_sound_program.proofs.BuiltInTypes.{stays, counted, built_in_at}
 use Rattle.fort_sound_program.proofs.Order.{type_number, below, path, only_itself, rows_through}
 use Rattle.fort_sound_program.proofs.Shapes.{Told, built_in, own, rows_long, declared_row}
 use Rattle.fort_sound_program.proofs.Store.{told_at, single_has}
@@ -50,6 +52,7 @@ pub record LeafRow (n : ℕ) : Type 0 where
   pub row : BuiltInType
   pub stands : slice_get types n ≡ Some row
   pub kind_is : row.kind ≡ a_kind.Leaf
+  pub extends_is : row.extends ≡ Some OBJECT
 
 pub record ExceptionRow (n : ℕ) : Type 0 where
   pub row : BuiltInType
@@ -59,23 +62,23 @@ pub record ExceptionRow (n : ℕ) : Type 0 where
 
 leaf2 : LeafRow 2
 unfolding types
-leaf2 = record { row = _; stands = refl; kind_is = refl }
+leaf2 = record { row = _; stands = refl; kind_is = refl; extends_is = refl }
 
 leaf3 : LeafRow 3
 unfolding types
-leaf3 = record { row = _; stands = refl; kind_is = refl }
+leaf3 = record { row = _; stands = refl; kind_is = refl; extends_is = refl }
 
 leaf4 : LeafRow 4
 unfolding types
-leaf4 = record { row = _; stands = refl; kind_is = refl }
+leaf4 = record { row = _; stands = refl; kind_is = refl; extends_is = refl }
 
 leaf5 : LeafRow 5
 unfolding types
-leaf5 = record { row = _; stands = refl; kind_is = refl }
+leaf5 = record { row = _; stands = refl; kind_is = refl; extends_is = refl }
 
 leaf6 : LeafRow 6
 unfolding types
-leaf6 = record { row = _; stands = refl; kind_is = refl }
+leaf6 = record { row = _; stands = refl; kind_is = refl; extends_is = refl }
 
 exception7 : ExceptionRow 7
 unfolding types
@@ -128,6 +131,13 @@ leaf_row id (inr (inr (inl e))) = subst (λ (z : TypeId). LeafRow z.0) (sym e) l
 leaf_row id (inr (inr (inr (inl e)))) = subst (λ (z : TypeId). LeafRow z.0) (sym e) leaf5
 leaf_row id (inr (inr (inr (inr e)))) = subst (λ (z : TypeId). LeafRow z.0) (sym e) leaf6
 
+leaf_number : (id : TypeId) → AmongLeaves BUILT_IN id → 2 ≤ id.0
+leaf_number id (inl e) = let q : id.0 ≡ 2 = ap (λ (z : TypeId). z.0) e in omega arith
+leaf_number id (inr (inl e)) = let q : id.0 ≡ 3 = ap (λ (z : TypeId). z.0) e in omega arith
+leaf_number id (inr (inr (inl e))) = let q : id.0 ≡ 4 = ap (λ (z : TypeId). z.0) e in omega arith
+leaf_number id (inr (inr (inr (inl e)))) = let q : id.0 ≡ 5 = ap (λ (z : TypeId). z.0) e in omega arith
+leaf_number id (inr (inr (inr (inr e)))) = let q : id.0 ≡ 6 = ap (λ (z : TypeId). z.0) e in omega arith
+
 abbrev AmongFailures : BuiltIn → TypeId → Type 0
 AmongFailures b id = (id ≡ b.integer_overflow) ⊎ (id ≡ b.division_by_zero) ⊎ (id ≡ b.negative_exponent) ⊎ (id ≡ b.index_out_of_range) ⊎ (id ≡ b.negative_size)
     ⊎ (id ≡ b.depth_exceeded) ⊎ (id ≡ b.try_atomic_failure) ⊎ (id ≡ b.abort_outside)
@@ -151,6 +161,10 @@ shape_there (r ∷ rows) l (suc k) row e = shape_there rows (place_behind l r.ki
 from_there : (l k : ℕ) (row : BuiltInType) → slice_get types k ≡ Some row → (b : ℕ) × (slice_get (shapes_from l) k ≡ Some (shape_at b row.kind))
 unfolding shapes_from
 from_there l k row e = shape_there types l k row e
+
+only_item : (x b : ℕ) → Contains (x ∷ []) b → x ≡ b
+only_item x b (zero, l, e) = e
+only_item x b (suc k, l, e) = absurd (omega arith)
 
 no_trait : a_kind.Leaf ≡ a_kind.Trait → ⊥
 no_trait e = absurd cc
@@ -202,6 +216,33 @@ module _ (tokens : Tokens) (c : Component) (h : Hierarchy) (m : Members) (groups
       at : Under p b i → i.0 < TYPE_COUNT
       at (inl e) = let r = leaf_of b w in subst (λ (z : TypeId). z.0 < TYPE_COUNT) e (within b.0 r.row r.stands)
       at (inr set) = let r = leaf_of b w in stays c b.0 i.0 (path c h ok.hierarchy p ok.program.types b.0 i.0 set) (within b.0 r.row r.stands)
+
+  -- above `Object` there is nothing, and above a leaf only `Object`
+  from_object : (a b : ℕ) → Path (declares c) a b → a ≡ 0 → b ≡ 0
+  from_object a b stop e = e
+  from_object a b (along {b = x} s q) e = absurd (let l : a < TYPE_COUNT = omega arith in let u = (plain_at a s.0 (built_in_at c a s.0 l s.1)).upwards x s.2 in omega arith)
+
+  from_leaf : (a b : ℕ) → LeafRow a → Path (declares c) a b → (b ≡ a) ⊎ (b ≡ 0)
+  from_leaf a b r stop = inl refl
+  from_leaf a b r (along {b = x} s q) =
+      let same : s.0 ≡ declared_by_row r.row = one (declares c) a (declared_by_row r.row) s.0 (declared_row c a r.row r.stands) s.1 in
+      let above : Contains (above_of r.row.extends) x = subst (λ (z : DeclaredType). Contains z.extends x) same s.2 in
+      inr (from_object x b q (sym (only_item 0 x (subst (λ z. Contains (above_of z) x) r.extends_is above))))
+
+  -- so no leaf is below `Exception`
+  pub unthrown : (b : TypeId) → IsBuiltIn p b → Under p b p.built_in.exception → ⊥
+  unthrown b w under = no (leaf_number b (subst (λ z. AmongLeaves z b) ok.program.built_in w)) (by under)
+    where
+      exception : p.built_in.exception.0 ≡ 1
+      exception = ap (λ (z : BuiltIn). z.exception.0) ok.program.built_in
+
+      by : Under p b p.built_in.exception → (p.built_in.exception.0 ≡ b.0) ⊎ (p.built_in.exception.0 ≡ 0)
+      by (inl e) = inl (ap (λ (z : TypeId). z.0) (sym e))
+      by (inr set) = from_leaf b.0 p.built_in.exception.0 (leaf_of b w) (path c h ok.hierarchy p ok.program.types b.0 p.built_in.exception.0 set)
+
+      no : 2 ≤ b.0 → (p.built_in.exception.0 ≡ b.0) ⊎ (p.built_in.exception.0 ≡ 0) → ⊥
+      no l (inl e) = absurd (let n = exception in omega arith)
+      no l (inr e) = absurd (let n = exception in omega arith)
 
   -- ---- exceptions
 

@@ -56,7 +56,7 @@ use Rattle.fort_translation.specs.Programs.{function_set}
 use Rattle.fort_matched.proofs.Types.{type_number as number_at}
 use Rattle.fort_sound_program.specs.Checked.{Checked}
 use Rattle.fort_sound_program.specs.Laws.{BodiesHave}
-use Rattle.fort_sound_program.proofs.BuiltIns.{is_leaf, only_leaf, unmade, fieldless, failure_single, failure_has}
+use Rattle.fort_sound_program.proofs.BuiltIns.{is_leaf, only_leaf, unmade, fieldless, unthrown, failure_single, failure_has}
 use Rattle.fort_sound_program.proofs.BuiltInSets.{and_both}
 use Rattle.fort_sound_program.proofs.Calls.{called}
 use Rattle.fort_sound_program.proofs.Constructors.{MadeBy, MakesIt, all_made, constructor_kind, new_fits}
@@ -203,6 +203,7 @@ module _ (tokens : Tokens) (c : Component) (h : Hierarchy) (m : Members) (groups
     only = only_leaf tokens c h m groups typed p ok;
     unmade = unmade tokens c h m groups typed p ok;
     fieldless = fieldless tokens c h m groups typed p ok;
+    unthrown = unthrown tokens c h m groups typed p ok;
     small_large = apart (λ b. b.small) (λ b. b.large) (λ e. absurd (omega (arith, e)));
     small_text = apart (λ b. b.small) (λ b. b.text) (λ e. absurd (omega (arith, e)));
     small_truth = apart (λ b. b.small) (λ b. b.truth) (λ e. absurd (omega (arith, e)));

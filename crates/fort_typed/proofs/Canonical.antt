@@ -16,7 +16,7 @@ use Rattle.fort_machine.specs.Primitives.{ValueKind}
 use Rattle.fort_machine.specs.Substitution.{paired, parts_paired, bound_to}
 use Rattle.fort_machine.specs.Types.{domain_of}
 use Rattle.fort_typed.specs.Envs.{Sig}
-use Rattle.fort_typed.specs.Typing.{Below, FieldOf, small_type, truth_type, HasV, HasVs, vs1}
+use Rattle.fort_typed.specs.Typing.{Below, FieldOf, small_type, truth_type, thrown_type, HasV, HasVs, vs1}
 use Rattle.fort_typed.specs.Sound.{Up, opening}
 use Rattle.fort_typed.proofs.Shapes.{Shape}
 use Rattle.fort_typed.proofs.Facts.{Facts}
@@ -186,6 +186,29 @@ module _ (k : Program) (o : Facts k) (all : Complete k) (S : Sig) (opens : Up (o
       go (Value-F.Array E base n) e = let r = rule_v k S e h in absurd (shape_at k o S opens r.own (Named id) (Ty-F.Array E) (Ty-F.Named id) (ap out-Ty r.fits.1 ∙ ty.outs-Array E) (ty.outs-Named id) r.below)
       go (Value-F.Function c) e = let r = rule_v k S e h in
           absurd (shape_at k o S opens r.own (Named id) (Ty-F.Arrow (domain_of c.parameters) c.result) (Ty-F.Named id) (ap out-Ty r.fits.2 ∙ ty.outs-Arrow (domain_of c.parameters) c.result) (ty.outs-Named id) r.below)
+
+  -- what is below `Exception` is an object
+  pub exception_is : (v : Value) → HasV k S v (thrown_type k) → (j : TypeId) × (base : Loc) × (out-Value v ≡ Value-F.Object j base)
+  exception_is v h = go (out-Value v) refl
+    where
+      X : Ty
+      X = thrown_type k
+
+      no_leaf : (b : TypeId) (own : Ty) → IsBuiltIn k b → own ≡ Named b → Below k own X → ⊥
+      no_leaf b own i e w = all.unthrown b i (under_of k (subst (λ A. Below k A X) e w))
+
+      go : (y : ValueKind) → out-Value v ≡ y → (j : TypeId) × (base : Loc) × (out-Value v ≡ Value-F.Object j base)
+      go (Value-F.Object j base) e = (j, base, e)
+      go (Value-F.Small n) e = let r = rule_v k S e h in absurd (no_leaf k.built_in.small r.own (inl refl) r.fits.0 r.below)
+      go (Value-F.Large n) e = let r = rule_v k S e h in absurd (no_leaf k.built_in.large r.own (inr (inl refl)) r.fits.0 r.below)
+      go (Value-F.Text n) e = let r = rule_v k S e h in absurd (no_leaf k.built_in.text r.own (inr (inr (inl refl))) r.fits r.below)
+      go (Value-F.Truth n) e = let r = rule_v k S e h in absurd (no_leaf k.built_in.truth r.own in_truth r.fits r.below)
+      go (Value-F.Range n m) e = let r = rule_v k S e h in absurd (no_leaf k.built_in.range r.own in_range r.fits.0 r.below)
+      go (Value-F.Tuple vs) e = let r = rule_v k S e h in absurd (shape_at k o S opens r.own X (Ty-F.Tuple r.ws) (Ty-F.Named k.built_in.exception) (ap out-Ty r.fits ∙ ty.outs-Tuple r.ws) (ty.outs-Named k.built_in.exception) r.below)
+      go (Value-F.Array E base n) e = let r = rule_v k S e h in
+          absurd (shape_at k o S opens r.own X (Ty-F.Array E) (Ty-F.Named k.built_in.exception) (ap out-Ty r.fits.1 ∙ ty.outs-Array E) (ty.outs-Named k.built_in.exception) r.below)
+      go (Value-F.Function c) e = let r = rule_v k S e h in
+          absurd (shape_at k o S opens r.own X (Ty-F.Arrow (domain_of c.parameters) c.result) (Ty-F.Named k.built_in.exception) (ap out-Ty r.fits.2 ∙ ty.outs-Arrow (domain_of c.parameters) c.result) (ty.outs-Named k.built_in.exception) r.below)
 
   paired_is : (xs : List (ℕ × Ty)) (vs : List Value) → HasVs k S vs (map (λ (x : ℕ × Ty). x.1) xs) → (hs : List (ℕ × Value)) × (paired xs vs ≡ Some hs)
   paired_is [] [] h = ([], refl)

@@ -1,5 +1,6 @@
 -- Chapter "Nothing is stuck": where a typed term goes on. The code of a run finds the thread; here it is enough that there is one.
 use Rattle.std.specs.Prelude.{◌≡◌, ◌≢◌, ℕ, ◌≤◌, Bool, true, false, ◌⊎◌, List, Some, None}
+use Rattle.fort_base.specs.declared.ids.Loc.{Loc}
 use Rattle.fort_base.specs.declared.ids.NameId.{NameId}
 use Rattle.fort_base.specs.declared.ids.TypeId.{TypeId}
 use Rattle.fort_base.specs.declared.ty.Ty.{Ty}
@@ -7,13 +8,13 @@ use Rattle.fort_core.specs.declared.form.Mode.{Mode}
 use Rattle.fort_core.specs.declared.program.CoreShape.{CoreShape}
 use Rattle.fort_core.specs.declared.program.Program.{Program}
 use Rattle.fort_core.specs.declared.term.Term.{Term}
-use Rattle.fort_core.specs.declared.value.Value.{Value}
+use Rattle.fort_core.specs.declared.value.Value.{Value, Object}
 use Rattle.fort_machine.specs.Acts.{ends, single}
 use Rattle.fort_core.specs.declared.pick.Pick.{Pick}
 use Rattle.fort_machine.specs.Attempts.{Form, MayTry, Ended}
 use Rattle.fort_machine.specs.Runs.{Runs}
 use Rattle.fort_machine.specs.Effects.{Store, Effect, FitsAll, afterwards}
-use Rattle.fort_machine.specs.Ends.{Finished}
+use Rattle.fort_machine.specs.Ends.{Finished, throw_of}
 use Rattle.fort_machine.specs.Frames.{Frame, plug, passed}
 use Rattle.fort_machine.specs.Marked.{Bare}
 use Rattle.fort_machine.specs.Steps.{Acts, Local}
@@ -29,13 +30,14 @@ use Rattle.fort_typed.specs.Sound.{IsFailure, Under, Sound, Defined, StoreOk, Ty
 abbrev pub IsBuiltIn : Program → TypeId → Type 0
 IsBuiltIn p id = let b = p.built_in in (id ≡ b.small) ⊎ (id ≡ b.large) ⊎ (id ≡ b.text) ⊎ (id ≡ b.truth) ⊎ (id ≡ b.range)
 
--- What an accepted program has besides, so that nothing gets stuck: it is as it is written; each exception that steps throw has its single object; and the built-in leaves are five types, above no other ones, made by no object and without fields.
+-- What an accepted program has besides, so that nothing gets stuck: it is as it is written; each exception that steps throw has its single object; and the built-in leaves are five types, above no other ones, made by no object, without fields, and none of them below `Exception`.
 pub record Complete (p : Program) : Type 0 where
   pub written : WrittenProgram p
   pub singles : (id : TypeId) → IsFailure p id → (v : Value) × (single p id ≡ Some v)
   pub only : (b i : TypeId) → IsBuiltIn p b → Under p i b → i ≡ b
   pub unmade : (b : TypeId) (s : CoreShape) → IsBuiltIn p b → ShapeOf p b s → Makes s.kind → ⊥
   pub fieldless : (b i : TypeId) (f : NameId) (A : Ty) → IsBuiltIn p b → Under p b i → FieldOf p i f A → ⊥
+  pub unthrown : (b : TypeId) → IsBuiltIn p b → Under p b p.built_in.exception → ⊥
   pub small_large : p.built_in.small ≢ p.built_in.large
   pub small_text : p.built_in.small ≢ p.built_in.text
   pub small_truth : p.built_in.small ≢ p.built_in.truth
@@ -74,6 +76,11 @@ ReachedIsTyped = (p : Program) → Sound p → (inner : Bool) (s : Store) (t : T
 -- There each call of values has exactly one declaration that it runs, and that one isn't abstract.
 abbrev pub ReachedIsOne : Type 0
 ReachedIsOne = (p : Program) → Sound p → Defined p → (inner : Bool) (s : Store) (t : Term) → Reached p inner s t → IsOne p t
+
+-- What a typed term throws, where it is finished, is an object.
+abbrev pub ThrownIsObject : Type 0
+ThrownIsObject = (p : Program) → Sound p → Complete p → (s : Store) (t : Term) (T : Ty) → Typed p t s T → (v : Value) → t ≡ throw_of v
+    → (id : TypeId) × (base : Loc) × (v ≡ Object id base)
 
 -- And no machine is stuck: its term is finished, or a thread that isn't passed over has a legal step, stands at `abort()` in an attempt, or stands at an atomic form.
 abbrev pub NoRunIsStuck : Type 0

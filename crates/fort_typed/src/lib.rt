@@ -6,7 +6,7 @@
 ghost use Rattle.fort_typed.specs.Sound.{RunsKeep, StaysTyped, RunIsTyped, OneDefinition};
 ghost use Rattle.fort_typed.specs.Overloads.{RulesDefine};
 ghost use Rattle.fort_typed.specs.Hierarchies.{RelationFromOne, RowsOfHierarchy};
-ghost use Rattle.fort_typed.specs.Goes.{NeverStuck, NextThere, NoRunIsStuck, ReachedIsOne, ReachedIsTyped, SomeoneMayGo, StaysFinite};
+ghost use Rattle.fort_typed.specs.Goes.{NeverStuck, NextThere, NoRunIsStuck, ReachedIsOne, ReachedIsTyped, SomeoneMayGo, StaysFinite, ThrownIsObject};
 
 use fort_core::Program;
 
@@ -51,6 +51,11 @@ pub fn reached_is_typed()
 /// There each call of values has one definition.
 pub fn reached_is_one()
     ensures { ReachedIsOne }
+{}
+
+/// What a typed term throws, where it is finished, is an object.
+pub fn thrown_is_object()
+    ensures { ThrownIsObject }
 {}
 
 /// And no machine is stuck.

@@ -456,6 +456,26 @@ leaf_shape = by_leaf IsLeaf refl refl refl refl refl
 differ : (n m : ℕ) → (n ≡ m → ⊥) → type n ≢ type m
 differ n m h e = h (ap (λ (t : TypeId). t.0) e)
 
+-- no leaf is an exception
+abbrev is_leaf : CoreKind → Bool
+is_leaf kind.Leaf = true
+is_leaf _ = false
+
+abbrev leaf_there : Option CoreShape → Bool
+leaf_there (Some s) = is_leaf s.kind
+leaf_there None = false
+
+abbrev unthrown_at : (ℕ × ℕ) → Bool
+unthrown_at a = not (leaf_there (slice_get shapes a.0)) || not (a.1 == 1)
+
+unthrown : (b : TypeId) → IsBuiltIn guarded b → Under guarded b guarded.built_in.exception → ⊥
+unthrown b h (inl e) =
+    let z : Some (plain kind.Leaf) ≡ Some (plain kind.Trait) = sym (leaf_shape b h) ∙ ap (λ (t : TypeId). slice_get shapes t.0) e in
+    absurd (let k : is_leaf kind.Leaf ≡ is_leaf kind.Trait = ap leaf_there z in let q : true ≡ false = k in cc)
+unthrown b h (inr e) =
+    let a = passes unthrown_at (all_set 0 rows) refl (b.0, 1) (found rows b.0 1 e) in
+    absurd (let q : false ≡ true = then_holds (leaf_there (slice_get shapes b.0)) false a (ap leaf_there (leaf_shape b h)) in cc)
+
 guarded_is_complete : Complete guarded
 guarded_is_complete = record {
   written = guarded_is_written;
@@ -467,6 +487,7 @@ guarded_is_complete = record {
       let z : Some (plain kind.Leaf) ≡ Some counter = sym (leaf_shape b h) ∙ ap (λ (t : TypeId). slice_get shapes t.0) e ∙ x.is_shape ∙ ap Some (has_counter i f A x) in
       let y : plain kind.Leaf ≡ counter = cc in
       let k : kind.Leaf ≡ kind.Object = ap (λ (s : CoreShape). s.kind) y in cc;
+  unthrown = unthrown;
   small_large = differ 2 3 (λ e. omega (arith, e));
   small_text = differ 2 4 (λ e. omega (arith, e));
   small_truth = differ 2 5 (λ e. omega (arith, e));

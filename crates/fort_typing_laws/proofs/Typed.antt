@@ -31,7 +31,8 @@ use Rattle.fort_typing_rules.specs.declared.part.Part.{Part}
 use Rattle.fort_typing_rules.specs.declared.part.Meaning.{Meaning}
 use Rattle.fort_typing_rules.specs.declared.part.Meaning.TheVariants as a_meaning
 use Rattle.fort_typing_rules.specs.Calls.{Calls, plain, widening}
-use Rattle.fort_typing_rules.specs.Types.{IsWidest, type_at, type_of, types_of, is_nothing, zz32, zz64, number_type, range_id, given_at, given, tuple_of, parameter_type}
+use Rattle.fort_builtin.specs.declared.types.TheConstants.{RANGE}
+use Rattle.fort_typing_rules.specs.Types.{IsWidest, type_at, type_of, types_of, is_nothing, zz32, zz64, number_type, given_at, given, tuple_of, parameter_type}
 use Rattle.fort_typing_rules.specs.Elements as element
 use Rattle.fort_typing_rules.specs.Typing as rule
 use Rattle.fort_typing_laws.specs.Deciding.{IsType, AreTypes, IsAccepted}
@@ -427,7 +428,7 @@ module _ (k : Knows) (A : IsAccepted k) where
   range-typed false = tt
 
   given-by : (t : Ty) (x : Ty-F Ty) → out-Ty t ≡ x → IsType k t → GivenTyped (given_at x)
-  given-by t (Ty-F.Named i) e h = range-typed (nat_le i.0 range_id.0 && nat_le range_id.0 i.0)
+  given-by t (Ty-F.Named i) e h = range-typed (nat_le i.0 RANGE.0 && nat_le RANGE.0 i.0)
   given-by t (Ty-F.Array a) e h = element_type (length k.declared) t a h e
   given-by t _ e h = tt
 

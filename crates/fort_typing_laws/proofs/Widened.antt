@@ -12,7 +12,8 @@ use Rattle.fort_call.specs.Widening.{IsWidened, Suits, WidenedAmong, AllKept, St
 use Rattle.fort_known.specs.Known.{Knows}
 use Rattle.fort_known.specs.Below.{is_below}
 use Rattle.fort_called.specs.Fitting.{is_widened_at, is_widened, all_suit, contained, positions, widened_types}
-use Rattle.fort_typing_rules.specs.Types.{zz32_id, zz64_id, zz64}
+use Rattle.fort_builtin.specs.declared.types.TheConstants.{ZZ32, ZZ64}
+use Rattle.fort_typing_rules.specs.Types.{zz64}
 use Rattle.fort_typing_rules.specs.Calls.{to_zz64}
 use Rattle.fort_typing_laws.specs.Deciding.{IsType, AreTypes, IsAccepted}
 use Rattle.fort_typing_laws.proofs.Types.{below_is, built_in_type, out_named}
@@ -44,12 +45,12 @@ same_truth false false w = refl
 id_is : (i : TypeId) (n : ℕ) → i.0 ≡ n → i ≡ record { 0 = n }
 id_is i n e = ap (λ (m : ℕ). let t : TypeId = record { 0 = m } in t) e
 
-widened_at : (a b : Ty-F Ty) → IsTrue (is_widened_at a b) ↔ ((a ≡ Ty-F.Named zz32_id) × (b ≡ Ty-F.Named zz64_id))
+widened_at : (a b : Ty-F Ty) → IsTrue (is_widened_at a b) ↔ ((a ≡ Ty-F.Named ZZ32) × (b ≡ Ty-F.Named ZZ64))
 widened_at (Ty-F.Named i) (Ty-F.Named j) = (
   λ t. let p = (and_is (nat_eq i.0 2) (nat_eq j.0 3)).0 t in (ap (λ (x : TypeId). Ty-F.Named x) (id_is i 2 ((number_is i.0 2).0 p.0)), ap (λ (x : TypeId). Ty-F.Named x) (id_is j 3 ((number_is j.0 3).0 p.1))),
   λ w. (and_is (nat_eq i.0 2) (nat_eq j.0 3)).1 (
-    (number_is i.0 2).1 (let e : i ≡ zz32_id = (let q = w.0 in cc) in ap (λ (x : TypeId). x.0) e),
-    (number_is j.0 3).1 (let e : j ≡ zz64_id = (let q = w.1 in cc) in ap (λ (x : TypeId). x.0) e),
+    (number_is i.0 2).1 (let e : i ≡ ZZ32 = (let q = w.0 in cc) in ap (λ (x : TypeId). x.0) e),
+    (number_is j.0 3).1 (let e : j ≡ ZZ64 = (let q = w.1 in cc) in ap (λ (x : TypeId). x.0) e),
   ),
 )
 widened_at (Ty-F.Named i) Ty-F.Nothing = (λ t. absurd (let f : false ≡ true = t in cc), λ w. absurd (let q = w.1 in cc))
@@ -162,7 +163,7 @@ wide_long (x ∷ xs) [] = ap suc (wide_long xs [])
 wide_long (x ∷ xs) (p ∷ ps) = ap suc (wide_long xs ps)
 
 stands_one : (x p : Ty) (xs ps : List Ty) (t : Ty) (c : Bool) → is_widened x p ≡ c → cond c zz64 x ≡ t → StandsFor to_zz64 (p ∷ ps) (x ∷ xs) 0 t
-stands_one x p xs ps t true e is = (λ m. ap out-Ty (sym is) ∙ out_named zz64_id, λ n. absurd (n (among_head x p xs ps e)))
+stands_one x p xs ps t true e is = (λ m. ap out-Ty (sym is) ∙ out_named ZZ64, λ n. absurd (n (among_head x p xs ps e)))
 stands_one x p xs ps t false e is = (λ m. absurd (let f : is_widened x p ≡ true = head_among x p xs ps m in let g : true ≡ false = sym f ∙ e in cc), λ n. ap (λ (y : Ty). Some y) is)
 
 pub wide_each : (xs ps : List Ty) (n : ℕ) (t : Ty) → slice_get (widened_types xs ps) n ≡ Some t → StandsFor to_zz64 ps xs n t
@@ -176,7 +177,7 @@ pub are_wide : (xs ps : List Ty) → AllWidened to_zz64 ps xs (widened_types xs 
 are_wide xs ps = record { long = wide_long xs ps; each = wide_each xs ps }
 
 wide_one : (x p y : Ty) (xs ps : List Ty) (c : Bool) → is_widened x p ≡ c → StandsFor to_zz64 (p ∷ ps) (x ∷ xs) 0 y → y ≡ cond c zz64 x
-wide_one x p y xs ps true e s = same_layers y zz64 (s.0 (among_head x p xs ps e) ∙ sym (out_named zz64_id))
+wide_one x p y xs ps true e s = same_layers y zz64 (s.0 (among_head x p xs ps e) ∙ sym (out_named ZZ64))
 wide_one x p y xs ps false e s = let f : Some x ≡ Some y = s.1 (λ m. let t : is_widened x p ≡ true = head_among x p xs ps m in let g : true ≡ false = sym t ∙ e in cc) in cc
 
 pub wide_once : (xs ps list : List Ty) → length list ≡ length xs → ((n : ℕ) (t : Ty) → slice_get list n ≡ Some t → StandsFor to_zz64 ps xs n t) → list ≡ widened_types xs ps

@@ -1,5 +1,5 @@
 -- The chapter "Typing", edition 1: what a form becomes with fewer calls, it becomes with more.
-use Rattle.std.proofs.Common.{◌≡◌, ℕ, Bool, List, Option}
+use Rattle.std.proofs.Common.{Bool, List, Option}
 use Rattle.fort_base.specs.declared.ids.NameId.{NameId}
 use Rattle.fort_base.specs.declared.ids.SetId.{SetId}
 use Rattle.fort_base.specs.declared.refusal.Place.{Place}
@@ -19,7 +19,7 @@ use Rattle.fort_typing_rules.specs.declared.part.Part.{Part}
 use Rattle.fort_typing_rules.specs.declared.part.Meaning.{Meaning}
 use Rattle.fort_typing_rules.specs.Calls.{Calling, Calls}
 use Rattle.fort_typing_rules.specs.Calls as a_call
-use Rattle.fort_typing_rules.specs.Elements.{Applies, Joins, Follows, Rewritten, Becomes, Grouped, Stands, Made, gives, call, no_call, value, no_argument, joining, no_joining, index, no_array, power, no_power, field, no_field, size, method, no_method, no_method_call, applied, followed, joined, whole, on, of_one, of_applied, of_joined, of_unapplied, of_unjoined, grouped}
+use Rattle.fort_typing_rules.specs.Elements.{Applies, Joins, Follows, Rewritten, Becomes, Grouped, Stands, Made, call, no_call, value, no_argument, joining, no_joining, index, no_array, power, no_power, field, no_field, size, method, no_method, no_method_call, applied, followed, joined, whole, on, of_one, of_applied, of_joined, of_unapplied, of_unjoined, grouped}
 use Rattle.fort_typing_rules.specs.Typing.{Want, Compares, Has, HasAs, HasEach, HasItems, HasSources, HasClauses, HasCases, HasElse, HasFinally, HasParts, Means, no_more, more, number, words, truth, receiver, local, own, top, single, parens, tuple, operator, chain, beside, run, fill, block, do_one, do_also, if_alone, if_else, while_do, for_do, case, typecase, try_catch, atomic, tryatomic, throw, function, reduce, assign, update, suits, no_part, part_, no_item, last_item, expression, declared, declared_all, no_source, source, no_clause, clause, no_case, case_, no_else, else_, no_finally, finally_, no_element, element_, a_named, a_valued, an_index, an_exponent, a_field_of, a_method_of}
 use Rattle.fort_typing_rules.specs.EditionOne.{CallsInOne, EditionOneIsKept}
 use Rattle.fort_typing_rules.specs.EditionOne as in_one

@@ -1,12 +1,11 @@
 -- The chapter "Typing": in these bindings a form breaks this rule at this place: in a part of it, or the parts that the rule speaks of have types and it
 -- fails here. The code keeps the first that it meets in the order of places.
-use Rattle.std.specs.Prelude.{◌≡◌, ◌⊎◌, ℕ, suc, Bool, true, false, cond, ◌&&◌, List, [], ◌∷◌, ◌++◌, length, map, Option, Some, None}
+use Rattle.std.specs.Prelude.{◌≡◌, Bool, true, false, List, [], ◌∷◌, ◌++◌, length, map, Option, Some, None}
 use Rattle.fort_base.specs.declared.ids.NameId.{NameId}
-use Rattle.fort_base.specs.declared.ids.TypeId.{TypeId}
 use Rattle.fort_base.specs.declared.refusal.Place.{Place}
 use Rattle.fort_base.specs.declared.refusal.Rule.{Rule}
 use Rattle.fort_base.specs.declared.rules.TheConstants.{UNKNOWN_NAME, MISMATCH, NOT_ASSIGNABLE, FUNCTION_AS_VALUE, NOT_A_GENERATOR, NOT_AN_EXCEPTION, SHADOWS}
-use Rattle.fort_base.specs.declared.ty.Ty.{Ty, out-Ty}
+use Rattle.fort_base.specs.declared.ty.Ty.{Ty}
 use Rattle.fort_ops.specs.declared.op.Op.{Op}
 use Rattle.fort_ops.specs.declared.op.Op.TheVariants as an_op
 use Rattle.fort_scope.specs.declared.binding.Binding.{Binding}

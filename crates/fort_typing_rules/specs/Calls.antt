@@ -14,11 +14,11 @@ use Rattle.fort_call.specs.declared.choice.Widening.{Widening}
 use Rattle.fort_call.specs.Choosing.{Chooses}
 use Rattle.fort_call.specs.Widening.{WidenedAt, AreWidened, Widens}
 use Rattle.fort_known.specs.Known.{Knows}
-use Rattle.fort_typing_rules.specs.Types.{zz32_id, zz64_id}
+use Rattle.fort_builtin.specs.declared.types.TheConstants.{ZZ32, ZZ64}
 
 -- ZZ32 is widened to ZZ64
 abbrev pub to_zz64 : Widening
-to_zz64 = record { from = zz32_id; to = zz64_id }
+to_zz64 = record { from = ZZ32; to = ZZ64 }
 
 -- Which positions are widened for a declaration.
 pub record ArePositions (d : Member) (types : List Ty) (widened : List Bool) : Type 0 where

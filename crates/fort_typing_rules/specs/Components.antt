@@ -1,12 +1,11 @@
 -- The chapter "Typing", declarations, and which refusal comes. The code asks one declaration after another.
-use Rattle.std.specs.Prelude.{◌≡◌, ◌<◌, ℕ, Bool, true, false, List, [], ◌∷◌, length, map, slice_get, codes, Option, Some, None}
+use Rattle.std.specs.Prelude.{◌≡◌, ◌<◌, ℕ, Bool, false, List, [], ◌∷◌, length, map, slice_get, codes, Option, Some}
 use Rattle.fort_base.specs.Places.{IsBefore}
 use Rattle.fort_base.specs.declared.ids.NameId.{NameId}
 use Rattle.fort_base.specs.declared.ids.TypeId.{TypeId}
 use Rattle.fort_base.specs.declared.refusal.Place.{Place}
 use Rattle.fort_base.specs.declared.rules.TheConstants.{MISMATCH, INITIAL_NOT_CONSTANT, NO_RUN}
 use Rattle.fort_base.specs.declared.ty.Ty.{Ty}
-use Rattle.fort_ops.specs.declared.op.Op.{Op}
 use Rattle.fort_ops.specs.declared.op.Op.TheVariants as an_op
 use Rattle.fort_set.specs.declared.member.Member.{Member}
 use Rattle.fort_set.specs.declared.member.MemberSet.{MemberSet}
@@ -14,10 +13,6 @@ use Rattle.fort_set.specs.Rules.{StandsAt}
 use Rattle.fort_scope.specs.declared.binding.Binding.{Binding}
 use Rattle.fort_form.specs.declared.form.Form.{Form, out-Form}
 use Rattle.fort_form.specs.declared.form.Form.TheOpen.{Form-F}
-use Rattle.fort_form.specs.declared.form.Item.{Item}
-use Rattle.fort_form.specs.declared.form.Branch.{Branch}
-use Rattle.fort_form.specs.declared.form.TypeBranch.{TypeBranch}
-use Rattle.fort_form.specs.declared.form.Generator.{Generator}
 use Rattle.fort_form.specs.declared.component.BodyForm.{BodyForm}
 use Rattle.fort_form.specs.declared.component.Forms.{Forms}
 use Rattle.fort_form.specs.declared.component.InitialForm.{InitialForm}

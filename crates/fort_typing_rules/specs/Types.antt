@@ -1,19 +1,14 @@
 -- The chapter "Typing": built-in types, the type of a typed form, and the place of a form.
 use Rattle.std.specs.Prelude.{◌≡◌, ◌≤◌, ℕ, nat_le, Bool, true, false, cond, ◌&&◌, List, [], ◌∷◌, Option, Some, None, map, slice_get}
-use Rattle.fort_base.specs.declared.ids.NameId.{NameId}
-use Rattle.fort_base.specs.declared.ids.TypeId.{TypeId}
 use Rattle.fort_base.specs.declared.refusal.Place.{Place}
 use Rattle.fort_base.specs.declared.refusal.Rule.{Rule}
 use Rattle.fort_base.specs.declared.ty.Ty.{Ty, out-Ty}
 use Rattle.fort_base.specs.declared.ty.Ty.TheVariants as a_type
 use Rattle.fort_base.specs.declared.ty.Ty.TheOpen.{Ty-F}
 use Rattle.fort_types.specs.Types.{Below}
+use Rattle.fort_builtin.specs.declared.types.TheConstants.{EXCEPTION, ZZ32, ZZ64, STRING, BOOLEAN, RANGE}
 use Rattle.fort_form.specs.declared.form.Form.{Form, out-Form}
 use Rattle.fort_form.specs.declared.form.Form.TheOpen.{Form-F}
-use Rattle.fort_form.specs.declared.form.Item.{Item}
-use Rattle.fort_form.specs.declared.form.Branch.{Branch}
-use Rattle.fort_form.specs.declared.form.TypeBranch.{TypeBranch}
-use Rattle.fort_form.specs.declared.form.Generator.{Generator}
 use Rattle.fort_form.specs.declared.form.Parameter.{Parameter}
 use Rattle.fort_typed_form.specs.declared.typed_form.TypedForm.{TypedForm, out-TypedForm}
 use Rattle.fort_typed_form.specs.declared.typed_form.TypedForm.TheOpen.{TypedForm-F}
@@ -22,32 +17,20 @@ use Rattle.fort_known.specs.Known.{Knows}
 
 -- ---- built-in types
 
-abbrev pub exception_id : TypeId
-exception_id = record { 0 = 1 }
-
-abbrev pub zz32_id : TypeId
-zz32_id = record { 0 = 2 }
-
-abbrev pub zz64_id : TypeId
-zz64_id = record { 0 = 3 }
-
-abbrev pub range_id : TypeId
-range_id = record { 0 = 6 }
-
 abbrev pub exception : Ty
-exception = a_type.Named exception_id
+exception = a_type.Named EXCEPTION
 
 abbrev pub zz32 : Ty
-zz32 = a_type.Named zz32_id
+zz32 = a_type.Named ZZ32
 
 abbrev pub zz64 : Ty
-zz64 = a_type.Named zz64_id
+zz64 = a_type.Named ZZ64
 
 abbrev pub string : Ty
-string = a_type.Named (record { 0 = 4 })
+string = a_type.Named STRING
 
 abbrev pub boolean : Ty
-boolean = a_type.Named (record { 0 = 5 })
+boolean = a_type.Named BOOLEAN
 
 -- the type of `()`
 abbrev pub unit : Ty
@@ -76,7 +59,7 @@ array_at _ = false
 
 -- the values that a generator gives whose source has this type, if it is one
 abbrev pub given_at : Ty-F Ty → Option Ty
-given_at (Ty-F.Named t) = cond (nat_le t.0 range_id.0 && nat_le range_id.0 t.0) (Some zz32) None
+given_at (Ty-F.Named t) = cond (nat_le t.0 RANGE.0 && nat_le RANGE.0 t.0) (Some zz32) None
 given_at (Ty-F.Array e) = Some e
 given_at _ = None
 

@@ -1,6 +1,6 @@
 -- The chapter "Typing": a form has become this typed form in these bindings, with one rule for each row there. The code walks a form once, with the
 -- forms that are still to be asked on a stack.
-use Rattle.std.specs.Prelude.{◌≡◌, ◌⊎◌, ℕ, suc, Bool, true, false, cond, ◌&&◌, List, [], ◌∷◌, ◌++◌, length, map, slice_get, Option, Some, None}
+use Rattle.std.specs.Prelude.{◌≡◌, ◌⊎◌, ℕ, Bool, true, false, cond, ◌&&◌, List, [], ◌∷◌, ◌++◌, length, map, slice_get, Option, Some, None}
 use Rattle.fort_base.specs.declared.ids.NameId.{NameId}
 use Rattle.fort_base.specs.declared.ids.TypeId.{TypeId}
 use Rattle.fort_base.specs.declared.refusal.Place.{Place}
@@ -27,7 +27,7 @@ use Rattle.fort_typed_form.specs.declared.typed_form.TypedForm.{TypedForm, out-T
 use Rattle.fort_typed_form.specs.declared.typed_form.TypedForm.TheVariants as a_typed
 use Rattle.fort_typed_form.specs.declared.typed_form.TypedForm.TheOpen.{TypedForm-F}
 use Rattle.fort_known.specs.Known.{Facts, Knows}
-use Rattle.fort_known.specs.Names.{Standing, a_binding, a_field, a_variable, a_single, functions, standing, is_visible, field_at}
+use Rattle.fort_known.specs.Names.{a_binding, a_field, a_variable, a_single, functions, standing, is_visible, field_at}
 use Rattle.fort_known.specs.Sets.{operator_set}
 use Rattle.fort_typing_rules.specs.declared.part.Part.{Part}
 use Rattle.fort_typing_rules.specs.declared.part.Meaning.{Meaning}

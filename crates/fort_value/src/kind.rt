@@ -80,6 +80,7 @@ fn parameter_types(alloc: Global, parameters: &List<(u32, Ty)>) -> Result<List<T
 }
 
 /// Whether a value has a type: its own is below that one, by the program's rows. It takes no memory. The chapter "Values".
+#[inline(always)]
 #[cycle(has_type)]
 pub fn has_type(program: &Program, value: &Value, ty: &Ty) -> bool
     ensures { result ≡ has program.now value.now ty.now }
@@ -97,6 +98,7 @@ pub fn has_type(program: &Program, value: &Value, ty: &Ty) -> bool
     }
 }
 
+#[inline(always)]
 fn declared_has(program: &Program, id: TypeId, ty: &Ty) -> bool
     ensures { result ≡ relation program.now.types.below (Ty.Named id) true ty.now }
 {
@@ -107,6 +109,7 @@ fn declared_has(program: &Program, id: TypeId, ty: &Ty) -> bool
     }
 }
 
+#[inline(never)]
 #[cycle(has_type)]
 fn tuple_has(program: &Program, parts: &List<Value>, ty: &Ty) -> bool
     ensures { result ≡ relation program.now.types.below (Ty.Tuple (map (type_at program.now) parts.now)) true ty.now }
@@ -136,6 +139,7 @@ pub fn all_have(program: &Program, parts: &List<Value>, types: &List<Ty>) -> boo
     true
 }
 
+#[inline(never)]
 fn array_has(program: &Program, element: &Ty, ty: &Ty) -> bool
     ensures { result ≡ relation program.now.types.below (Ty.Array element.now) true ty.now }
 {
@@ -149,6 +153,7 @@ fn array_has(program: &Program, element: &Ty, ty: &Ty) -> bool
     }
 }
 
+#[inline(never)]
 fn function_has(program: &Program, closure: &Closure, ty: &Ty) -> bool
     ensures { result ≡ relation program.now.types.below (Ty.Arrow (domain_of closure.now.parameters) closure.now.result) true ty.now }
 {

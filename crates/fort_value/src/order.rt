@@ -8,6 +8,7 @@ use fort_base::{List, Ty, TypeId};
 use fort_core::Program;
 
 /// Whether the row of `from` has the place `to` set.
+#[inline(always)]
 pub fn set(rows: &List<List<bool>>, from: TypeId, to: TypeId) -> bool
     ensures { result ≡ is_set rows.now from.0 to.0 }
 {

@@ -1,6 +1,5 @@
-use Rattle.std.proofs.Common.{◌∙◌, ap}
-use Rattle.std.specs.Str.{bytes_eq}
-use Rattle.fort_known.specs.Spellings.{any_spelling}
+use Rattle.std.proofs.Common.{◌∙◌}
+use Rattle.fort_builtin.specs.Types.{any_spelling}
 use Rattle.fort_known.proofs.Searched.{type_placed, type_apart}
 use Rattle.fort_known.proofs.standing.is_type.Goals as goal
 
@@ -9,4 +8,4 @@ returns-then-is_some c = c.if-is_some.true ∙ type_placed c.args.index.now.type
 
 pub returns-else-is_some : goal.returns-else-is_some
 unfolding any_spelling
-returns-else-is_some c = c.eq.ensures ∙ ap (λ z. bytes_eq z c.args.spelling.now) c.as_slice.ensures ∙ type_apart c.args.index.now.types.now c.args.spelling.now _ c.type_named.ensures c.if-is_some.ensures
+returns-else-is_some c = c.eq.ensures ∙ type_apart c.args.index.now.types.now c.args.spelling.now _ c.type_named.ensures c.if-is_some.ensures
