@@ -2,7 +2,10 @@
 use Rattle.std.specs.Prelude.{ℕ, List}
 use Rattle.fort_token.specs.declared.token.Tokens.{Tokens}
 use Rattle.fort_lex.specs.Files.{HasTokens}
+use Rattle.fort_core.specs.declared.journal.Journal.{Journal}
 use Rattle.fort_core.specs.declared.program.Program.{Program}
+use Rattle.fort_machine.specs.Journals.{IsJournal}
+use Rattle.fort_record.specs.Text.{HasText}
 use Rattle.fort_front.specs.Front.{IsAccepted}
 use Rattle.fort_turns.specs.Stops.{StopsShort}
 use Rattle.fort_disp.specs.Rows.{GoesThrough}
@@ -14,3 +17,7 @@ AcceptedNeverStops = (bytes : List ℕ) (tokens : Tokens) (p : Program) → HasT
 -- In the program of a file whose tokens are accepted below goes through a third type.
 abbrev pub AcceptedGoesThrough : Type 0
 AcceptedGoesThrough = (bytes : List ℕ) (tokens : Tokens) (p : Program) → HasTokens bytes tokens → IsAccepted tokens p → GoesThrough p
+
+-- What a run of it throws and nobody catches is an object, so the ending of each journal of it has a text.
+abbrev pub AcceptedHasText : Type 0
+AcceptedHasText = (bytes : List ℕ) (tokens : Tokens) (p : Program) → HasTokens bytes tokens → IsAccepted tokens p → (j : Journal) → IsJournal p j → HasText j.ending

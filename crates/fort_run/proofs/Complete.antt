@@ -13,7 +13,7 @@ use Rattle.fort_cmd.specs.Words.{IsCommand, IsNoCommand}
 use Rattle.fort_port.specs.Outside.{Held, Rose}
 use Rattle.fort_audit.specs.Audits.{Prints}
 use Rattle.fort_audit.specs.declared.answer.Audited.TheVariants.{Yes, NotARun, OtherOutput}
-use Rattle.fort_run.specs.Reply.{Reply, IsFile, IsText, IsAcceptedAs, BreaksOne, Writing, its_output, its_record, TellsEnding, TellsRun, RunSays, Runs, Refuses, CheckSays, Accepts, AcceptsNone, accepted, bench_name, bench_fuel, IsShownAs, IsNoComponent, ShowSays, Shows, ShowsNone, AuditMeans, OfProgram, OfNone, RecordMeans, RecordRead, RecordUnread, RecordTooLarge, RecordSays, IsKept, Formless, audited, record_limit, IsOfOneFile, CommandSays, Judged, JudgedBoth, NoCommand, Unread, TooLarge, file_limit}
+use Rattle.fort_run.specs.Reply.{Reply, IsFile, IsText, IsAcceptedAs, BreaksOne, Writing, Writes, its_output, its_record, TellsEnding, TellsRun, RunSays, Runs, Refuses, CheckSays, Accepts, AcceptsNone, accepted, bench_name, bench_fuel, IsShownAs, IsNoComponent, ShowSays, Shows, ShowsNone, AuditMeans, OfProgram, OfNone, RecordMeans, RecordRead, RecordUnread, RecordTooLarge, RecordSays, IsKept, Formless, audited, record_limit, IsOfOneFile, CommandSays, Judged, JudgedBoth, NoCommand, Unread, TooLarge, file_limit}
 use Rattle.fort_run.specs.Delivery.{Takes, Whole, OutFailed, NotesFailed}
 use Rattle.fort_run.specs.Outcome.{Outside, MeansToSay, Ends, Said, WantsMemory, IsCalm, IsAbout, Asks, RunsWith, AsksAll, IsWhole, AsksAudit, Keeps, Answers}
 use Rattle.fort_run.proofs.Apart.{Fronts, accepted_apart, one_program_of, shown_apart}
@@ -88,7 +88,9 @@ whole o finish writes p fuel reply tells out note status journal = record {
   effect = tells.effect;
   records = subst (λ j. Records p j tells.term tells.effect) (sym journal) tells.records;
   is_fuel = ap (λ (j : Journal). j.fuel) journal ∙ tells.is_fuel;
-  is_written = subst (λ j. Takes o.out (writes j tells.effect.output)) (sym journal) (subst (λ x. Takes o.out x) tells.is_output out);
+  written = reply.out;
+  is_of_run = subst (λ j. Writes writes j tells.effect.output reply.out) (sym journal) tells.is_written;
+  is_written = out;
   note = reply.note;
   is_noted = note;
   tells = subst (λ j. TellsEnding p j.ending finish.status reply.note) (sym journal) (subst (λ n. TellsEnding p reply.journal.ending n reply.note) (sym status) tells.tells);

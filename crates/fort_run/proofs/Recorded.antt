@@ -1,6 +1,8 @@
 -- What is said of a run with its record in the place of its output.
-use Rattle.std.proofs.Common.{◌≡◌, ℕ, List, ap, refl}
+use Rattle.std.proofs.Common.{◌≡◌, ℕ, List, ap, refl, subst}
 use Rattle.fort_core.specs.declared.journal.Journal.{Journal}
+use Rattle.fort_record.specs.Text.{HasText, IsRecordText}
+use Rattle.fort_never.specs.Never.{AcceptedHasText}
 use Rattle.fort_run.specs.Reply.{Reply, RunSays, Runs, Refuses, its_output, its_record}
 use Rattle.fort_run.specs.Said.{said, status_of}
 use Rattle.fort_run.specs.declared.answer.Answer.{Answer}
@@ -14,18 +16,24 @@ no_refusal told.Completed e = absurd cc
 no_refusal (told.Uncaught note) e = absurd cc
 no_refusal told.OutOfFuel e = absurd cc
 
-pub run_recorded : (name file : List ℕ) (fuel : ℕ) (j : Journal) (output : List ℕ) (end : Told) → RunSays its_output name file fuel (said (Ran j output end))
-    → RunSays its_record name file fuel (said (Ran j (its_record j output) end))
-run_recorded name file fuel j output end (Runs p is tells) = Runs p is (record {
+-- Its journal's ending has a text.
+pub run_has_text : AcceptedHasText → (name file : List ℕ) (fuel : ℕ) (j : Journal) (output : List ℕ) (end : Told) → RunSays its_output name file fuel (said (Ran j output end))
+    → HasText j.ending
+run_has_text law name file fuel j output end (Runs p is tells) = law file is.tokens p is.has is.accepted j (tells.term, tells.effect, tells.records)
+run_has_text law name file fuel j output end (Refuses rule place broken e) = absurd (no_refusal end (ap (λ (x : Reply). x.status) e))
+
+pub run_recorded : (name file : List ℕ) (fuel : ℕ) (j : Journal) (output : List ℕ) (end : Told) (text : List ℕ) → IsRecordText text j output
+    → RunSays its_output name file fuel (said (Ran j output end)) → RunSays its_record name file fuel (said (Ran j text end))
+run_recorded name file fuel j output end text is_text (Runs p is tells) = Runs p is (record {
   term = tells.term;
   effect = tells.effect;
   records = tells.records;
   is_fuel = tells.is_fuel;
-  is_output = ap (its_record j) tells.is_output;
+  is_written = subst (λ o. IsRecordText text j o) tells.is_written is_text;
   tells = tells.tells;
   one = tells.one;
 })
-run_recorded name file fuel j output end (Refuses rule place broken e) = absurd (no_refusal end (ap (λ (x : Reply). x.status) e))
+run_recorded name file fuel j output end text is_text (Refuses rule place broken e) = absurd (no_refusal end (ap (λ (x : Reply). x.status) e))
 
 -- What is said where nothing ran is the same.
 pub none_recorded : (name file : List ℕ) (fuel : ℕ) (a : Answer) → ((j : Journal) (output : List ℕ) (end : Told) → a ≡ Ran j output end → ⊥) → RunSays its_output name file fuel (said a)

@@ -28,7 +28,7 @@ run_told p fuel ran end is one tells = record {
   effect = is.run.effect;
   records = subst (λ n. Records p (record { fuel = n; picks = ran.journal.picks; ending = ran.journal.ending }) is.run.term is.run.effect) (sym is.is_fuel) is.run.records;
   is_fuel = is.is_fuel;
-  is_output = is.run.is_output;
+  is_written = is.run.is_output;
   tells = tells;
   one = one;
 }

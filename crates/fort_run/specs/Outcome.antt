@@ -15,7 +15,7 @@ use Rattle.fort_record.specs.Text.{IsRecordText}
 use Rattle.fort_core.specs.declared.journal.Journal.{Journal}
 use Rattle.fort_audit.specs.Audits.{Prints}
 use Rattle.fort_diag.specs.Notes.{want_of_memory}
-use Rattle.fort_run.specs.Reply.{Reply, Means, IsAcceptedAs, BreaksOne, Writing, its_output, its_record, TellsEnding, IsShownAs, IsNoComponent, accepted, bench_fuel, file_limit, record_limit, no_run}
+use Rattle.fort_run.specs.Reply.{Reply, Means, IsAcceptedAs, BreaksOne, Writing, Writes, its_output, its_record, TellsEnding, IsShownAs, IsNoComponent, accepted, bench_fuel, file_limit, record_limit, no_run}
 use Rattle.fort_run.specs.Delivery.{Change, Delivers, Takes, TakesOrFails}
 use Rattle.fort_run.specs.declared.top.Finish.{Finish}
 
@@ -77,7 +77,9 @@ pub record IsWhole (o : Outside) (finish : Finish) (writes : Writing) (p : Progr
   pub effect : Effect
   pub records : Records p finish.journal term effect
   pub is_fuel : finish.journal.fuel ≡ fuel
-  pub is_written : Takes o.out (writes finish.journal effect.output)
+  pub written : List ℕ
+  pub is_of_run : Writes writes finish.journal effect.output written
+  pub is_written : Takes o.out written
   pub note : List ℕ
   pub is_noted : Takes o.notes note
   pub tells : TellsEnding p finish.journal.ending finish.status note

@@ -25,7 +25,7 @@ use Rattle.fort_core.specs.declared.program.Program.{Program}
 use Rattle.fort_core.specs.declared.term.Term.{Term}
 use Rattle.fort_machine.specs.Effects.{Effect}
 use Rattle.fort_machine.specs.Journals.{Records}
-use Rattle.fort_record.specs.Text.{IsFormFault, IsRecordText, record_text}
+use Rattle.fort_record.specs.Text.{IsFormFault, IsRecordText}
 use Rattle.fort_record.specs.declared.reading.Record as a_record
 use Rattle.fort_turns.specs.Defined.{AlwaysOne}
 use Rattle.fort_diag.specs.Notes.{usage, read_fault, too_large, out_of_fuel, uncaught, refusal}
@@ -69,15 +69,15 @@ pub data BreaksOne (file : List ℕ) (rule : Rule) (place : Place) : Type 0 wher
   in_text : BreaksRule file rule place → BreaksOne file rule place
   behind : (tokens : Tokens) → HasTokens file tokens → Breaks tokens rule place → BreaksOne file rule place
 
--- What is written of a run, by its journal and what it printed: that output, or the record of both.
-abbrev pub Writing : Type 0
-Writing = Journal → List ℕ → List ℕ
+-- What is written of a run: what it printed, or the record of that and of its journal.
+pub data Writing : Type 0 where
+  its_output : Writing
+  its_record : Writing
 
-abbrev pub its_output : Writing
-its_output journal output = output
-
-abbrev pub its_record : Writing
-its_record journal output = record_text journal output
+-- That is written of a run with this journal, which printed this.
+abbrev pub Writes : Writing → Journal → List ℕ → List ℕ → Type 0
+Writes its_output journal output written = written ≡ output
+Writes its_record journal output written = IsRecordText written journal output
 
 -- The status and the note of a run's ending: 0 and none where it is completed; 5 and the exception where one is uncaught; 6 and a note where it is out of fuel.
 abbrev pub TellsEnding : Program → Ending → ℕ → List ℕ → Type 0
@@ -93,7 +93,7 @@ pub record TellsRun (writes : Writing) (p : Program) (fuel : ℕ) (reply : Reply
   pub effect : Effect
   pub records : Records p reply.journal term effect
   pub is_fuel : reply.journal.fuel ≡ fuel
-  pub is_output : reply.out ≡ writes reply.journal effect.output
+  pub is_written : Writes writes reply.journal effect.output reply.out
   pub tells : TellsEnding p reply.journal.ending reply.status reply.note
   pub one : AlwaysOne p
 

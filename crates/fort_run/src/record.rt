@@ -1,5 +1,6 @@
 //! The command `record`: the record of a component's run, or its refusal.
-ghost use Rattle.std.specs.Prelude.{◌≡◌, ◌≤◌, length, IfOk};
+ghost use Rattle.std.specs.Prelude.{◌≡◌, ◌≤◌, ℕ, List as Seq, length, IfOk};
+ghost use Rattle.fort_record.specs.Text.{HasText, IsRecordText};
 ghost use Rattle.fort_run.specs.Reply.{RunSays, file_limit, its_output, its_record};
 ghost use Rattle.fort_run.specs.Said.{said};
 ghost use Rattle.fort_run.specs.declared.answer.Answer.TheVariants as Answer;
@@ -8,6 +9,7 @@ use crate::answer::{Answer, Told};
 use crate::run::run_file;
 use fort_base::{Bytes, Memory};
 use fort_core::Journal;
+use fort_never::accepted_has_text;
 use fort_record::record_of;
 use std::alloc::Global;
 
@@ -22,6 +24,7 @@ pub(crate) fn record_file(
     requires { length file.now ≤ file_limit }
     ensures { IfOk result (λ a. RunSays its_record name file.now fuel (said a)) }
 {
+    accepted_has_text();
     match run_file(alloc, name, file, fuel)? {
         Answer::Ran(journal, output, end) => recorded(alloc, journal, &output, end),
         other => Ok(other),
@@ -30,7 +33,8 @@ pub(crate) fn record_file(
 
 /// The same of a run with its record in the place of its output.
 fn recorded(alloc: Global, journal: Journal, output: &Bytes, end: Told) -> Result<Answer, Memory>
-    ensures { IfOk result (λ a. a ≡ Answer.Ran journal (its_record journal output.now) end) }
+    requires { HasText journal.ending }
+    ensures { IfOk result (λ a. (text : Seq ℕ) × IsRecordText text journal output.now × (a ≡ Answer.Ran journal text end)) }
 {
     let text = record_of(alloc, &journal, output)?;
     Ok(Answer::Ran(journal, text, end))
