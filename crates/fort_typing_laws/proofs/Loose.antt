@@ -1,5 +1,5 @@
 -- A juxtaposition of some elements, none of which is a postfix, answers exactly where its elements do.
-use Rattle.std.proofs.Common.{◌≡◌, ◌⊎◌, inl, inr, ℕ, zero, true, false, List, [], ◌∷◌, map, Option, Some, None, Result, Ok, Err, refl, ap, ◌∙◌, sym, subst}
+use Rattle.std.proofs.Common.{◌≡◌, ◌⊎◌, inl, inr, ℕ, zero, true, false, List, [], ◌∷◌, map, Option, Some, None, Result, Ok, Err, refl, ap, ◌∙◌, subst}
 use Rattle.std.specs.List.{AllByRecursion}
 use Rattle.fort_base.specs.declared.refusal.CheckFault.{CheckFault}
 use Rattle.fort_base.specs.declared.refusal.CheckFault.TheVariants as a_fault
@@ -8,7 +8,6 @@ use Rattle.fort_base.specs.declared.refusal.Rule.{Rule}
 use Rattle.fort_base.specs.declared.rules.TheConstants.{FUNCTION_AS_VALUE}
 use Rattle.fort_juxt.specs.declared.elements.Element.{Element}
 use Rattle.fort_juxt.specs.declared.elements.Grouping.{Grouping}
-use Rattle.fort_juxt.specs.First.{IsNowhere}
 use Rattle.fort_juxt.specs.Loose as loose
 use Rattle.fort_juxt.specs.Walks.{chunks_of}
 use Rattle.fort_juxt.proofs.Divisions.{divided}
@@ -46,7 +45,7 @@ use Rattle.fort_typing_laws.proofs.Elements.{EachExact, Elements, all_known, one
 use Rattle.fort_typing_laws.proofs.Rewriting.{first-told, nowhere-told}
 use Rattle.fort_typing_laws.proofs.Pairs.{Plain, a_value, no_type}
 use Rattle.fort_typing_laws.proofs.Stepping.{AllFit, HasUnknown}
-use Rattle.fort_typing_laws.proofs.Growing.{Good, GroupTold, group_told, good-told}
+use Rattle.fort_typing_laws.proofs.Growing.{GroupTold, group_told, good-told}
 use Rattle.fort_typing_laws.proofs.Chunks.{NoPostfix, grouping-good}
 use Rattle.fort_typing_laws.proofs.Occurring.{unknown-stands}
 use Rattle.fort_typing_laws.proofs.Asked.{parts-known, asked-fit, asked-plain, asked-filled, one-asked, asked-unknown}

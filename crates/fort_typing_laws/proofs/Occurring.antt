@@ -1,5 +1,5 @@
 -- Each element of a juxtaposition is in its grouping: so where one has no type, the juxtaposition becomes no typed form.
-use Rattle.std.proofs.Common.{◌≡◌, ◌⊎◌, inl, inr, ◌≤◌, ◌<◌, ℕ, zero, suc, ◌+◌, Bool, true, false, cond, ◌||◌, List, [], ◌∷◌, ◌++◌, length, slice_get, Some, Ok, Err, refl, arith, ap, ◌∙◌, sym, subst}
+use Rattle.std.proofs.Common.{◌≡◌, ◌⊎◌, inl, inr, ◌<◌, ℕ, zero, suc, ◌+◌, false, List, [], ◌∷◌, ◌++◌, length, slice_get, Some, Ok, refl, arith, ap, ◌∙◌, sym, subst}
 use Rattle.fort_base.specs.declared.refusal.Place.{Place}
 use Rattle.fort_juxt.specs.declared.elements.Element.{Element}
 use Rattle.fort_juxt.specs.declared.elements.Grouping.{Grouping, out-Grouping}

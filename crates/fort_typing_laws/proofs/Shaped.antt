@@ -6,10 +6,10 @@ use Rattle.fort_ops.specs.declared.op.Op.{Op}
 use Rattle.fort_form.specs.declared.form.Form.{Form, out-Form}
 use Rattle.fort_form.specs.declared.form.Form.TheOpen.{Form-F, Item-F}
 use Rattle.fort_form.specs.declared.form.Item.{Item, out-Item}
-use Rattle.fort_form.specs.declared.form.Branch.{Branch, out-Branch}
+use Rattle.fort_form.specs.declared.form.Branch.{Branch}
 use Rattle.fort_form.specs.declared.form.Generator.{Generator, out-Generator}
 use Rattle.fort_form.specs.declared.form.TypeBranch.{TypeBranch, out-TypeBranch}
-use Rattle.fort_form_shape.specs.Shapes.{Shape, an_expression, a_postfix, no_shape, is_expression, is_element, expression_if, postfix_if, are_expressions, are_elements, are_shaped, are_as_many, are_sides, are_units, are_of_run, are_blocks, shape_form, shape_item, shape, is_item, is_branch, is_generator, is_clause, IsShaped}
+use Rattle.fort_form_shape.specs.Shapes.{Shape, an_expression, a_postfix, no_shape, is_expression, is_element, expression_if, postfix_if, are_expressions, are_elements, are_shaped, are_as_many, are_sides, are_units, are_of_run, are_blocks, shape_form, shape_item, shape, is_item, is_branch, is_generator, is_clause}
 use Rattle.fort_form_shape.proofs.ByParts.{MayBe, InItem, OfItem, OfBranch, OfGenerator, OfClause, Parts, by_parts}
 use Rattle.fort_form_shape.proofs.Layers.{shapes, item_shapes, shape-is, item-is, branch-is, generator-is, clause-is}
 use Rattle.fort_known.specs.Known.{Knows}
