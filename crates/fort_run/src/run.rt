@@ -23,7 +23,7 @@ use fort_front::{accepted_is_written, check};
 use fort_lex::{Tokens, tokens};
 use fort_never::{accepted_goes_through, accepted_never_stops};
 use fort_sound::accepted_runs_well;
-use fort_walk::{Ran, Walked, walk};
+use fort_walk::{Ran, walk};
 use std::alloc::Global;
 
 /// What is to say of the file of that name, run with a fuel in steps: the rules of its tokens come
@@ -73,10 +73,8 @@ fn run_program(alloc: Global, program: &Program, fuel: u64) -> Result<Answer, Me
     ensures { IfOk result (λ a. TellsRun its_output program.now fuel (said a)) }
 {
     let tables = tables(alloc, program)?;
-    match walk(alloc, &tables, fuel)? {
-        Walked::Ran(ran) => told(alloc, program, fuel, ran),
-        Walked::Stuck => unreachable!(),
-    }
+    let ran = walk(alloc, &tables, fuel)?;
+    told(alloc, program, fuel, ran)
 }
 
 /// What is to say of a run.

@@ -6,5 +6,4 @@ mod ends;
 mod walking;
 
 pub use fort_carry::Ran;
-pub use fort_turns::Walked;
 pub use walking::walk;

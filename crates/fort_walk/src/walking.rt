@@ -3,12 +3,14 @@ ghost use Rattle.std.specs.Prelude.{◌≡◌, IfOk};
 ghost use Rattle.fort_machine.specs.Written.{WrittenProgram};
 ghost use Rattle.fort_disp.specs.Rows.{MayPick};
 ghost use Rattle.fort_turns.specs.Defined.{AlwaysOne};
+ghost use Rattle.fort_carry.specs.Calls.{IsRun};
+ghost use Rattle.fort_turns.specs.Stops.{StopsShort};
 ghost use Rattle.fort_turns.specs.Walks.{Walks};
 ghost use Rattle.fort_turns.specs.Idles.{Follows, IsWalking};
 
 use crate::ends::at_end;
 use fort_base::{Memory, Shared};
-use fort_carry::Going;
+use fort_carry::{Going, Ran};
 use fort_disp::Tables;
 use fort_moves::{Stop, moved};
 use fort_subst::group;
@@ -22,7 +24,21 @@ use std::alloc::Global;
 /// # Errors
 ///
 /// `Memory` where memory is wanting.
-pub fn walk(alloc: Global, tables: &Tables, fuel: u64) -> Result<Walked, Memory>
+pub fn walk(alloc: Global, tables: &Tables, fuel: u64) -> Result<Ran, Memory>
+    requires written { WrittenProgram tables.now.program.now }
+    requires tables { MayPick tables.now }
+    requires one { AlwaysOne tables.now.program.now }
+    requires never { StopsShort tables.now.program.now → ⊥ }
+    ensures { IfOk result (IsRun tables.now.program.now fuel) }
+{
+    match walked(alloc, tables, fuel)? {
+        Walked::Ran(ran) => Ok(ran),
+        Walked::Stuck => unreachable!(),
+    }
+}
+
+// The same of a program of which a run might stop short.
+fn walked(alloc: Global, tables: &Tables, fuel: u64) -> Result<Walked, Memory>
     requires written { WrittenProgram tables.now.program.now }
     requires tables { MayPick tables.now }
     requires one { AlwaysOne tables.now.program.now }
