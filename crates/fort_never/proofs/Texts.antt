@@ -23,4 +23,4 @@ module _ (typed : RunIsTyped) (thrown : ThrownIsObject) (p : Program) (founded :
   ending_has_text fuel picks t d run (OutOfFuel pick) ends = tt
 
 pub has_text : AcceptedIsSound → RunIsTyped → ThrownIsObject → AcceptedHasText
-has_text sound typed thrown bytes tokens p file is j (t, d, r) = ending_has_text typed thrown p (sound bytes tokens p file is) j.fuel j.picks t d r.is_run j.ending r.ends
+has_text sound typed thrown bytes tokens p file is j (t, (d, r)) = ending_has_text typed thrown p (sound bytes tokens p file is) j.fuel j.picks t d r.is_run j.ending r.ends

@@ -19,7 +19,7 @@ no_refusal told.OutOfFuel e = absurd cc
 -- Its journal's ending has a text.
 pub run_has_text : AcceptedHasText → (name file : List ℕ) (fuel : ℕ) (j : Journal) (output : List ℕ) (end : Told) → RunSays its_output name file fuel (said (Ran j output end))
     → HasText j.ending
-run_has_text law name file fuel j output end (Runs p is tells) = law file is.tokens p is.has is.accepted j (tells.term, tells.effect, tells.records)
+run_has_text law name file fuel j output end (Runs p is tells) = law file is.tokens p is.has is.accepted j (tells.term, (tells.effect, tells.records))
 run_has_text law name file fuel j output end (Refuses rule place broken e) = absurd (no_refusal end (ap (λ (x : Reply). x.status) e))
 
 pub run_recorded : (name file : List ℕ) (fuel : ℕ) (j : Journal) (output : List ℕ) (end : Told) (text : List ℕ) → IsRecordText text j output
