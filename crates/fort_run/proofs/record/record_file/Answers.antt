@@ -5,8 +5,8 @@ use Rattle.fort_run.specs.Said.{said}
 use Rattle.fort_run.proofs.Recorded.{run_has_text, run_recorded, none_recorded}
 use Rattle.fort_run.proofs.record.record_file.Goals as goal
 
-pub requires-recorded : goal.requires-recorded
-requires-recorded c =
+pub recorded-requires : goal.recorded-requires
+recorded-requires c =
     run_has_text c.accepted_has_text.ensures c.args.name c.args.file.now c.args.fuel c.in-Ran.journal c.in-Ran.output c.in-Ran.end
     (subst (λ x. RunSays its_output c.args.name c.args.file.now c.args.fuel (said x)) c.in-Ran.is c.in_ok-other.ensures)
 
