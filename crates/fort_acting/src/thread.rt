@@ -34,7 +34,8 @@ pub fn acting(alloc: Global, program: &Program, ready: &Ready) -> Result<Deal, M
     }
 }
 
-/// The same of a form that is no call or runs a declaration, which is found by the program's tables.
+/// The same of a form that is no call or runs a declaration, which is found by the program's
+/// tables.
 ///
 /// # Errors
 ///

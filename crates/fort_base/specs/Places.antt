@@ -1,4 +1,5 @@
--- The chapter "Places": the order of places in a file, and the earliest of those that break a rule. The code keeps the earliest so far.
+-- The chapter "Places": the order of places in a file, and the earliest of those that break a rule.
+-- The code keeps the earliest so far.
 use Rattle.std.specs.Prelude.{◌≡◌, ◌⊎◌, ◌<◌, ◌&&◌, ◌||◌, Bool, nat_lt, nat_eq, Option, Some, None}
 use Rattle.fort_base.specs.declared.refusal.Place.{Place}
 
@@ -23,7 +24,8 @@ IsFirst Breaks (Some place) = IsEarliest Breaks place
 -- What is kept of a place so far and a further one.
 abbrev pub Keeps : Option Place → Place → Option Place → Type 0
 Keeps None place kept = kept ≡ Some place
-Keeps (Some best) place kept = (IsBefore best place × (kept ≡ Some best)) ⊎ ((IsBefore best place → ⊥) × (kept ≡ Some place))
+Keeps (Some best) place kept = (IsBefore best place × (kept ≡ Some best))
+    ⊎ ((IsBefore best place → ⊥) × (kept ≡ Some place))
 
 -- What is kept of two places each of which may be wanting.
 abbrev pub KeepsAny : Option Place → Option Place → Option Place → Type 0

@@ -1,4 +1,5 @@
-//! The words that every crate shares: lists and boxes that contracts see as what they hold, places, rules, numbers and types.
+//! The words that every crate shares: lists and boxes that contracts see as what they hold, places,
+//! rules, numbers and types.
 #![tactic(auto)]
 
 mod boxed;

@@ -5,7 +5,8 @@ ghost use Rattle.fort_base.specs.Places.{IsBefore, Keeps, KeepsAny, is_before};
 use crate::refusal::Place;
 
 impl Place {
-    /// Whether this place stands before another one in a file: on an earlier line, or further left on one line.
+    /// Whether this place stands before another one in a file: on an earlier line, or further left
+    /// on one line.
     pub fn is_before(self, other: Place) -> bool
         ensures before { IsTrue result ↔ IsBefore self other }
         ensures test { result ≡ is_before self other }
@@ -14,7 +15,8 @@ impl Place {
     }
 }
 
-/// The earlier of the place so far, where there is one, and a further one; of two equal places either.
+/// The earlier of the place so far, where there is one, and a further one; of two equal places
+/// either.
 pub fn earlier(best: Option<Place>, place: Place) -> Option<Place>
     ensures { Keeps best place result }
 {

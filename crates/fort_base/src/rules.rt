@@ -1,5 +1,5 @@
-//! The rules of the language, by their numbers, in the order of the phases that ask them. The chapter "Table of rules" of
-//! docs/LANGUAGE.md; each has a page under docs/rules.
+//! The rules of the language, by their numbers, in the order of the phases that ask them. The
+//! chapter "Table of rules" of docs/LANGUAGE.md; each has a page under docs/rules.
 ghost use Rattle.std.specs.Prelude.{◌≡◌};
 ghost use Rattle.fort_base.specs.Rules.{rule_name};
 
@@ -7,8 +7,8 @@ use crate::refusal::Rule;
 
 /// The file isn't UTF-8.
 pub const NOT_UTF8: Rule = Rule(101);
-/// A character begins no token, or directly follows a number that it would go on with, or is a control
-/// character in a text.
+/// A character begins no token, or directly follows a number that it would go on with, or is a
+/// control character in a text.
 pub const BAD_CHARACTER: Rule = Rule(102);
 /// A comment isn't closed.
 pub const OPEN_COMMENT: Rule = Rule(103);
@@ -34,7 +34,8 @@ pub const NO_PRECEDENCE: Rule = Rule(302);
 pub const SPACING_CONTRADICTS: Rule = Rule(303);
 /// A chain mixes rising and falling operators, or has two or more of which one is `=/=`.
 pub const BAD_CHAIN: Rule = Rule(304);
-/// Two top-level names of variables or types are one, or a function has a variable's or type's name.
+/// Two top-level names of variables or types are one, or a function has a variable's or type's
+/// name.
 pub const DUPLICATE_NAME: Rule = Rule(401);
 /// A type name names no type.
 pub const UNKNOWN_TYPE: Rule = Rule(402);
@@ -50,7 +51,8 @@ pub const NOT_COMPRISED: Rule = Rule(406);
 pub const COMPRISED_NOT_BELOW: Rule = Rule(407);
 /// A type has two fields of one name, or gets one that it doesn't declare with different types.
 pub const DUPLICATE_MEMBER: Rule = Rule(451);
-/// A trait's field is missing in an object below it, or is declared there with a type that isn't below.
+/// A trait's field is missing in an object below it, or is declared there with a type that isn't
+/// below.
 pub const FIELD_NOT_BELOW: Rule = Rule(452);
 /// Two declarations of a set have equal parameter types.
 pub const SAME_PARAMETERS: Rule = Rule(501);
@@ -70,7 +72,8 @@ pub const ABSTRACT_NOT_COVERED: Rule = Rule(507);
 pub const UNKNOWN_NAME: Rule = Rule(601);
 /// No declaration of the set is applicable to the static types, and none is with widening.
 pub const NOT_APPLICABLE: Rule = Rule(602);
-/// A type isn't below the wanted one, or is `Nothing` where that is barred, or there is no widest type.
+/// A type isn't below the wanted one, or is `Nothing` where that is barred, or there is no widest
+/// type.
 pub const MISMATCH: Rule = Rule(603);
 /// The target of an assignment can't be assigned to.
 pub const NOT_ASSIGNABLE: Rule = Rule(604);

@@ -8,7 +8,8 @@ use std::marker::Model;
 use std::mem;
 use std::sync::Arc;
 
-/// A value with several owners, in any threads, that contracts see as the value; a copy is one count more.
+/// A value with several owners, in any threads, that contracts see as the value; a copy is one
+/// count more.
 #[derive(Drop)]
 pub struct Shared<T> {
     inner: Arc<T>,
@@ -53,7 +54,8 @@ impl<T> Shared<T> {
     /// Puts a value in the place of its own, which it hands out, where this is its only owner; else
     /// hands the other value back. It takes no memory.
     pub fn replace(&mut self, value: T) -> Result<T, T>
-        ensures { MatchResult result (λ own. (own ≡ self.old) × (self.new ≡ value)) (λ back. (back ≡ value) × (self.new ≡ self.old)) }
+        ensures { MatchResult result (λ own. (own ≡ self.old)
+            × (self.new ≡ value)) (λ back. (back ≡ value) × (self.new ≡ self.old)) }
     {
         match Arc::get_mut(&mut self.inner) {
             Some(place) => Ok(mem::replace(place, value)),

@@ -1,4 +1,5 @@
--- The chapter "Members", built-in declarations. Their one table stands in src/table.rt; the code walks its rows.
+-- The chapter "Members", built-in declarations. Their one table stands in src/table.rt; the code
+-- walks its rows.
 use Rattle.std.specs.Prelude.{ℕ, nat_eq, Bool, ◌&&◌, List, [], length, map, filter, drop}
 use Rattle.std.specs.Str.{bytes_eq}
 use Rattle.std.specs.Borrow.{Bor}
@@ -18,14 +19,21 @@ ty_of (simple.Declared id) = a_type.Named id
 
 -- The declaration of the parts of a row.
 abbrev pub declared_by : List ℕ → List Simple → Simple → Primitive → BuiltInDeclaration
-declared_by name parameters result primitive = record { name = name; parameters = map ty_of parameters; result = ty_of result; primitive = primitive }
+declared_by name parameters result primitive =
+    record {
+      name = name;
+      parameters = map ty_of parameters;
+      result = ty_of result;
+      primitive = primitive;
+    }
 
 -- The built-in declarations, in their order.
 unfoldable pub declarations : List BuiltInDeclaration
 declarations = map (λ k. declared_by k.0.now k.1.now k.2 k.3) DECLARATIONS
 
 -- the declaration of a row that the code holds
-abbrev pub declaration_of : Bor (List ℕ) × Bor (List Simple) × Simple × Primitive → BuiltInDeclaration
+abbrev pub declaration_of : Bor (List ℕ) × Bor (List Simple) × Simple × Primitive
+    → BuiltInDeclaration
 declaration_of k = declared_by k.0.now k.1.now k.2 k.3
 
 -- the name of a declaration

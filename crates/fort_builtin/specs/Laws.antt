@@ -18,11 +18,17 @@ name_at t = get_or declared_spellings t.0 []
 
 -- Each number of a built-in type is that of the type with its name.
 abbrev pub NumbersNameTypes : Type 0
-NumbersNameTypes = map name_at (OBJECT ∷ EXCEPTION ∷ ZZ32 ∷ ZZ64 ∷ STRING ∷ BOOLEAN ∷ RANGE ∷ INTEGER_OVERFLOW ∷ DIVISION_BY_ZERO ∷ NEGATIVE_EXPONENT ∷ INDEX_OUT_OF_RANGE ∷ NEGATIVE_SIZE
+NumbersNameTypes =
+    map name_at
+    (OBJECT ∷ EXCEPTION ∷ ZZ32 ∷ ZZ64 ∷ STRING ∷ BOOLEAN ∷ RANGE ∷ INTEGER_OVERFLOW
+    ∷ DIVISION_BY_ZERO ∷ NEGATIVE_EXPONENT ∷ INDEX_OUT_OF_RANGE ∷ NEGATIVE_SIZE
     ∷ EMPTY_REDUCTION ∷ MATCH_FAILURE ∷ DEPTH_EXCEEDED ∷ TRY_ATOMIC_FAILURE ∷ ABORT_OUTSIDE ∷ [])
-    ≡ codes "Object" ∷ codes "Exception" ∷ codes "ZZ32" ∷ codes "ZZ64" ∷ codes "String" ∷ codes "Boolean" ∷ codes "Range"
-    ∷ codes "IntegerOverflow" ∷ codes "DivisionByZero" ∷ codes "NegativeExponent" ∷ codes "IndexOutOfRange" ∷ codes "NegativeSize"
-    ∷ codes "EmptyReduction" ∷ codes "MatchFailure" ∷ codes "DepthExceeded" ∷ codes "TryAtomicFailure" ∷ codes "AbortOutside" ∷ []
+    ≡ codes "Object" ∷ codes "Exception" ∷ codes "ZZ32" ∷ codes "ZZ64" ∷ codes "String"
+    ∷ codes "Boolean" ∷ codes "Range"
+    ∷ codes "IntegerOverflow" ∷ codes "DivisionByZero" ∷ codes "NegativeExponent"
+    ∷ codes "IndexOutOfRange" ∷ codes "NegativeSize"
+    ∷ codes "EmptyReduction" ∷ codes "MatchFailure" ∷ codes "DepthExceeded"
+    ∷ codes "TryAtomicFailure" ∷ codes "AbortOutside" ∷ []
 
 -- The built-in declarations have these names, parameters and results, in this order.
 abbrev pub TableHasRows : Type 0
@@ -40,4 +46,5 @@ shape_place s = place_of s.kind
 
 -- The built-in single objects have the locations that the opening store has for them.
 abbrev pub ObjectsHavePlaces : Type 0
-ObjectsHavePlaces = (first : ℕ) → flat_map shape_place (shapes_from first) ≡ map location (object_places first)
+ObjectsHavePlaces = (first : ℕ)
+    → flat_map shape_place (shapes_from first) ≡ map location (object_places first)

@@ -1,4 +1,5 @@
--- The chapters "Types" and "Journals": what the built-in types are made of, and where the single objects among them stand in an opening store.
+-- The chapters "Types" and "Journals": what the built-in types are made of, and where the single
+-- objects among them stand in an opening store.
 use Rattle.std.specs.Prelude.{ℕ, zero, suc, ◌+◌, List, [], ◌∷◌, ◌++◌, map}
 use Rattle.fort_base.specs.declared.ids.Loc.{Loc}
 use Rattle.fort_base.specs.declared.ty.Ty.{Ty, Tuple}

@@ -1,4 +1,5 @@
--- The chapter "Members", its table of built-in declarations, row by row. The code holds a row for each declaration, with what it is to the machine.
+-- The chapter "Members", its table of built-in declarations, row by row. The code holds a row for
+-- each declaration, with what it is to the machine.
 use Rattle.std.specs.Prelude.{ℕ, List, [], ◌∷◌, ◌++◌, codes, map}
 use Rattle.std.specs.List.{flat_map}
 use Rattle.fort_base.specs.declared.ty.Ty.{Ty}
@@ -6,7 +7,8 @@ use Rattle.fort_base.specs.declared.ty.Ty.TheVariants as a_type
 use Rattle.fort_builtin.specs.declared.table.BuiltInDeclaration.{BuiltInDeclaration}
 use Rattle.fort_builtin.specs.declared.types.TheConstants.{ZZ32, ZZ64, STRING, BOOLEAN, RANGE}
 
--- What a declaration is but for what it does: its name, the types of its parameters, and the type of its result.
+-- What a declaration is but for what it does: its name, the types of its parameters, and the type
+-- of its result.
 pub record Signature : Type 0 where
   pub name : List ℕ
   pub parameters : List Ty
@@ -51,8 +53,11 @@ unary t result name = row name (t ∷ []) result
 -- ---- names
 
 abbrev pub number_operators : List (List ℕ)
-number_operators = codes "+" ∷ codes "-" ∷ codes "TIMES" ∷ codes "DOT" ∷ codes "juxtaposition" ∷ codes "MAX" ∷ codes "MIN" ∷ codes "DIV" ∷ codes "REM" ∷ codes "MOD"
-    ∷ codes "GCD" ∷ codes "LCM" ∷ codes "BITAND" ∷ codes "BITOR" ∷ codes "BITXOR" ∷ codes "LSHIFT" ∷ codes "RSHIFT" ∷ codes "^" ∷ []
+number_operators =
+    codes "+" ∷ codes "-" ∷ codes "TIMES" ∷ codes "DOT" ∷ codes "juxtaposition" ∷ codes "MAX"
+    ∷ codes "MIN" ∷ codes "DIV" ∷ codes "REM" ∷ codes "MOD"
+    ∷ codes "GCD" ∷ codes "LCM" ∷ codes "BITAND" ∷ codes "BITOR" ∷ codes "BITXOR" ∷ codes "LSHIFT"
+    ∷ codes "RSHIFT" ∷ codes "^" ∷ []
 
 abbrev pub comparisons : List (List ℕ)
 comparisons = codes "=" ∷ codes "=/=" ∷ codes "<" ∷ codes "<=" ∷ codes ">" ∷ codes ">=" ∷ []
@@ -89,20 +94,27 @@ negation_rows = unary zz32 zz32 (codes "-") ∷ unary zz64 zz64 (codes "-") ∷ 
 
 -- texts joined
 abbrev pub joining_rows : List Signature
-joining_rows = row (codes "juxtaposition") (string ∷ a_type.Any ∷ []) string ∷ row (codes "juxtaposition") (a_type.Any ∷ string ∷ []) string
+joining_rows =
+    row (codes "juxtaposition") (string ∷ a_type.Any ∷ []) string
+    ∷ row (codes "juxtaposition") (a_type.Any ∷ string ∷ []) string
     ∷ row (codes "juxtaposition") (string ∷ string ∷ []) string ∷ []
 
 -- functions beside the printing ones
 abbrev pub function_rows : List Signature
-function_rows = row (codes "abort") [] unit ∷ unary zz32 zz64 (codes "widen") ∷ unary zz64 zz32 (codes "narrow") ∷ unary string zz32 (codes "length") ∷ []
+function_rows =
+    row (codes "abort") [] unit ∷ unary zz32 zz64 (codes "widen") ∷ unary zz64 zz32 (codes "narrow")
+    ∷ unary string zz32 (codes "length") ∷ []
 
 -- on numbers
 abbrev pub all_number_rows : List Signature
-all_number_rows = flat_map number_rows number_operators ++ (negation_rows ++ flat_map comparison_rows comparisons)
+all_number_rows =
+    flat_map number_rows number_operators ++ (negation_rows ++ flat_map comparison_rows comparisons)
 
 -- on texts, Booleans and all values
 abbrev pub all_truth_rows : List Signature
-all_truth_rows = flat_map equality_rows equalities ++ binary a_type.Any boolean (codes "===") ∷ (map (binary boolean boolean) junctions ++ unary boolean boolean (codes "NOT") ∷ [])
+all_truth_rows =
+    flat_map equality_rows equalities ++ binary a_type.Any boolean (codes "===")
+    ∷ (map (binary boolean boolean) junctions ++ unary boolean boolean (codes "NOT") ∷ [])
 
 -- ranges and texts
 abbrev pub all_text_rows : List Signature

@@ -1,4 +1,5 @@
--- The chapter "Types": the built-in declared types. Their one table stands in src/types.rt; the code walks its rows.
+-- The chapter "Types": the built-in declared types. Their one table stands in src/types.rt; the
+-- code walks its rows.
 use Rattle.std.specs.Prelude.{ℕ, List, [], ◌∷◌, ◌++◌, Option, Some, None, map}
 use Rattle.std.specs.Borrow.{Bor}
 use Rattle.fort_base.specs.declared.ids.TypeId.{TypeId}

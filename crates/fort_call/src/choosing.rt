@@ -22,21 +22,25 @@ pub enum Asked {
     LeastWidened(Widening),
 }
 
-/// The position, in its set, of the declaration that is the most specific one for these types, by the rows of whatever hierarchy
-/// the table has. It answers `NoneApplicable` where no declaration is applicable, and `Unclear` where some are and none is the most
-/// specific one, which is so only where the set breaks a rule of the chapter "Overload rules". It takes no memory, and each declaration
-/// is asked twice.
+/// The position, in its set, of the declaration that is the most specific one for these types, by
+/// the rows of whatever hierarchy the table has. It answers `NoneApplicable` where no declaration
+/// is applicable, and `Unclear` where some are and none is the most specific one, which is so only
+/// where the set breaks a rule of the chapter "Overload rules". It takes no memory, and each
+/// declaration is asked twice.
 pub fn most_specific(table: &TypeTable, set: &MemberSet, types: &[Ty]) -> Choice
     ensures { (h : Seq DeclaredType) → HasRows h table.now → Chooses h set.now types.now result }
 {
     chosen(Asked::MostSpecific, table, set.members.as_slice(), types)
 }
 
-/// The position, in its set, of a declaration that is applicable to these types with widening and whose widened positions are
-/// contained in those of each other one that is. It answers `NoneApplicable` where no declaration is applicable with widening, and
-/// `Unclear` where some are and none widens least. It takes no memory. A call asks it where no declaration is applicable without.
+/// The position, in its set, of a declaration that is applicable to these types with widening and
+/// whose widened positions are contained in those of each other one that is. It answers
+/// `NoneApplicable` where no declaration is applicable with widening, and `Unclear` where some are
+/// and none widens least. It takes no memory. A call asks it where no declaration is applicable
+/// without.
 pub fn least_widened(table: &TypeTable, widening: Widening, set: &MemberSet, types: &[Ty]) -> Choice
-    ensures { (h : Seq DeclaredType) → HasRows h table.now → Widens h widening set.now types.now result }
+    ensures { (h : Seq DeclaredType) → HasRows h table.now
+        → Widens h widening set.now types.now result }
 {
     let asked = Asked::LeastWidened(widening);
     chosen(asked, table, set.members.as_slice(), types)
@@ -44,7 +48,8 @@ pub fn least_widened(table: &TypeTable, widening: Widening, set: &MemberSet, typ
 
 /// The declaration that fits and goes before each that fits, where there is one.
 fn chosen(asked: Asked, table: &TypeTable, members: &[Member], types: &[Ty]) -> Choice
-    ensures { (h : Seq DeclaredType) → HasRows h table.now → Finds h asked members.now types.now result }
+    ensures { (h : Seq DeclaredType) → HasRows h table.now
+        → Finds h asked members.now types.now result }
 {
     let Some(at) = leading(asked, table, members, types) else {
         return Choice::NoneApplicable;
@@ -84,7 +89,8 @@ fn found(members: &[Member], at: Option<usize>) -> Option<&Member>
 
 /// Whether a declaration fits the types.
 fn fits(asked: Asked, table: &TypeTable, types: &[Ty], member: &Member) -> bool
-    ensures { (h : Seq DeclaredType) → HasRows h table.now → IsTrue result ↔ Fits h asked types.now member.now }
+    ensures { (h : Seq DeclaredType) → HasRows h table.now → IsTrue result
+        ↔ Fits h asked types.now member.now }
 {
     match asked {
         Asked::MostSpecific => all_below(table, types, member.parameters.as_slice()),
@@ -92,7 +98,8 @@ fn fits(asked: Asked, table: &TypeTable, types: &[Ty], member: &Member) -> bool
     }
 }
 
-/// Whether the first declaration is more specific than the second one, or widens no position that the second one doesn't.
+/// Whether the first declaration is more specific than the second one, or widens no position that
+/// the second one doesn't.
 fn goes_before(
     asked: Asked,
     table: &TypeTable,
@@ -100,7 +107,8 @@ fn goes_before(
     first: &Member,
     second: &Member,
 ) -> bool
-    ensures { (h : Seq DeclaredType) → HasRows h table.now → IsTrue result ↔ GoesBefore h asked types.now first.now second.now }
+    ensures { (h : Seq DeclaredType) → HasRows h table.now → IsTrue result
+        ↔ GoesBefore h asked types.now first.now second.now }
 {
     match asked {
         Asked::MostSpecific => are_below(table, &first.parameters, &second.parameters),
@@ -116,7 +124,8 @@ fn is_taken(
     best: Option<&Member>,
     next: &Member,
 ) -> bool
-    ensures { (h : Seq DeclaredType) → HasRows h table.now → IsTrue result ↔ IsTaken h asked types.now (option_copied best.entry) next.now }
+    ensures { (h : Seq DeclaredType) → HasRows h table.now → IsTrue result
+        ↔ IsTaken h asked types.now (option_copied best.entry) next.now }
 {
     if !fits(asked, table, types, next) {
         return false;
@@ -129,7 +138,8 @@ fn is_taken(
 
 /// Whether a declaration doesn't fit, or another one goes before it.
 fn gives_way(asked: Asked, table: &TypeTable, types: &[Ty], chosen: &Member, other: &Member) -> bool
-    ensures { (h : Seq DeclaredType) → HasRows h table.now → IsTrue result ↔ GivesWay h asked types.now chosen.now other.now }
+    ensures { (h : Seq DeclaredType) → HasRows h table.now → IsTrue result
+        ↔ GivesWay h asked types.now chosen.now other.now }
 {
     !fits(asked, table, types, other) || goes_before(asked, table, types, chosen, other)
 }
@@ -142,7 +152,8 @@ fn is_over(
     types: &[Ty],
     chosen: &Member,
 ) -> bool
-    ensures { (h : Seq DeclaredType) → HasRows h table.now → IsTrue result ↔ IsOver h asked members.now types.now chosen.now }
+    ensures { (h : Seq DeclaredType) → HasRows h table.now → IsTrue result
+        ↔ IsOver h asked members.now types.now chosen.now }
 {
     for member in members {
         if !gives_way(asked, table, types, chosen, member) {

@@ -33,7 +33,8 @@ fn is_declared(ty: &Ty, id: TypeId) -> bool
 
 /// Whether a type is below a parameter, or is ZZ32 where the parameter is ZZ64.
 fn suits(table: &TypeTable, widening: Widening, ty: &Ty, parameter: &Ty) -> bool
-    ensures { (h : Seq DeclaredType) → HasRows h table.now → IsTrue result ↔ Suits h widening ty.now parameter.now }
+    ensures { (h : Seq DeclaredType) → HasRows h table.now → IsTrue result
+        ↔ Suits h widening ty.now parameter.now }
 {
     below(table, ty, parameter) || is_widened(widening, ty, parameter)
 }
@@ -45,13 +46,15 @@ pub fn is_applicable_widened(
     types: &[Ty],
     member: &Member,
 ) -> bool
-    ensures { (h : Seq DeclaredType) → HasRows h table.now → IsTrue result ↔ IsApplicableWidened h widening member.now types.now }
+    ensures { (h : Seq DeclaredType) → HasRows h table.now → IsTrue result
+        ↔ IsApplicableWidened h widening member.now types.now }
 {
     all_suit(table, widening, types, member.parameters.as_slice())
 }
 
 fn all_suit(table: &TypeTable, widening: Widening, types: &[Ty], parameters: &[Ty]) -> bool
-    ensures { (h : Seq DeclaredType) → HasRows h table.now → IsTrue result ↔ Along (Suits h widening) types.now parameters.now }
+    ensures { (h : Seq DeclaredType) → HasRows h table.now → IsTrue result
+        ↔ Along (Suits h widening) types.now parameters.now }
 {
     if types.len() != parameters.len() {
         return false;
@@ -104,8 +107,8 @@ fn is_widened_at(widening: Widening, types: &[Ty], parameters: &[Ty], at: usize)
     }
 }
 
-/// The types of a call that is widened for a declaration: ZZ64 at the positions that are widened for it, and these types
-/// elsewhere. Its only error is want of memory.
+/// The types of a call that is widened for a declaration: ZZ64 at the positions that are widened
+/// for it, and these types elsewhere. Its only error is want of memory.
 pub fn widened(
     alloc: Global,
     widening: Widening,

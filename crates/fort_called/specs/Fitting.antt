@@ -1,4 +1,5 @@
--- The chapter "Typing", calls: applicable and widened as truths that are computed. The chapter's own sentences are in fort_set and fort_call.
+-- The chapter "Typing", calls: applicable and widened as truths that are computed. The chapter's
+-- own sentences are in fort_set and fort_call.
 use Rattle.std.specs.Prelude.{◌≡◌, ℕ, nat_eq, Bool, true, false, cond, not, ◌&&◌, ◌||◌, List, [], ◌∷◌, Option, Some, None}
 use Rattle.fort_base.specs.declared.ty.Ty.{Ty, out-Ty}
 use Rattle.fort_base.specs.declared.ty.Ty.TheVariants as a_type
@@ -30,7 +31,8 @@ abbrev pub contained : List Ty → List Ty → List Ty → Bool
 contained [] ps qs = true
 contained (x ∷ xs) [] qs = true
 contained (x ∷ xs) (p ∷ ps) [] = cond (is_widened x p) false (contained xs ps [])
-contained (x ∷ xs) (p ∷ ps) (q ∷ qs) = cond (is_widened x p && not (is_widened x q)) false (contained xs ps qs)
+contained (x ∷ xs) (p ∷ ps) (q ∷ qs) =
+    cond (is_widened x p && not (is_widened x q)) false (contained xs ps qs)
 
 -- which positions are widened
 abbrev pub positions : List Ty → List Ty → List Bool
@@ -48,23 +50,32 @@ widened_types (x ∷ xs) (p ∷ ps) = cond (is_widened x p) (a_type.Named ZZ64) 
 
 -- a declaration is applicable to types, with widening or without
 unfoldable pub fits : Facts → Bool → List Ty → Member → Bool
-fits k widening types d = cond widening (all_suit k types d.parameters) (are_below k types d.parameters)
+fits k widening types d =
+    cond widening (all_suit k types d.parameters) (are_below k types d.parameters)
 
--- one declaration goes before another: its widened positions are contained in the other's, or its parameters are below the other's
+-- one declaration goes before another: its widened positions are contained in the other's, or its
+-- parameters are below the other's
 unfoldable pub goes_before : Facts → Bool → List Ty → Member → Member → Bool
-goes_before k widening types p q = cond widening (contained types p.parameters q.parameters) (are_below k p.parameters q.parameters)
+goes_before k widening types p q =
+    cond widening (contained types p.parameters q.parameters)
+    (are_below k p.parameters q.parameters)
 
 -- a declaration goes before each of these that fits
 abbrev pub is_over : Facts → Bool → List Ty → Member → List Member → Bool
 is_over k widening types d [] = true
-is_over k widening types d (e ∷ es) = cond (not (fits k widening types e) || goes_before k widening types d e) (is_over k widening types d es) false
+is_over k widening types d (e ∷ es) =
+    cond (not (fits k widening types e)
+    || goes_before k widening types d e) (is_over k widening types d es) false
 
 -- the first of these that fits and goes before each of all that fits
 abbrev pub first_best : Facts → Bool → List Ty → List Member → List Member → Option Member
 first_best k widening types all [] = None
-first_best k widening types all (d ∷ ds) = cond (fits k widening types d && is_over k widening types d all) (Some d) (first_best k widening types all ds)
+first_best k widening types all (d ∷ ds) =
+    cond (fits k widening types d
+    && is_over k widening types d all) (Some d) (first_best k widening types all ds)
 
 -- some of these fits
 abbrev pub any_fits : Facts → Bool → List Ty → List Member → Bool
 any_fits k widening types [] = false
-any_fits k widening types (d ∷ ds) = cond (fits k widening types d) true (any_fits k widening types ds)
+any_fits k widening types (d ∷ ds) =
+    cond (fits k widening types d) true (any_fits k widening types ds)

@@ -38,7 +38,9 @@ fn widened(
     members: &[Member],
     types: &List<Ty>,
 ) -> Result<Called, Memory>
-    ensures { IfOk result (λ called. called ≡ called_widened (facts known.now) members.now types.now (first_best (facts known.now) true types.now members.now members.now)) }
+    ensures { IfOk result (λ called. called
+        ≡ called_widened (facts known.now) members.now types.now
+        (first_best (facts known.now) true types.now members.now members.now)) }
 {
     let Some(least) = first_best(known, true, types, members) else {
         if any_fits(known, true, types, members) {
@@ -63,7 +65,9 @@ fn plain(
     members: &[Member],
     types: &List<Ty>,
 ) -> Result<Called, Memory>
-    ensures { IfOk result (λ called. called ≡ called_plain (facts known.now) members.now types.now (first_best (facts known.now) false types.now members.now members.now)) }
+    ensures { IfOk result (λ called. called
+        ≡ called_plain (facts known.now) members.now types.now
+        (first_best (facts known.now) false types.now members.now members.now)) }
 {
     match first_best(known, false, types, members) {
         Some(member) => {
@@ -79,7 +83,8 @@ fn plain(
     }
 }
 
-/// What a call of a set with arguments of these types has. It answers `Memory` where memory is wanting.
+/// What a call of a set with arguments of these types has. It answers `Memory` where memory is
+/// wanting.
 #[tactic(auto, unfolding(crate::specs::Called::called))]
 pub fn call_of(alloc: Global, known: &Known, set: SetId, types: &List<Ty>) -> Result<Called, Memory>
     ensures { IfOk result (λ answer. answer ≡ called (facts known.now) set types.now) }

@@ -129,7 +129,8 @@ pub fn first_best<'a>(
     types: &List<Ty>,
     members: &'a [Member],
 ) -> Option<&'a Member>
-    ensures { option_copied result ≡ first_best (facts known.now) widening types.now members.now members.now }
+    ensures { option_copied result
+        ≡ first_best (facts known.now) widening types.now members.now members.now }
 {
     for member in members {
         if fits(known, widening, types, member)

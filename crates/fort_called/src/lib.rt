@@ -1,4 +1,5 @@
-//! What a call of a set has for the types of its arguments: a result, or a broken rule; over what is known of a component.
+//! What a call of a set has for the types of its arguments: a result, or a broken rule; over what
+//! is known of a component.
 #![tactic(auto)]
 
 mod called;

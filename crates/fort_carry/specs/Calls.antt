@@ -32,7 +32,8 @@ use Rattle.fort_carry.specs.declared.course.Waiting.{Waiting}
 use Rattle.fort_carry.specs.declared.ending.Ran.{Ran}
 
 -- A form at a place may take this step.
-pub record MayStep (p : Program) (c : Course) (place : Place) (loc : ℕ) (b : Term) (e : Effect) : Type 0 where
+pub record MayStep (p : Program) (c : Course) (place : Place) (loc : ℕ) (b : Term)
+    (e : Effect) : Type 0 where
   pub form : Term
   pub stands : StandsAt p c place form
   pub local : Local p (is_inner (around c)) loc form b e
@@ -71,11 +72,20 @@ pub record StepsTo (old : Course) (place : Place) (loc cost : ℕ) (new : Course
   pub fuel : new.fuel ≡ old.fuel
   pub fresh : new.fresh ≡ old.fresh
 
--- An attempt of a form at a place begins: its machine has picked nothing, and the one round it waits.
-pub record BeginsTo (old : Course) (place : Place) (m : Mode) (body : Term) (taken : ℕ) (new : Course) : Type 0 where
+-- An attempt of a form at a place begins: its machine has picked nothing, and the one round it
+-- waits.
+pub record BeginsTo (old : Course) (place : Place) (m : Mode) (body : Term) (taken : ℕ)
+    (new : Course) : Type 0 where
   pub layers : levels_of new.layers ≡ opened (levels_of old.layers)
   pub picks : new.picks ≡ []
-  pub outer : new.outer ≡ old.outer ++ record { place = place; mode = m; body = body; picks = old.picks; taken = taken } ∷ []
+  pub outer : new.outer
+      ≡ old.outer ++ record {
+        place = place;
+        mode = m;
+        body = body;
+        picks = old.picks;
+        taken = taken;
+      } ∷ []
   pub clock : new.clock ≡ old.clock
   pub spent : new.spent ≡ old.spent + 1
   pub fuel : new.fuel ≡ old.fuel
@@ -91,7 +101,8 @@ pub record StopsTo (old : Course) (place : Place) (new : Course) : Type 0 where
   pub fuel : new.fuel ≡ old.fuel
   pub fresh : new.fresh ≡ old.fresh
 
--- The innermost attempt ended so, and is the last pick of the machine that waited for it, which goes on at the place of its form.
+-- The innermost attempt ended so, and is the last pick of the machine that waited for it, which
+-- goes on at the place of its form.
 pub record ClosesTo (c : Closing) (old : Course) (new : Course × Place) : Type 0 where
   pub waiting : Waiting
   pub outer : old.outer ≡ new.0.outer ++ waiting ∷ []
@@ -103,15 +114,19 @@ pub record ClosesTo (c : Closing) (old : Course) (new : Course × Place) : Type 
   pub fuel : new.0.fuel ≡ old.fuel
   pub fresh : new.0.fresh ≡ old.fresh
 
--- The innermost attempt is of a `tryatomic`, and the program has no single object to be thrown where it is aborted.
+-- The innermost attempt is of a `tryatomic`, and the program has no single object to be thrown
+-- where it is aborted.
 abbrev pub CannotThrow : Program → List Held → Type 0
 CannotThrow p [] = ⊥
 CannotThrow p (h ∷ hs) = (h.mode ≡ mode.Try) × (single p p.built_in.try_atomic_failure ≡ None)
 
--- What an atomic form becomes whose attempt was aborted: asleep with what the attempt read, or the throw of the single object.
+-- What an atomic form becomes whose attempt was aborted: asleep with what the attempt read, or the
+-- throw of the single object.
 pub data Becomes (p : Program) (h : Held) (v : Levels) (b : Term) : Type 0 where
-  sleeping : (marks : Marks) → h.mode ≡ mode.Atomic → AreMarks marks v.attempts → b ≡ Asleep marks h.body → Becomes p h v b
-  throwing : (x : Value) → h.mode ≡ mode.Try → single p p.built_in.try_atomic_failure ≡ Some x → b ≡ throw_of x → Becomes p h v b
+  sleeping : (marks : Marks) → h.mode ≡ mode.Atomic → AreMarks marks v.attempts
+      → b ≡ Asleep marks h.body → Becomes p h v b
+  throwing : (x : Value) → h.mode ≡ mode.Try → single p p.built_in.try_atomic_failure ≡ Some x
+      → b ≡ throw_of x → Becomes p h v b
 
 -- It becomes so, or the program has no such object.
 abbrev pub Aborts : Program → Held → Levels → Option At → Type 0
@@ -126,7 +141,8 @@ pub record IsEnded (c : Course) (ending : Ending) (r : Ran) : Type 0 where
   pub is_output : r.output ≡ (levels_of c.layers).output
   pub is_cost : r.cost ≡ (levels_of c.layers).cost
 
--- A run was carried to its end: the journal is that of a run of the program with this fuel, and has the run's output and cost beside it.
+-- A run was carried to its end: the journal is that of a run of the program with this fuel, and has
+-- the run's output and cost beside it.
 pub record IsRun (p : Program) (fuel : ℕ) (r : Ran) : Type 0 where
   pub is_fuel : r.journal.fuel ≡ fuel
   pub run : HasRun p fuel r.journal.picks r.journal.ending r.output r.cost

@@ -1,4 +1,5 @@
--- Chapter "Runs": how far a run has come, by what the code keeps of it: the machines that wait, the root's first, and what all has cost beside the layers.
+-- Chapter "Runs": how far a run has come, by what the code keeps of it: the machines that wait, the
+-- root's first, and what all has cost beside the layers.
 use Rattle.std.specs.Prelude.{◌≡◌, List, [], ◌∷◌}
 use Rattle.fort_core.specs.declared.program.Program.{Program}
 use Rattle.fort_core.specs.declared.term.Term.{Term}
@@ -27,7 +28,8 @@ inwards (w ∷ ws) hs = inwards ws (held w ∷ hs)
 abbrev pub around : Course → List Held
 around c = inwards c.outer []
 
--- A run has come to this: its innermost machine's picks are a run to this end or term; no location is there from a number on; and what all has cost is known.
+-- A run has come to this: its innermost machine's picks are a run to this end or term; no location
+-- is there from a number on; and what all has cost is known.
 pub record HasCome (p : Program) (c : Course) (r : Ended) : Type 0 where
   pub comes : Comes p c.fuel (levels_of c.layers) c.picks (around c) c.clock r
   pub nothing : NothingFrom c.fresh (seen (levels_of c.layers))

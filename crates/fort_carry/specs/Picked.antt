@@ -1,4 +1,5 @@
--- Chapter "Runs": the picks of a run, and the machines that wait in it, after a pick more. Who replays a journal must know them; who walks a program need not.
+-- Chapter "Runs": the picks of a run, and the machines that wait in it, after a pick more. Who
+-- replays a journal must know them; who walks a program need not.
 use Rattle.std.specs.Prelude.{◌≡◌, ℕ, List, [], ◌∷◌, ◌++◌}
 use Rattle.fort_core.specs.declared.pick.Pick.{Pick, Step, Attempt}
 use Rattle.fort_machine.specs.Runs.{location}
@@ -11,7 +12,8 @@ pub record PicksStep (old : Course) (place : Place) (loc : ℕ) (new : Course) :
   pub picks : new.picks ≡ old.picks ++ Step place.path (location loc) ∷ []
   pub outer : new.outer ≡ old.outer
 
--- An attempt's machine is the innermost one, and has picked nothing; the one round it waits at a place.
+-- An attempt's machine is the innermost one, and has picked nothing; the one round it waits at a
+-- place.
 pub record PicksNothing (old : Course) (place : Place) (new : Course) : Type 0 where
   pub picks : new.picks ≡ []
   pub waiting : Waiting
@@ -19,7 +21,8 @@ pub record PicksNothing (old : Course) (place : Place) (new : Course) : Type 0 w
   pub is_place : waiting.place ≡ place
   pub before : waiting.picks ≡ old.picks
 
--- The innermost machine ended with these picks, and they are an attempt, which is one pick more of the machine that waited.
+-- The innermost machine ended with these picks, and they are an attempt, which is one pick more of
+-- the machine that waited.
 pub record PicksAttempt (old : Course) (within : List Pick) (new : Course) : Type 0 where
   pub waiting : Waiting
   pub outer : old.outer ≡ new.outer ++ waiting ∷ []

@@ -110,9 +110,15 @@ impl Execution {
     ) -> Result<Option<Going>, Memory>
         requires may { MayAbort program.now self place.now }
         requires affords { self.spent + 1 ≤ self.fuel }
-        ensures going { IfOk result (λ going. MatchOption going (CannotThrow program.now (around self)) (IsGoing program.now)) }
-        ensures fuel { IfOk result (λ going. IfSome going (λ going. going.course.fuel ≡ self.fuel)) }
-        ensures picks { IfOk result (λ going. IfSome going (λ going. PicksAttempt self (self.picks ++ a_step place.now.path (location 0) ∷ []) going.course)) }
+        ensures going { IfOk result
+            (λ going. MatchOption going (CannotThrow program.now (around self))
+            (IsGoing program.now)) }
+        ensures fuel { IfOk result
+            (λ going. IfSome going (λ going. going.course.fuel ≡ self.fuel)) }
+        ensures picks { IfOk result
+            (λ going. IfSome going
+            (λ going. PicksAttempt self (self.picks ++ a_step place.now.path (location 0) ∷ [])
+            going.course)) }
     {
         let course = self.stop(alloc, place)?;
         course.aborted(alloc, program)
@@ -164,9 +170,13 @@ impl Execution {
     fn aborted(self, alloc: Global, program: &Program) -> Result<Option<Going>, Memory>
         requires inside { self.outer ≢ [] }
         requires come { HasCome program.now self aborts }
-        ensures going { IfOk result (λ going. MatchOption going (CannotThrow program.now (around self)) (IsGoing program.now)) }
-        ensures fuel { IfOk result (λ going. IfSome going (λ going. going.course.fuel ≡ self.fuel)) }
-        ensures picks { IfOk result (λ going. IfSome going (λ going. PicksAttempt self self.picks going.course)) }
+        ensures going { IfOk result
+            (λ going. MatchOption going (CannotThrow program.now (around self))
+            (IsGoing program.now)) }
+        ensures fuel { IfOk result
+            (λ going. IfSome going (λ going. going.course.fuel ≡ self.fuel)) }
+        ensures picks { IfOk result
+            (λ going. IfSome going (λ going. PicksAttempt self self.picks going.course)) }
     {
         let mut course = self;
         let run = course.get_mut();
@@ -252,7 +262,8 @@ fn with_attempt(
     within: List<Pick>,
 ) -> Result<(Place, List<Pick>), Memory>
     ensures place { IfOk result (λ both. both.0 ≡ waiting.place) }
-    ensures picks { IfOk result (λ both. both.1 ≡ waiting.picks ++ an_attempt waiting.place.path within ∷ []) }
+    ensures picks { IfOk result (λ both. both.1
+        ≡ waiting.picks ++ an_attempt waiting.place.path within ∷ []) }
 {
     let Waiting {
         place,

@@ -126,7 +126,8 @@ impl Execution {
         course
     }
 
-    /// What the root's run printed and cost, without the attempts that are open; it takes no memory.
+    /// What the root's run printed and cost, without the attempts that are open; it takes no
+    /// memory.
     pub fn account(self) -> Account
         ensures output { result.output ≡ (levels_of self.layers).output }
         ensures cost { result.cost ≡ (levels_of self.layers).cost }

@@ -78,7 +78,8 @@ impl Execution {
 
     // The pick that is next passes the fuel: within attempts it is the last one of each.
     fn out_of_fuel(self, program: &Program, next: Pick) -> Result<Ran, Memory>
-        requires { PassesLast program.now self.fuel (levels_of self.layers) self.picks (around self) self.clock next }
+        requires { PassesLast program.now self.fuel (levels_of self.layers) self.picks (around self)
+            self.clock next }
         ensures { IfOk result (IsRun program.now self.fuel) }
     {
         let _program = program;
@@ -96,7 +97,8 @@ impl Execution {
 // The attempt of a machine that waited, with the pick that is next at its end, and the picks
 // before it.
 fn with_last(waiting: Waiting, within: List<Pick>, next: Pick) -> Result<(Pick, List<Pick>), Memory>
-    ensures pick { IfOk result (λ both. both.0 ≡ an_attempt waiting.place.path (within ++ next ∷ [])) }
+    ensures pick { IfOk result (λ both. both.0
+        ≡ an_attempt waiting.place.path (within ++ next ∷ [])) }
     ensures picks { IfOk result (λ both. both.1 ≡ waiting.picks) }
 {
     let Waiting {

@@ -123,7 +123,8 @@ impl Execution {
         values: &List<Value>,
         cost: u64,
     ) -> Result<Execution, Memory>
-        requires may { MayStep program.now self place.now self.fresh next.now (making self.fresh values.now cost) }
+        requires may { MayStep program.now self place.now self.fresh next.now
+            (making self.fresh values.now cost) }
         requires affords { self.spent + cost ≤ self.fuel }
         ensures stands { IfOk result (λ course. StandsAt program.now course place.now next.now) }
         ensures fuel { IfOk result (λ course. course.fuel ≡ self.fuel) }
@@ -149,7 +150,8 @@ impl Execution {
         first: Loc,
         cost: u64,
     ) -> Result<Execution, Memory>
-        requires may { MayStep program.now self place.now first.0 next.now (making first.0 values.now cost) }
+        requires may { MayStep program.now self place.now first.0 next.now
+            (making first.0 values.now cost) }
         requires free { AreFree first.0 (length values.now) (seen (levels_of self.layers)) }
         requires affords { self.spent + cost ≤ self.fuel }
         ensures stands { IfOk result (λ course. StandsAt program.now course place.now next.now) }

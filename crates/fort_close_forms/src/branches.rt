@@ -48,7 +48,9 @@ fn block_types(alloc: Global, block: &TypedForm, values: &[TypedForm]) -> Result
 
 /// The blocks of a `do`: one is that block, several run in parallel.
 pub fn done(alloc: Global, blocks: &[Form], frame: &mut Frame, found: Option<Fault>) -> Outcome
-    ensures { (k : Facts) → result ≡ unbroken frame.old found (done_answer (map (judged k) blocks.now) frame.old found) }
+    ensures { (k : Facts)
+        → result ≡ unbroken frame.old found
+        (done_answer (map (judged k) blocks.now) frame.old found) }
 {
     if frame.broken {
         return untyped(found);
@@ -71,7 +73,11 @@ fn if_else(
     frame: &mut Frame,
     found: Option<Fault>,
 ) -> Result<Outcome, Memory>
-    ensures { IfOk result (λ o. o ≡ by_one frame.old.last found (λ u. by_widest place (widest (facts known.now) (types_in frame.old.second ++ type_in u ∷ [])) found (λ ty. a_typed.If ty frame.old.first frame.old.second (Some u)))) }
+    ensures { IfOk result (λ o. o
+        ≡ by_one frame.old.last found
+        (λ u. by_widest place
+        (widest (facts known.now) (types_in frame.old.second ++ type_in u ∷ [])) found
+        (λ ty. a_typed.If ty frame.old.first frame.old.second (Some u)))) }
 {
     let types = branch_types(alloc, frame.second.as_slice(), &frame.last)?;
     let Some(last) = take_last(alloc, frame)? else {
@@ -95,7 +101,10 @@ pub fn if_form(
     frame: &mut Frame,
     found: Option<Fault>,
 ) -> Result<Outcome, Memory>
-    ensures { IfOk result (λ o. o ≡ unbroken frame.old found (if_answer (facts known.now) place (option_map (judged (facts known.now)) other.now) frame.old found)) }
+    ensures { IfOk result (λ o. o
+        ≡ unbroken frame.old found
+        (if_answer (facts known.now) place (option_map (judged (facts known.now)) other.now)
+        frame.old found)) }
 {
     if frame.broken {
         return Ok(untyped(found));
@@ -116,7 +125,12 @@ pub fn for_loop(
     frame: &mut Frame,
     found: Option<Fault>,
 ) -> Result<Outcome, Memory>
-    ensures { IfOk result (λ o. (k : Facts) → o ≡ unbroken frame.old found (by_one frame.old.last found (λ u. value_outcome (a_typed.For unit_type (map giving_name (map (judged_generator k) generators.now)) frame.old.first u) found))) }
+    ensures { IfOk result (λ o. (k : Facts)
+        → o ≡ unbroken frame.old found
+        (by_one frame.old.last found
+        (λ u. value_outcome
+        (a_typed.For unit_type (map giving_name (map (judged_generator k) generators.now))
+        frame.old.first u) found))) }
 {
     if frame.broken {
         return Ok(untyped(found));
@@ -138,7 +152,8 @@ pub fn case_form(
     frame: &mut Frame,
     found: Option<Fault>,
 ) -> Result<Outcome, Memory>
-    ensures { IfOk result (λ o. o ≡ unbroken frame.old found (case_answer (facts known.now) place frame.old found)) }
+    ensures { IfOk result (λ o. o
+        ≡ unbroken frame.old found (case_answer (facts known.now) place frame.old found)) }
 {
     if frame.broken {
         return Ok(untyped(found));
@@ -171,7 +186,11 @@ pub fn typecase_form(
     frame: &mut Frame,
     found: Option<Fault>,
 ) -> Result<Outcome, Memory>
-    ensures { IfOk result (λ o. o ≡ unbroken frame.old found (typecase_answer (facts known.now) place name (map clause_type (map (judged_clause (facts known.now)) clauses.now)) frame.old found)) }
+    ensures { IfOk result (λ o. o
+        ≡ unbroken frame.old found
+        (typecase_answer (facts known.now) place name
+        (map clause_type (map (judged_clause (facts known.now)) clauses.now)) frame.old
+        found)) }
 {
     if frame.broken {
         return Ok(untyped(found));
@@ -214,7 +233,11 @@ pub fn try_form(
     frame: &mut Frame,
     found: Option<Fault>,
 ) -> Result<Outcome, Memory>
-    ensures { IfOk result (λ o. o ≡ unbroken frame.old found (try_answer (facts known.now) place name.now (map clause_type (map (judged_clause (facts known.now)) clauses.now)) frame.old found)) }
+    ensures { IfOk result (λ o. o
+        ≡ unbroken frame.old found
+        (try_answer (facts known.now) place name.now
+        (map clause_type (map (judged_clause (facts known.now)) clauses.now)) frame.old
+        found)) }
 {
     if frame.broken {
         return Ok(untyped(found));

@@ -30,7 +30,8 @@ pub fn close(
     frame: Frame,
     found: Option<Fault>,
 ) -> Result<Outcome, Memory>
-    ensures { IfOk result (λ o. o ≡ close_at (facts known.now) (level (facts known.now) form.now) frame scope.now found) }
+    ensures { IfOk result (λ o. o
+        ≡ close_at (facts known.now) (level (facts known.now) form.now) frame scope.now found) }
 {
     let mut frame = frame;
     closed(alloc, known, scope, form, &mut frame, found)
@@ -46,7 +47,9 @@ fn closed(
     frame: &mut Frame,
     found: Option<Fault>,
 ) -> Result<Outcome, Memory>
-    ensures { IfOk result (λ o. o ≡ close_at (facts known.now) (level (facts known.now) form.now) frame.old scope.now found) }
+    ensures { IfOk result (λ o. o
+        ≡ close_at (facts known.now) (level (facts known.now) form.now) frame.old scope.now
+        found) }
 {
     match form {
         Form::Number(_, digits) => Ok(number(*digits, found)),

@@ -49,7 +49,10 @@ pub fn same(frame: &mut Frame, found: Option<Fault>) -> Outcome
 
 /// A tuple.
 pub fn tuple(alloc: Global, frame: &mut Frame, found: Option<Fault>) -> Result<Outcome, Memory>
-    ensures { IfOk result (λ o. o ≡ unbroken frame.old found (value_outcome (a_typed.Tuple (a_type.Tuple (types_in frame.old.first)) frame.old.first) found)) }
+    ensures { IfOk result (λ o. o
+        ≡ unbroken frame.old found
+        (value_outcome (a_typed.Tuple (a_type.Tuple (types_in frame.old.first)) frame.old.first)
+        found)) }
 {
     if frame.broken {
         return Ok(untyped(found));
@@ -68,7 +71,12 @@ pub fn operator(
     frame: &mut Frame,
     found: Option<Fault>,
 ) -> Result<Outcome, Memory>
-    ensures { IfOk result (λ o. o ≡ unbroken frame.old found (outcome_of (called_operation (facts known.now) (set_of_operator (facts known.now) op (length frame.old.first)) frame.old.first place) found)) }
+    ensures { IfOk result (λ o. o
+        ≡ unbroken frame.old found
+        (outcome_of
+        (called_operation (facts known.now)
+        (set_of_operator (facts known.now) op (length frame.old.first)) frame.old.first place)
+        found)) }
 {
     if frame.broken {
         return Ok(untyped(found));
@@ -86,7 +94,11 @@ pub fn chain(
     frame: &mut Frame,
     found: Option<Fault>,
 ) -> Result<Outcome, Memory>
-    ensures { IfOk result (λ o. o ≡ unbroken frame.old found (value_outcome (a_typed.Chain boolean (set_of_operator (facts known.now) an_op.And 2) frame.old.calls frame.old.first) found)) }
+    ensures { IfOk result (λ o. o
+        ≡ unbroken frame.old found
+        (value_outcome
+        (a_typed.Chain boolean (set_of_operator (facts known.now) an_op.And 2) frame.old.calls
+        frame.old.first) found)) }
 {
     if frame.broken {
         return Ok(untyped(found));
@@ -160,7 +172,8 @@ pub fn method(
     frame: &mut Frame,
     found: Option<Fault>,
 ) -> Outcome
-    ensures { result ≡ unbroken frame.old found (means (a_meaning.Method at name frame.old.first) found) }
+    ensures { result
+        ≡ unbroken frame.old found (means (a_meaning.Method at name frame.old.first) found) }
 {
     if frame.broken {
         return untyped(found);
@@ -178,7 +191,9 @@ pub fn fill(
     frame: &mut Frame,
     found: Option<Fault>,
 ) -> Result<Outcome, Memory>
-    ensures { IfOk result (λ o. o ≡ by_two frame.old.head frame.old.last found (λ t u. value_outcome (a_typed.Fill (a_type.Array ty.now) ty.now t u) found)) }
+    ensures { IfOk result (λ o. o
+        ≡ by_two frame.old.head frame.old.last found
+        (λ t u. value_outcome (a_typed.Fill (a_type.Array ty.now) ty.now t u) found)) }
 {
     let Some(size) = take_head(alloc, frame)? else {
         return Ok(untyped(found));
@@ -204,7 +219,9 @@ fn last_type(alloc: Global, items: &[TypedForm]) -> Result<Ty, Memory>
 
 /// A block, which has the type of its last item.
 pub fn block(alloc: Global, frame: &mut Frame, found: Option<Fault>) -> Result<Outcome, Memory>
-    ensures { IfOk result (λ o. o ≡ unbroken frame.old found (value_outcome (a_typed.Block (type_of_last frame.old.first) frame.old.first) found)) }
+    ensures { IfOk result (λ o. o
+        ≡ unbroken frame.old found
+        (value_outcome (a_typed.Block (type_of_last frame.old.first) frame.old.first) found)) }
 {
     if frame.broken {
         return Ok(untyped(found));
@@ -216,7 +233,9 @@ pub fn block(alloc: Global, frame: &mut Frame, found: Option<Fault>) -> Result<O
 
 /// A loop over a condition.
 pub fn while_loop(alloc: Global, frame: &mut Frame, found: Option<Fault>) -> Result<Outcome, Memory>
-    ensures { IfOk result (λ o. o ≡ by_two frame.old.head frame.old.last found (λ t u. value_outcome (a_typed.While unit_type t u) found)) }
+    ensures { IfOk result (λ o. o
+        ≡ by_two frame.old.head frame.old.last found
+        (λ t u. value_outcome (a_typed.While unit_type t u) found)) }
 {
     let Some(condition) = take_head(alloc, frame)? else {
         return Ok(untyped(found));
@@ -229,7 +248,9 @@ pub fn while_loop(alloc: Global, frame: &mut Frame, found: Option<Fault>) -> Res
 
 /// `atomic e`, which has the type of e.
 pub fn atomic(alloc: Global, frame: &mut Frame, found: Option<Fault>) -> Result<Outcome, Memory>
-    ensures { IfOk result (λ o. o ≡ by_one frame.old.head found (λ t. value_outcome (a_typed.Atomic (type_in t) t) found)) }
+    ensures { IfOk result (λ o. o
+        ≡ by_one frame.old.head found
+        (λ t. value_outcome (a_typed.Atomic (type_in t) t) found)) }
 {
     let Some(body) = take_head(alloc, frame)? else {
         return Ok(untyped(found));
@@ -240,7 +261,9 @@ pub fn atomic(alloc: Global, frame: &mut Frame, found: Option<Fault>) -> Result<
 
 /// `tryatomic e`, which has the type of e.
 pub fn tryatomic(alloc: Global, frame: &mut Frame, found: Option<Fault>) -> Result<Outcome, Memory>
-    ensures { IfOk result (λ o. o ≡ by_one frame.old.head found (λ t. value_outcome (a_typed.Tryatomic (type_in t) t) found)) }
+    ensures { IfOk result (λ o. o
+        ≡ by_one frame.old.head found
+        (λ t. value_outcome (a_typed.Tryatomic (type_in t) t) found)) }
 {
     let Some(body) = take_head(alloc, frame)? else {
         return Ok(untyped(found));
@@ -251,7 +274,9 @@ pub fn tryatomic(alloc: Global, frame: &mut Frame, found: Option<Fault>) -> Resu
 
 /// `throw e`, which is `Nothing`.
 pub fn throw(alloc: Global, frame: &mut Frame, found: Option<Fault>) -> Result<Outcome, Memory>
-    ensures { IfOk result (λ o. o ≡ by_one frame.old.head found (λ t. value_outcome (a_typed.Throw a_type.Nothing t) found)) }
+    ensures { IfOk result (λ o. o
+        ≡ by_one frame.old.head found
+        (λ t. value_outcome (a_typed.Throw a_type.Nothing t) found)) }
 {
     let Some(exception) = take_head(alloc, frame)? else {
         return Ok(untyped(found));
@@ -275,7 +300,12 @@ pub fn function(
     frame: &mut Frame,
     found: Option<Fault>,
 ) -> Result<Outcome, Memory>
-    ensures { IfOk result (λ o. o ≡ unbroken frame.old found (by_one frame.old.head found (λ t. value_outcome (a_typed.Fn (a_type.Arrow (tuple_of (map parameter_type takes.now)) (type_in t)) takes.now t) found))) }
+    ensures { IfOk result (λ o. o
+        ≡ unbroken frame.old found
+        (by_one frame.old.head found
+        (λ t. value_outcome
+        (a_typed.Fn (a_type.Arrow (tuple_of (map parameter_type takes.now)) (type_in t))
+        takes.now t) found))) }
 {
     if frame.broken {
         return Ok(untyped(found));

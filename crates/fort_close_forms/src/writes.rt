@@ -58,7 +58,11 @@ pub fn reduce(
     frame: &mut Frame,
     found: Option<Fault>,
 ) -> Result<Outcome, Memory>
-    ensures { IfOk result (λ o. o ≡ unbroken frame.old found (by_one frame.old.last found (λ u. reduced (facts known.now) reduction (judged_generator (facts known.now) generator.now) frame.old.first u found))) }
+    ensures { IfOk result (λ o. o
+        ≡ unbroken frame.old found
+        (by_one frame.old.last found
+        (λ u. reduced (facts known.now) reduction
+        (judged_generator (facts known.now) generator.now) frame.old.first u found))) }
 {
     if frame.broken {
         return Ok(untyped(found));
@@ -117,7 +121,10 @@ fn updated(
     added: Boxed<TypedForm>,
     found: Option<Fault>,
 ) -> Result<Outcome, Memory>
-    ensures { IfOk result (λ o. o ≡ sum_by (facts known.now) op place target added (called (facts known.now) (set_of_operator (facts known.now) op 2) (type_in target ∷ type_in added ∷ [])) found) }
+    ensures { IfOk result (λ o. o
+        ≡ sum_by (facts known.now) op place target added
+        (called (facts known.now) (set_of_operator (facts known.now) op 2)
+        (type_in target ∷ type_in added ∷ [])) found) }
 {
     let set = operator_set(known, op, 2)?;
     let types = both_types(alloc, target.get(), added.get())?;
@@ -161,7 +168,10 @@ pub fn assign(
     frame: &mut Frame,
     found: Option<Fault>,
 ) -> Result<Outcome, Memory>
-    ensures { IfOk result (λ o. o ≡ unbroken frame.old found (assign_answer (facts known.now) (judged (facts known.now) target.now).place sign frame.old found)) }
+    ensures { IfOk result (λ o. o
+        ≡ unbroken frame.old found
+        (assign_answer (facts known.now) (judged (facts known.now) target.now).place sign
+        frame.old found)) }
 {
     if frame.broken {
         return Ok(untyped(found));

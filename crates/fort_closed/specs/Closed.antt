@@ -1,4 +1,5 @@
--- Chapter "Substitution": what the code asks of lists of terms, clauses and closures where the chapter asks it of a term. These are means to meet the chapter's words.
+-- Chapter "Substitution": what the code asks of lists of terms, clauses and closures where the
+-- chapter asks it of a term. These are means to meet the chapter's words.
 use Rattle.std.specs.Prelude.{ℕ, Bool, true, List, map, Option, Some, None}
 use Rattle.std.specs.List.{list_any}
 use Rattle.fort_base.specs.declared.ty.Ty.{Ty}
@@ -20,7 +21,8 @@ occurs_in_all x ts = list_any (λ b. b) (map (occurs x) ts)
 
 -- A variable stands in one of some clauses.
 abbrev pub occurs_in_clauses : ℕ → List (Term × Ty) → Bool
-occurs_in_clauses x cs = list_any (λ b. b) (in_clauses (map (λ (c : Term × Ty). (occurs x c.0, c.1)) cs))
+occurs_in_clauses x cs =
+    list_any (λ b. b) (in_clauses (map (λ (c : Term × Ty). (occurs x c.0, c.1)) cs))
 
 -- All variables of a closure are bound in it, held, or among those of a list.
 abbrev pub closure_scoped : Closure → List ℕ → Bool

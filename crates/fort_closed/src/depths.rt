@@ -8,14 +8,16 @@ use fort_core::{Closure, Value};
 
 const DEEPEST: u32 = 100;
 
-/// Whether the tuple of some values isn't too deep to stand: at most 100 deep. It takes no memory. The chapter "Values".
+/// Whether the tuple of some values isn't too deep to stand: at most 100 deep. It takes no memory.
+/// The chapter "Values".
 pub fn may_stand(parts: &List<Value>) -> bool
     ensures { result ≡ nat_le (depth (Value.Tuple parts.now)) deepest }
 {
     are_shallow(parts, DEEPEST)
 }
 
-/// Whether a function isn't too deep to stand: at most 100 deep. It takes no memory. The chapter "Values".
+/// Whether a function isn't too deep to stand: at most 100 deep. It takes no memory. The chapter
+/// "Values".
 #[tactic(auto, using(crate::proofs::Shallow::depth_closure))]
 pub fn is_shallow_function(closure: &Closure) -> bool
     ensures { result ≡ nat_le (closure_depth closure.now) deepest }

@@ -1,4 +1,5 @@
-//! Which variables stand in a term, whether a function holds all that it needs, and how deep a value is.
+//! Which variables stand in a term, whether a function holds all that it needs, and how deep a
+//! value is.
 #![tactic(auto)]
 
 mod depths;

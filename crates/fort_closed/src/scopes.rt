@@ -8,8 +8,9 @@ use fort_base::{List, Memory, Shared, Ty};
 use fort_core::{Closure, Slot, Term};
 use std::alloc::Global;
 
-/// Whether a closure holds all that it needs: no variable stands in its body but its parameters, what it holds, and those that are
-/// bound in the body. It goes down the body by calls. The chapter "Substitution".
+/// Whether a closure holds all that it needs: no variable stands in its body but its parameters,
+/// what it holds, and those that are bound in the body. It goes down the body by calls. The chapter
+/// "Substitution".
 ///
 /// # Errors
 ///

@@ -6,8 +6,8 @@ ghost use Rattle.fort_closed.specs.Closed.{occurs_in_all, occurs_in_clauses};
 use fort_base::{List, Shared, Ty};
 use fort_core::Term;
 
-/// Whether an immutable variable stands in a term, bodies of functions included. It takes no memory, and goes down the term by
-/// calls. The chapter "Substitution".
+/// Whether an immutable variable stands in a term, bodies of functions included. It takes no
+/// memory, and goes down the term by calls. The chapter "Substitution".
 #[cycle(occurs)]
 #[tactic(auto, using(crate::proofs::Bools::ors))]
 pub fn occurs(term: &Term, variable: u32) -> bool

@@ -15,7 +15,11 @@ id_of Fuel = codes "fuel"
 
 -- an option, which takes a number
 abbrev pub option_rule : Choice → Rule
-option_rule choice = record (new_rule (id_of choice)) { long = Some (id_of choice); parser = Some (parser.Unsigned 1 (most_of choice)) }
+option_rule choice =
+    record (new_rule (id_of choice)) {
+      long = Some (id_of choice);
+      parser = Some (parser.Unsigned 1 (most_of choice));
+    }
 
 -- a word that has to stand there
 abbrev pub word_rule : Text → Rule
@@ -23,7 +27,8 @@ word_rule id = record (new_rule id) { required = true }
 
 -- ---- the commands
 
--- what stands behind a command's own word: a file, or a number in its place; a file and options; or a file and a record
+-- what stands behind a command's own word: a file, or a number in its place; a file and options; or
+-- a file and a record
 pub data Kind : Type 0 where
   OfFile : Kind
   OfRun : Kind
@@ -31,8 +36,11 @@ pub data Kind : Type 0 where
 
 abbrev pub sub_of : Kind → Text → App
 sub_of OfFile name = with_rule (new_app name) (word_rule (codes "file"))
-sub_of OfRun name = with_rule (with_rule (with_rule (new_app name) (option_rule Workers)) (option_rule Fuel)) (word_rule (codes "file"))
-sub_of OfAudit name = with_rule (with_rule (new_app name) (word_rule (codes "file"))) (word_rule (codes "record"))
+sub_of OfRun name =
+    with_rule (with_rule (with_rule (new_app name) (option_rule Workers)) (option_rule Fuel))
+    (word_rule (codes "file"))
+sub_of OfAudit name =
+    with_rule (with_rule (new_app name) (word_rule (codes "file"))) (word_rule (codes "record"))
 
 -- The command of this name is of this kind.
 pub data IsOf : Kind → Text → Type 0 where
@@ -45,20 +53,40 @@ pub data IsOf : Kind → Text → Type 0 where
 
 -- no help word, and no program's name in front
 abbrev pub quiet : App → App
-quiet a = record a { top = record a.top { no_binary_name = true; disable_help_flag = true; disable_help_subcommand = true } }
+quiet a =
+    record a {
+      top =
+          record a.top {
+            no_binary_name = true;
+            disable_help_flag = true;
+            disable_help_subcommand = true;
+          };
+    }
 
 abbrev pub with_sub : App → Kind → Text → App
 with_sub a kind name = with_subcommand a (sub_of kind name).top
 
 abbrev pub line : App
-line = with_sub (with_sub (with_sub (with_sub (with_sub (with_sub (quiet (new_app (codes "fortress"))) OfFile (codes "check")) OfFile (codes "show"))
+line = with_sub
+    (with_sub
+    (with_sub
+    (with_sub
+    (with_sub (with_sub (quiet (new_app (codes "fortress"))) OfFile (codes "check")) OfFile
+    (codes "show"))
     OfRun (codes "run")) OfFile (codes "bench")) OfRun (codes "record")) OfAudit (codes "audit")
 
 -- ---- what matches give
 
 -- the value of an argument that was given once
 abbrev pub row : Text → Text → Row
-row id value = record { id = id; values = value ∷ []; count = None; source = Some source.CommandLine; reading = reading.AsWritten }
+row id value =
+    record {
+      id = id;
+      values = value ∷ [];
+      count = None;
+      source = Some source.CommandLine;
+      reading = reading.AsWritten;
+    }
 
 abbrev pub row_of_id : Text → List Row → Option Row
 row_of_id id rows = find (λ r. bytes_eq r.id id) rows
@@ -66,14 +94,17 @@ row_of_id id rows = find (λ r. bytes_eq r.id id) rows
 -- An option's number was found, if there is one.
 abbrev pub FoundNumber : Choice → List Row → Option ℕ → Type 0
 FoundNumber choice rows None = row_of_id (id_of choice) rows ≡ None
-FoundNumber choice rows (Some n) = (value : Text) × (row_of_id (id_of choice) rows ≡ Some (row (id_of choice) value)) × IsNumber (most_of choice) value n
+FoundNumber choice rows (Some n) = (value : Text)
+    × (row_of_id (id_of choice) rows ≡ Some (row (id_of choice) value))
+    × IsNumber (most_of choice) value n
 
 -- What words give was found.
 pub record Found (rows : List Row) (g : Given) : Type 0 where
   pub workers : FoundNumber Workers rows g.workers
   pub fuel : FoundNumber Fuel rows g.fuel
   pub file : row_of_id (codes "file") rows ≡ option_map (row (codes "file")) (slice_get g.files 0)
-  pub kept : row_of_id (codes "record") rows ≡ option_map (row (codes "record")) (slice_get g.files 1)
+  pub kept : row_of_id (codes "record") rows
+      ≡ option_map (row (codes "record")) (slice_get g.files 1)
 
 -- the files of a kind of command
 abbrev pub files_wanted : Kind → ℕ

@@ -1,5 +1,6 @@
--- The words after the program's name. It restates the chapter "The command line" of docs/LANGUAGE.md.
--- The code takes words off the front and keeps what they give; here the words are parts, one behind another.
+-- The words after the program's name. It restates the chapter "The command line" of
+-- docs/LANGUAGE.md. The code takes words off the front and keeps what they give; here the words are
+-- parts, one behind another.
 use Rattle.std.specs.Prelude.{◌≡◌, ℕ, ◌≤◌, false, List, [], ◌∷◌, ◌++◌, ◌⊎◌, Option, Some, None, unwrap_or, codes, nat_eq}
 use Rattle.std.specs.List.{starts_with}
 use Rattle.std.specs.Str.Parse.{IsNumeral, digits_value, without_leading_plus}
@@ -17,10 +18,14 @@ pub record IsNumber (most : ℕ) (word : List ℕ) (n : ℕ) : Type 0 where
   pub some : 1 ≤ n
   pub within : n ≤ most
 
--- Words begin with an option of this name and number, and go on with the rest: the number is a word of its own, or stands behind `=`.
-pub data BeginsWith (name : List ℕ) (most : ℕ) (words : List (List ℕ)) (n : ℕ) (rest : List (List ℕ)) : Type 0 where
-  InTwo : (number : List ℕ) → IsNumber most number n → words ≡ name ∷ number ∷ rest → BeginsWith name most words n rest
-  InOne : (number : List ℕ) → IsNumber most number n → words ≡ (name ++ codes "=" ++ number) ∷ rest → BeginsWith name most words n rest
+-- Words begin with an option of this name and number, and go on with the rest: the number is a word
+-- of its own, or stands behind `=`.
+pub data BeginsWith (name : List ℕ) (most : ℕ) (words : List (List ℕ)) (n : ℕ)
+    (rest : List (List ℕ)) : Type 0 where
+  InTwo : (number : List ℕ) → IsNumber most number n → words ≡ name ∷ number ∷ rest
+      → BeginsWith name most words n rest
+  InOne : (number : List ℕ) → IsNumber most number n → words ≡ (name ++ codes "=" ++ number) ∷ rest
+      → BeginsWith name most words n rest
 
 -- the options, their names, and the most that each may give
 pub data Choice : Type 0 where
@@ -56,19 +61,26 @@ AddsFiles before files after = after ≡ record before { files = before.files ++
 
 -- The number of an option is given, and none before.
 abbrev pub AddsNumber : Choice → Given → ℕ → Given → Type 0
-AddsNumber Workers before n after = (before.workers ≡ None) × (after ≡ record before { workers = Some n })
+AddsNumber Workers before n after = (before.workers ≡ None)
+    × (after ≡ record before { workers = Some n })
 AddsNumber Fuel before n after = (before.fuel ≡ None) × (after ≡ record before { fuel = Some n })
 
--- Words begin with a part, which adds to what is given before, and go on with the rest. Behind the mark `--` every word is a file.
+-- Words begin with a part, which adds to what is given before, and go on with the rest. Behind the
+-- mark `--` every word is a file.
 pub data Adds (words : List (List ℕ)) (before after : Given) (rest : List (List ℕ)) : Type 0 where
-  AddsMarked : (files : List (List ℕ)) → words ≡ codes "--" ∷ files → rest ≡ [] → AddsFiles before files after → Adds words before after rest
-  AddsNamed : (file : List ℕ) → NamesFile file → words ≡ file ∷ rest → AddsFiles before (file ∷ []) after → Adds words before after rest
-  AddsOption : (choice : Choice) (n : ℕ) → BeginsWith (name_of choice) (most_of choice) words n rest → AddsNumber choice before n after → Adds words before after rest
+  AddsMarked : (files : List (List ℕ)) → words ≡ codes "--" ∷ files → rest ≡ []
+      → AddsFiles before files after → Adds words before after rest
+  AddsNamed : (file : List ℕ) → NamesFile file → words ≡ file ∷ rest
+      → AddsFiles before (file ∷ []) after → Adds words before after rest
+  AddsOption : (choice : Choice) (n : ℕ) → BeginsWith (name_of choice) (most_of choice) words n rest
+      → AddsNumber choice before n after → Adds words before after rest
 
 -- Words give what their parts add, one behind another.
 pub data Gives : (words : List (List ℕ)) (before after : Given) → Type 0 where
-  GivesNoMore : {words : List (List ℕ)} {before after : Given} → words ≡ [] → after ≡ before → Gives words before after
-  GivesPart : {words : List (List ℕ)} {before after : Given} (more : Given) (rest : List (List ℕ)) → Adds words before more rest → Gives rest more after
+  GivesNoMore : {words : List (List ℕ)} {before after : Given} → words ≡ [] → after ≡ before
+      → Gives words before after
+  GivesPart : {words : List (List ℕ)} {before after : Given} (more : Given) (rest : List (List ℕ))
+      → Adds words before more rest → Gives rest more after
       → Gives words before after
 
 -- ---- commands

@@ -115,8 +115,12 @@ fn fault_of(error: &Error) -> CmdFault
 
 /// The command of this name, with what was found behind it.
 fn named(alloc: Global, name: &str, given: &ArgMatches<'_>) -> Result<Command, CmdFault>
-    ensures ok { (kind : Kind) (behind : Seq (Seq ℕ)) → IsOf kind name.now → Reads kind behind (rows_of (found_of given.now)) → IfOk result (IsCommand (name.now ∷ behind)) }
-    ensures cause { (kind : Kind) (behind : Seq (Seq ℕ)) → IsOf kind name.now → Reads kind behind (rows_of (found_of given.now)) → IfErr result (Explains (name.now ∷ behind)) }
+    ensures ok { (kind : Kind) (behind : Seq (Seq ℕ)) → IsOf kind name.now
+        → Reads kind behind (rows_of (found_of given.now))
+        → IfOk result (IsCommand (name.now ∷ behind)) }
+    ensures cause { (kind : Kind) (behind : Seq (Seq ℕ)) → IsOf kind name.now
+        → Reads kind behind (rows_of (found_of given.now))
+        → IfErr result (Explains (name.now ∷ behind)) }
 {
     if name == "run" {
         return run_of(alloc, given);
@@ -138,8 +142,10 @@ fn named(alloc: Global, name: &str, given: &ArgMatches<'_>) -> Result<Command, C
 
 /// The command to run.
 fn run_of(alloc: Global, given: &ArgMatches<'_>) -> Result<Command, CmdFault>
-    ensures ok { (behind : Seq (Seq ℕ)) → Reads OfRun behind (rows_of (found_of given.now)) → IfOk result (IsCommand (codes "run" ∷ behind)) }
-    ensures cause { (behind : Seq (Seq ℕ)) → Reads OfRun behind (rows_of (found_of given.now)) → IfErr result (λ fault. fault ≡ a_fault.Memory) }
+    ensures ok { (behind : Seq (Seq ℕ)) → Reads OfRun behind (rows_of (found_of given.now))
+        → IfOk result (IsCommand (codes "run" ∷ behind)) }
+    ensures cause { (behind : Seq (Seq ℕ)) → Reads OfRun behind (rows_of (found_of given.now))
+        → IfErr result (λ fault. fault ≡ a_fault.Memory) }
 {
     let file = word_of(alloc, given, "file")?;
     Ok(Command::Run(file, workers_of(given), fuel_of(given)))
@@ -147,24 +153,30 @@ fn run_of(alloc: Global, given: &ArgMatches<'_>) -> Result<Command, CmdFault>
 
 /// The command to check.
 fn check_of(alloc: Global, given: &ArgMatches<'_>) -> Result<Command, CmdFault>
-    ensures ok { (behind : Seq (Seq ℕ)) → Reads OfFile behind (rows_of (found_of given.now)) → IfOk result (IsCommand (codes "check" ∷ behind)) }
-    ensures cause { (behind : Seq (Seq ℕ)) → Reads OfFile behind (rows_of (found_of given.now)) → IfErr result (λ fault. fault ≡ a_fault.Memory) }
+    ensures ok { (behind : Seq (Seq ℕ)) → Reads OfFile behind (rows_of (found_of given.now))
+        → IfOk result (IsCommand (codes "check" ∷ behind)) }
+    ensures cause { (behind : Seq (Seq ℕ)) → Reads OfFile behind (rows_of (found_of given.now))
+        → IfErr result (λ fault. fault ≡ a_fault.Memory) }
 {
     Ok(Command::Check(word_of(alloc, given, "file")?))
 }
 
 /// The command to show.
 fn show_of(alloc: Global, given: &ArgMatches<'_>) -> Result<Command, CmdFault>
-    ensures ok { (behind : Seq (Seq ℕ)) → Reads OfFile behind (rows_of (found_of given.now)) → IfOk result (IsCommand (codes "show" ∷ behind)) }
-    ensures cause { (behind : Seq (Seq ℕ)) → Reads OfFile behind (rows_of (found_of given.now)) → IfErr result (λ fault. fault ≡ a_fault.Memory) }
+    ensures ok { (behind : Seq (Seq ℕ)) → Reads OfFile behind (rows_of (found_of given.now))
+        → IfOk result (IsCommand (codes "show" ∷ behind)) }
+    ensures cause { (behind : Seq (Seq ℕ)) → Reads OfFile behind (rows_of (found_of given.now))
+        → IfErr result (λ fault. fault ≡ a_fault.Memory) }
 {
     Ok(Command::Show(word_of(alloc, given, "file")?))
 }
 
 /// The bank. The number of its accounts stands where a file would.
 fn bench_of(given: &ArgMatches<'_>) -> Result<Command, CmdFault>
-    ensures ok { (behind : Seq (Seq ℕ)) → Reads OfFile behind (rows_of (found_of given.now)) → IfOk result (IsCommand (codes "bench" ∷ behind)) }
-    ensures cause { (behind : Seq (Seq ℕ)) → Reads OfFile behind (rows_of (found_of given.now)) → IfErr result (Explains (codes "bench" ∷ behind)) }
+    ensures ok { (behind : Seq (Seq ℕ)) → Reads OfFile behind (rows_of (found_of given.now))
+        → IfOk result (IsCommand (codes "bench" ∷ behind)) }
+    ensures cause { (behind : Seq (Seq ℕ)) → Reads OfFile behind (rows_of (found_of given.now))
+        → IfErr result (Explains (codes "bench" ∷ behind)) }
 {
     match given.get_one::<u32>("file") {
         Some(accounts) if 1 <= accounts && accounts <= MOST_ACCOUNTS => {
@@ -176,8 +188,10 @@ fn bench_of(given: &ArgMatches<'_>) -> Result<Command, CmdFault>
 
 /// The command to record.
 fn record_of(alloc: Global, given: &ArgMatches<'_>) -> Result<Command, CmdFault>
-    ensures ok { (behind : Seq (Seq ℕ)) → Reads OfRun behind (rows_of (found_of given.now)) → IfOk result (IsCommand (codes "record" ∷ behind)) }
-    ensures cause { (behind : Seq (Seq ℕ)) → Reads OfRun behind (rows_of (found_of given.now)) → IfErr result (λ fault. fault ≡ a_fault.Memory) }
+    ensures ok { (behind : Seq (Seq ℕ)) → Reads OfRun behind (rows_of (found_of given.now))
+        → IfOk result (IsCommand (codes "record" ∷ behind)) }
+    ensures cause { (behind : Seq (Seq ℕ)) → Reads OfRun behind (rows_of (found_of given.now))
+        → IfErr result (λ fault. fault ≡ a_fault.Memory) }
 {
     let file = word_of(alloc, given, "file")?;
     Ok(Command::Record(file, workers_of(given), fuel_of(given)))
@@ -185,8 +199,10 @@ fn record_of(alloc: Global, given: &ArgMatches<'_>) -> Result<Command, CmdFault>
 
 /// The command to audit.
 fn audit_of(alloc: Global, given: &ArgMatches<'_>) -> Result<Command, CmdFault>
-    ensures ok { (behind : Seq (Seq ℕ)) → Reads OfAudit behind (rows_of (found_of given.now)) → IfOk result (IsCommand (codes "audit" ∷ behind)) }
-    ensures cause { (behind : Seq (Seq ℕ)) → Reads OfAudit behind (rows_of (found_of given.now)) → IfErr result (λ fault. fault ≡ a_fault.Memory) }
+    ensures ok { (behind : Seq (Seq ℕ)) → Reads OfAudit behind (rows_of (found_of given.now))
+        → IfOk result (IsCommand (codes "audit" ∷ behind)) }
+    ensures cause { (behind : Seq (Seq ℕ)) → Reads OfAudit behind (rows_of (found_of given.now))
+        → IfErr result (λ fault. fault ≡ a_fault.Memory) }
 {
     let file = word_of(alloc, given, "file")?;
     let kept = word_of(alloc, given, "record")?;
@@ -195,8 +211,12 @@ fn audit_of(alloc: Global, given: &ArgMatches<'_>) -> Result<Command, CmdFault>
 
 /// The word that was found for an argument that has to stand there.
 fn word_of(alloc: Global, given: &ArgMatches<'_>, id: &str) -> Result<Bytes, CmdFault>
-    ensures ok { (word : Seq ℕ) → row_of_id id.now (rows_of (found_of given.now)) ≡ Some (row id.now word) → IfOk result (λ bytes. bytes ≡ word) }
-    ensures cause { (word : Seq ℕ) → row_of_id id.now (rows_of (found_of given.now)) ≡ Some (row id.now word) → IfErr result (λ fault. fault ≡ a_fault.Memory) }
+    ensures ok { (word : Seq ℕ)
+        → row_of_id id.now (rows_of (found_of given.now)) ≡ Some (row id.now word)
+        → IfOk result (λ bytes. bytes ≡ word) }
+    ensures cause { (word : Seq ℕ)
+        → row_of_id id.now (rows_of (found_of given.now)) ≡ Some (row id.now word)
+        → IfErr result (λ fault. fault ≡ a_fault.Memory) }
 {
     match given.get_str(id) {
         Some(word) => Ok(List::from_slice(alloc, word.as_bytes())?),
@@ -206,14 +226,16 @@ fn word_of(alloc: Global, given: &ArgMatches<'_>, id: &str) -> Result<Bytes, Cmd
 
 /// The workers that were found, or the default.
 fn workers_of(given: &ArgMatches<'_>) -> u32
-    ensures { (n : Option ℕ) → FoundNumber Workers (rows_of (found_of given.now)) n → result ≡ unwrap_or n default_workers }
+    ensures { (n : Option ℕ) → FoundNumber Workers (rows_of (found_of given.now)) n
+        → result ≡ unwrap_or n default_workers }
 {
     given.get_one::<u32>("workers").unwrap_or(DEFAULT_WORKERS)
 }
 
 /// The fuel that was found, or the default.
 fn fuel_of(given: &ArgMatches<'_>) -> u64
-    ensures { (n : Option ℕ) → FoundNumber Fuel (rows_of (found_of given.now)) n → result ≡ unwrap_or n default_fuel }
+    ensures { (n : Option ℕ) → FoundNumber Fuel (rows_of (found_of given.now)) n
+        → result ≡ unwrap_or n default_fuel }
 {
     given.get_one::<u64>("fuel").unwrap_or(DEFAULT_FUEL)
 }

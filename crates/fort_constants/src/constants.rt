@@ -36,7 +36,8 @@ fn negative(n: u64) -> Result<Value, Memory>
     }
 }
 
-/// The text of a number among a component's texts, or no characters where it has none of that number.
+/// The text of a number among a component's texts, or no characters where it has none of that
+/// number.
 pub fn text(alloc: Global, texts: &[Bytes], n: u32) -> Result<Value, Memory>
     ensures { IfOk result (λ value. value ≡ text texts.now n) }
 {

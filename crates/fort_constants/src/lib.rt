@@ -1,4 +1,5 @@
-//! The values of the translation: constants, single objects, neutral values; and calls with widened arguments.
+//! The values of the translation: constants, single objects, neutral values; and calls with widened
+//! arguments.
 #![tactic(auto)]
 
 mod calls;

@@ -1,4 +1,5 @@
-//! Single objects, and the throws of built-in exceptions. The chapter "Values" of docs/TRANSLATION.md.
+//! Single objects, and the throws of built-in exceptions. The chapter "Values" of
+//! docs/TRANSLATION.md.
 ghost use Rattle.std.specs.Prelude.{◌≡◌, IfOk};
 ghost use Rattle.fort_translation.specs.Read.{given_of};
 ghost use Rattle.fort_translation.specs.Values.{base_of_kind, no_item, no_match, single};

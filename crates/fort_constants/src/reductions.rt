@@ -33,7 +33,8 @@ fn number_as(ty: &Ty, n: u16) -> Term
     }
 }
 
-/// What a reduction of a type gives over no item: the neutral value of its operator, or a throw where there is none.
+/// What a reduction of a type gives over no item: the neutral value of its operator, or a throw
+/// where there is none.
 pub fn neutral(alloc: Global, known: &Known, reduction: Reduction, ty: &Ty) -> Result<Term, Memory>
     ensures { IfOk result (λ term. term ≡ neutral (given_of known.now) reduction ty.now) }
 {

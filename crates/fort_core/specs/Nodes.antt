@@ -1,4 +1,5 @@
--- Chapter "Limits": attempts nest as deep as the fuel allows, so picks are counted through all their levels. The code lets them go in a loop that keeps what waits inside what goes first.
+-- Chapter "Limits": attempts nest as deep as the fuel allows, so picks are counted through all
+-- their levels. The code lets them go in a loop that keeps what waits inside what goes first.
 use Rattle.std.specs.Prelude.{ℕ, ◌+◌, ◌*◌, List, [], ◌∷◌, map}
 use Rattle.fort_core.specs.declared.pick.Pick.{Pick, fold-Pick}
 use Rattle.fort_core.specs.declared.pick.Pick.TheOpen.{Pick-F}

@@ -1,4 +1,5 @@
--- Chapter "Limits": attempts nest as deep as the fuel allows, so a pick is copied with a stack of attempts that are copied in part. A copy is an equal pick; only the code has a stack.
+-- Chapter "Limits": attempts nest as deep as the fuel allows, so a pick is copied with a stack of
+-- attempts that are copied in part. A copy is an equal pick; only the code has a stack.
 use Rattle.std.specs.Prelude.{◌≡◌, ℕ, ◌+◌, ◌*◌, ◌<◌, ◌≤◌, List, [], ◌∷◌, ◌++◌, length, take, drop, Some, slice_get}
 use Rattle.fort_core.specs.declared.pick.Pick.{Pick, Attempt}
 use Rattle.fort_core.specs.declared.pick_copy.Half.{Half}
@@ -11,22 +12,28 @@ use Rattle.fort_core.specs.Nodes.{nodes, all_nodes}
 -- what a pick's copy begins with
 abbrev pub Begins : Pick → Made → Type 0
 Begins pick (Whole p) = (p ≡ pick) × (nodes pick ≡ 1)
-Begins pick (Part h) = (pick ≡ Attempt h.path h.source.now) × (h.made ≡ []) × (0 < length h.source.now)
+Begins pick (Part h) = (pick ≡ Attempt h.path h.source.now) × (h.made ≡ [])
+    × (0 < length h.source.now)
 
 -- what a copy of an inner pick makes of a half
 abbrev pub Settles : Half → Pick → Made → Type 0
-Settles half pick (Whole p) = (p ≡ Attempt half.path (half.made ++ pick ∷ [])) × (length half.source.now ≤ length half.made + 1)
+Settles half pick (Whole p) = (p ≡ Attempt half.path (half.made ++ pick ∷ []))
+    × (length half.source.now ≤ length half.made + 1)
 Settles half pick (Part h) =
-    (h.path ≡ half.path) × (h.source.now ≡ half.source.now) × (h.made ≡ half.made ++ pick ∷ []) × (length h.made < length h.source.now)
+    (h.path ≡ half.path) × (h.source.now ≡ half.source.now) × (h.made ≡ half.made ++ pick ∷ [])
+    × (length h.made < length h.source.now)
 
 -- the pick that is copied next is at its place
 abbrev pub Last : Half → Pick → Type 0
-Last h at = (h.made ≡ take (length h.made) h.source.now) × (slice_get h.source.now (length h.made) ≡ Some at)
+Last h at = (h.made ≡ take (length h.made) h.source.now)
+    × (slice_get h.source.now (length h.made) ≡ Some at)
 
--- the attempts stand in one another, the first in the whole, and the pick that is copied next in the last
+-- the attempts stand in one another, the first in the whole, and the pick that is copied next in
+-- the last
 abbrev pub Holds : Pick → List Half → Pick → Type 0
 Holds whole [] at = whole ≡ at
-Holds whole (h ∷ hs) at = (whole ≡ Attempt h.path h.source.now) × ((inner : Pick) × Last h inner × Holds inner hs at)
+Holds whole (h ∷ hs) at = (whole ≡ Attempt h.path h.source.now)
+    × ((inner : Pick) × Last h inner × Holds inner hs at)
 
 -- how many picks come after the one that is copied next
 abbrev pub after : Half → ℕ

@@ -1,4 +1,6 @@
--- Chapter "Limits": terms nest as deep as the fuel allows, so the code lets a term go by a loop, in which what waits stands in what goes first. What is in a term is counted through all its levels, and so the loop ends.
+-- Chapter "Limits": terms nest as deep as the fuel allows, so the code lets a term go by a loop, in
+-- which what waits stands in what goes first. What is in a term is counted through all its levels,
+-- and so the loop ends.
 use Rattle.std.specs.Prelude.{ℕ, ◌+◌, ◌*◌, ◌<◌, ◌≤◌, List, [], ◌∷◌, Option, None, Some, MatchOption}
 use Rattle.fort_base.specs.declared.ids.Loc.{Loc}
 use Rattle.fort_base.specs.declared.ty.Ty.{Ty}
@@ -86,6 +88,9 @@ spent_weight (spent.Held v) = value_weight v + 1
 abbrev pub term_work : Term → Option Term → ℕ
 term_work t waiting = let n = weight t + waits waiting in n * n + weight t
 
--- of n parts in all, and h of them in hand, no more go by a call than are in hand, and what is left has less work
+-- of n parts in all, and h of them in hand, no more go by a call than are in hand, and what is left
+-- has less work
 abbrev pub Sheds : ℕ → ℕ → Shed → Type 0
-Sheds n h shed = (spent_weight shed.spent ≤ h) × MatchOption shed.left (Unit {0}) (λ left. (weight left.hand + waits left.waiting ≤ n) × (term_work left.hand left.waiting < n * n + h))
+Sheds n h shed = (spent_weight shed.spent ≤ h)
+    × MatchOption shed.left (Unit {0}) (λ left. (weight left.hand + waits left.waiting ≤ n)
+    × (term_work left.hand left.waiting < n * n + h))

@@ -50,7 +50,8 @@ pub fn copy_marks(alloc: Global, marks: &List<(Loc, Value)>) -> Result<List<(Loc
 }
 
 impl Value {
-    /// The same value with one owner more; it takes no memory, and fails where there are 2^63 owners.
+    /// The same value with one owner more; it takes no memory, and fails where there are 2^63
+    /// owners.
     pub fn share(&self) -> Result<Value, Memory>
         ensures { IfOk result (λ value. value ≡ self.now) }
     {

@@ -5,7 +5,8 @@ use fort_base::{List, Shared};
 
 fn crosses<T: Send + Sync>(_value: &T) {}
 
-/// Does nothing; that it is accepted says that each of these may be moved to another thread, and lent to several.
+/// Does nothing; that it is accepted says that each of these may be moved to another thread, and
+/// lent to several.
 pub fn cross_threads(
     term: &Term,
     parts: &List<Shared<Term>>,

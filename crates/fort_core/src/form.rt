@@ -15,8 +15,8 @@ pub enum Order {
 pub enum Span {
     /// All of them, as it is written.
     Whole,
-    /// The first of them, counted from 0, and how many there are: what is left to one part of a generator
-    /// that runs.
+    /// The first of them, counted from 0, and how many there are: what is left to one part of a
+    /// generator that runs.
     Part(u64, u64),
 }
 

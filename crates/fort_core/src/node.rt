@@ -1,5 +1,5 @@
-//! One level of a pick, to take it apart. It lets itself go in its own way, so that no other crate can match on
-//! one by value.
+//! One level of a pick, to take it apart. It lets itself go in its own way, so that no other crate
+//! can match on one by value.
 use crate::path::Path;
 use crate::pick::Pick;
 use fort_base::{List, Loc};

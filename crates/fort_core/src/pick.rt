@@ -10,7 +10,8 @@ use fort_base::{List, Loc};
 
 /// Which thread goes on, and how.
 pub enum Pick {
-    /// One step of a thread. The location is the first fresh one that the step makes; where it makes none it is 0.
+    /// One step of a thread. The location is the first fresh one that the step makes; where it
+    /// makes none it is 0.
     Step(Path, Loc),
     /// One attempt of the atomic form at which a thread stands, with the picks of its inner run.
     Attempt(Path, List<Pick>),
@@ -52,7 +53,8 @@ impl Pick {
     // Lets go of one pick, or puts the picks that wait in the place of the last one inside it,
     // which goes first then; the others inside it go before those that wait.
     fn shed(self, left: List<Pick>) -> (Option<Pick>, List<Pick>)
-        ensures { MatchOption result.0 (result.1 ≡ []) (λ next. work next result.1 < work self left) }
+        ensures { MatchOption result.0 (result.1 ≡ []) (λ next. work next result.1
+            < work self left) }
     {
         let mut left = left;
         match self {

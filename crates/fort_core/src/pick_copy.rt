@@ -79,7 +79,8 @@ fn begin<'a>(alloc: Global, pick: &'a Pick) -> Result<Made<'a>, Memory>
 }
 
 impl Pick {
-    /// An equal pick in memory of its own, or want of memory; it takes no stack, however deep the pick nests.
+    /// An equal pick in memory of its own, or want of memory; it takes no stack, however deep the
+    /// pick nests.
     pub fn copy(&self, alloc: Global) -> Result<Pick, Memory>
         ensures { IfOk result (λ copy. copy ≡ self.now) }
     {

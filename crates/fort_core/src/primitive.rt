@@ -1,6 +1,7 @@
 //! The built-in declarations.
 
-/// A built-in declaration. The first names end in `Small` for the declaration on ZZ32, in `Large` for the one on ZZ64.
+/// A built-in declaration. The first names end in `Small` for the declaration on ZZ32, in `Large`
+/// for the one on ZZ64.
 #[derive(Clone, Copy, Debug, PartialEq, Eq)]
 pub enum Primitive {
     /// `a + b`

@@ -1,4 +1,5 @@
-//! An accepted component, as the machine runs it. What is large in it is let go here, once for all crates above.
+//! An accepted component, as the machine runs it. What is large in it is let go here, once for all
+//! crates above.
 use crate::primitive::Primitive;
 use crate::term::Term;
 use crate::value::Value;
@@ -22,7 +23,8 @@ pub struct CoreField {
     pub name: NameId,
     pub ty: Ty,
     pub mutable: bool,
-    /// The constant of a field that stands in the body of an object; parameters and fields of traits have none.
+    /// The constant of a field that stands in the body of an object; parameters and fields of
+    /// traits have none.
     pub initial: Option<Value>,
 }
 
@@ -40,8 +42,9 @@ impl Drop for CoreField {
 /// A declared type.
 pub struct CoreShape {
     pub kind: CoreKind,
-    /// Of an object the fields that it declares, in this order: its parameters, then the fields of its body; it has
-    /// one location for each. Of a trait all its fields, inherited ones included. Of a leaf none.
+    /// Of an object the fields that it declares, in this order: its parameters, then the fields of
+    /// its body; it has one location for each. Of a trait all its fields, inherited ones included.
+    /// Of a leaf none.
     pub fields: List<CoreField>,
 }
 
@@ -125,7 +128,8 @@ pub struct BuiltIn {
     pub abort_outside: TypeId,
 }
 
-/// A program: its types, overload sets and declarations by number, its first term and its opening store.
+/// A program: its types, overload sets and declarations by number, its first term and its opening
+/// store.
 pub struct Program {
     /// Which declared types are below each other, and which are apart.
     pub types: TypeTable,

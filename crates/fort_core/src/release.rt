@@ -1,11 +1,11 @@
 //! How terms and values are let go.
 //!
-//! A term is let go by a loop that takes no memory, whatever its depth. What waits stands in the box
-//! of the part that goes first: the other parts of a form, with what waits behind them, are put there
-//! as one term, and the loop goes on with what stood in the box. A part that somebody else has too
-//! isn't gone into. Values, functions, clauses and marks go by calls, as deep as they stand in one
-//! another, which the language bounds. Each part is gone into once, and what waits comes after the
-//! others, so that the time is linear in what is in the term.
+//! A term is let go by a loop that takes no memory, whatever its depth. What waits stands in the
+//! box of the part that goes first: the other parts of a form, with what waits behind them, are put
+//! there as one term, and the loop goes on with what stood in the box. A part that somebody else
+//! has too isn't gone into. Values, functions, clauses and marks go by calls, as deep as they stand
+//! in one another, which the language bounds. Each part is gone into once, and what waits comes
+//! after the others, so that the time is linear in what is in the term.
 ghost use Rattle.std.specs.Prelude.{◌≡◌, ◌+◌, ◌<◌, IfSome, IsPermutation, length};
 ghost use Rattle.fort_core.specs.Weights.{Sheds, each, spent_weight, waits, weight};
 
@@ -71,7 +71,8 @@ pub fn one(part: Shared<Term>, waiting: Option<Shared<Term>>) -> Shed
 
 /// The first of two parts goes next.
 pub fn two(first: Shared<Term>, second: Shared<Term>, waiting: Option<Shared<Term>>) -> Shed
-    ensures { Sheds (weight first + 1 + (weight second + 1) + waits waiting) (weight first + 1 + (weight second + 1)) result }
+    ensures { Sheds (weight first + 1 + (weight second + 1) + waits waiting)
+        (weight first + 1 + (weight second + 1)) result }
 {
     match waiting {
         None => one(first, Some(second)),
@@ -86,7 +87,8 @@ pub fn three(
     third: Shared<Term>,
     waiting: Option<Shared<Term>>,
 ) -> Shed
-    ensures { Sheds (weight first + 1 + (weight second + 1) + (weight third + 1) + waits waiting) (weight first + 1 + (weight second + 1) + (weight third + 1)) result }
+    ensures { Sheds (weight first + 1 + (weight second + 1) + (weight third + 1) + waits waiting)
+        (weight first + 1 + (weight second + 1) + (weight third + 1)) result }
 {
     match waiting {
         None => put(first, Term::Then(second, third)),

@@ -108,8 +108,8 @@ pub fn same_marks(left: &List<(Loc, Value)>, right: &List<(Loc, Value)>) -> bool
 impl Value {
     /// Whether two values are the same data, functions too; it takes no memory.
     ///
-    /// This is how reads and marks are compared. The operator that the language has for it says of two
-    /// functions that they never are the same.
+    /// This is how reads and marks are compared. The operator that the language has for it says of
+    /// two functions that they never are the same.
     #[cycle(same)]
     pub fn same(&self, other: &Value) -> bool
         ensures { IsTrue result ↔ (self.now ≡ other.now) }

@@ -8,8 +8,9 @@ use std::alloc::Global;
 
 /// What a variable, a field, an element or a finished term has.
 ///
-/// The unit value `()` is the tuple of no parts; no tuple has one part. Values are closed: no variable of
-/// an enclosing term stands in them. What is large in a value may belong to other values too, in any threads.
+/// The unit value `()` is the tuple of no parts; no tuple has one part. Values are closed: no
+/// variable of an enclosing term stands in them. What is large in a value may belong to other
+/// values too, in any threads.
 #[cycle(core)]
 pub enum Value {
     /// A ZZ32.
@@ -34,18 +35,18 @@ pub enum Value {
 /// A function term, or a function once it holds the values of all variables round it.
 #[cycle(core)]
 pub struct Closure {
-    /// The number of the `fn` in its program, by its place in the source: two that are written alike at two
-    /// places differ by it.
+    /// The number of the `fn` in its program, by its place in the source: two that are written
+    /// alike at two places differ by it.
     pub number: u32,
-    /// The variables of the parameters, with their types. With other than one parameter the function
-    /// takes the tuple of their values.
+    /// The variables of the parameters, with their types. With other than one parameter the
+    /// function takes the tuple of their values.
     pub parameters: Shared<List<(u32, Ty)>>,
     /// The type of the body.
     pub result: Shared<Ty>,
     /// The body, as it is written but for the locations of mutable variables.
     pub body: Shared<Term>,
-    /// The values of immutable variables from round the function that stand in the body, each variable
-    /// once, in the order of their numbers.
+    /// The values of immutable variables from round the function that stand in the body, each
+    /// variable once, in the order of their numbers.
     pub held: List<(u32, Value)>,
 }
 

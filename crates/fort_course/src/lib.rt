@@ -1,5 +1,6 @@
-//! The course of a run: how far its machines have come, the root's and those of open attempts, and what keeps it, step by
-//! step. Each law is named by a function that does nothing. The chapters "Runs" and "Journals" of docs/MACHINE.md.
+//! The course of a run: how far its machines have come, the root's and those of open attempts, and
+//! what keeps it, step by step. Each law is named by a function that does nothing. The chapters
+//! "Runs" and "Journals" of docs/MACHINE.md.
 #![tactic(auto)]
 
 mod laws;

@@ -1,4 +1,5 @@
--- Chapter "Steps and costs": what the code says that a form does, as an act of the written machine. The code has data where the machine has functions.
+-- Chapter "Steps and costs": what the code says that a form does, as an act of the written machine.
+-- The code has data where the machine has functions.
 use Rattle.std.specs.Prelude.{ℕ, ◌+◌, List, [], ◌∷◌, replicate}
 use Rattle.fort_core.specs.declared.term.Term.{Term, Then}
 use Rattle.fort_core.specs.declared.term.Term as term

@@ -7,8 +7,8 @@ use fort_base::{Bytes, List, Loc, SetId, Shared, Ty, TypeId};
 use fort_core::{Term, Value};
 use std::alloc::Global;
 
-/// What a form does at its next step; who carries it out has the store. It is an act of the chapter "Steps and costs",
-/// with data where the chapter has functions.
+/// What a form does at its next step; who carries it out has the store. It is an act of the chapter
+/// "Steps and costs", with data where the chapter has functions.
 #[derive(Drop)]
 pub enum Deal {
     /// Nothing: it has no step of its own.
@@ -21,9 +21,11 @@ pub enum Deal {
     Asks(Loc, Goes),
     /// It writes a value to a location, and is `()`, at the cost of 1.
     Sets(Loc, Value),
-    /// It makes locations, or one with `()` where it has no values for them, and goes on by the first.
+    /// It makes locations, or one with `()` where it has no values for them, and goes on by the
+    /// first.
     Makes(Makes),
-    /// It calls a set with values: what is to be done is what the declaration does that the call runs.
+    /// It calls a set with values: what is to be done is what the declaration does that the call
+    /// runs.
     Calls(SetId, List<Value>),
     /// It ends its machine.
     Ends,
@@ -43,12 +45,13 @@ pub enum Goes {
 /// What a form makes at fresh locations, and how it goes on by the first of them.
 #[derive(Drop)]
 pub enum Makes {
-    /// A mutable local, at the cost of 1: its value, its variable, the rest of the block, in which the location takes
-    /// the variable's place.
+    /// A mutable local, at the cost of 1: its value, its variable, the rest of the block, in which
+    /// the location takes the variable's place.
     Local(Value, u32, Shared<Term>),
     /// An object, at the cost of 1: its type, and the values of its fields in their order.
     Object(TypeId, List<Value>),
-    /// An array, at the cost of 1 and its size: the type of its elements, their value, and how many there are.
+    /// An array, at the cost of 1 and its size: the type of its elements, their value, and how many
+    /// there are.
     Array(Shared<Ty>, Value, u32),
 }
 

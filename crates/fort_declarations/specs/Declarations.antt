@@ -52,7 +52,8 @@ module _ (names : Spellings) (n : ℕ) where
   trait_named name = fork (sees (is_mark mark.OpenParen)) (do m ← method_from names n true (function_name.Name name); pure (trait_member.Method m)) (trait_field name)
 
   unfoldable pub trait_member_at : Eater TraitMember n
-  trait_member_at = fork_eater (sees (is_word reserved.Opr)) trait_operator (token name_of >>| trait_named)
+  trait_member_at =
+      fork_eater (sees (is_word reserved.Opr)) trait_operator (token name_of >>| trait_named)
 
   unfoldable pub trait_entry : Eater TraitEntry n
   trait_entry = trait_member_at >>| λ m. do
@@ -60,7 +61,9 @@ module _ (names : Spellings) (n : ℕ) where
     pure (record { member = m; semicolon = s })
 
   unfoldable pub trait_entries : Parser (List TraitEntry) n
-  trait_entries = chain n (same_budget n) begins_trait_entry (λ ready e. is_ended e.semicolon) (λ ready. trait_entry) true
+  trait_entries =
+      chain n (same_budget n) begins_trait_entry (λ ready e. is_ended e.semicolon)
+      (λ ready. trait_entry) true
 
   unfoldable pub trait_from : Spot → Parser Trait n
   trait_from at_trait = do
@@ -70,7 +73,15 @@ module _ (names : Spellings) (n : ℕ) where
     below ← comprises names n
     members ← trait_entries
     end ← accept (spot_if (is_word reserved.End))
-    pure (record { trait_ = at_trait; name = name; extends = above; excludes = apart; comprises = below; members = members; end = end })
+    pure (record {
+      trait_ = at_trait;
+      name = name;
+      extends = above;
+      excludes = apart;
+      comprises = below;
+      members = members;
+      end = end;
+    })
 
   -- ---- objects
 
@@ -94,7 +105,9 @@ module _ (names : Spellings) (n : ℕ) where
   object_named name = fork (sees (is_mark mark.OpenParen)) (do m ← method_from names n false (function_name.Name name); pure (object_member.Method m)) (object_variable None name)
 
   unfoldable pub object_member_at : Eater ObjectMember n
-  object_member_at = fork_eater (sees (is_word reserved.Var)) object_var (fork_eater (sees (is_word reserved.Opr)) object_operator (token name_of >>| object_named))
+  object_member_at =
+      fork_eater (sees (is_word reserved.Var)) object_var
+      (fork_eater (sees (is_word reserved.Opr)) object_operator (token name_of >>| object_named))
 
   unfoldable pub object_entry : Eater ObjectEntry n
   object_entry = object_member_at >>| λ m. do
@@ -102,14 +115,23 @@ module _ (names : Spellings) (n : ℕ) where
     pure (record { member = m; semicolon = s })
 
   unfoldable pub object_entries : Parser (List ObjectEntry) n
-  object_entries = chain n (same_budget n) begins_object_entry (λ ready e. is_ended e.semicolon) (λ ready. object_entry) true
+  object_entries =
+      chain n (same_budget n) begins_object_entry (λ ready e. is_ended e.semicolon)
+      (λ ready. object_entry) true
 
   unfoldable pub object_rest : Spot → Name → Option ObjectParameters → Parser Object n
   object_rest at_object name parameters = do
     above ← extends names n
     members ← object_entries
     end ← accept (spot_if (is_word reserved.End))
-    pure (record { object = at_object; name = name; parameters = parameters; extends = above; members = members; end = end })
+    pure (record {
+      object = at_object;
+      name = name;
+      parameters = parameters;
+      extends = above;
+      members = members;
+      end = end;
+    })
 
   unfoldable pub object_from : Spot → Parser Object n
   object_from at_object = do
@@ -163,7 +185,9 @@ module _ (names : Spellings) (n : ℕ) where
     pure (record { declaration = d; semicolon = s })
 
   unfoldable pub declarations : Parser (List Declared) n
-  declarations = chain n (same_budget n) begins_declared (λ ready d. is_ended d.semicolon) (λ ready. declared) true
+  declarations =
+      chain n (same_budget n) begins_declared (λ ready d. is_ended d.semicolon) (λ ready. declared)
+      true
 
   -- ---- components
 
@@ -184,7 +208,15 @@ module _ (names : Spellings) (n : ℕ) where
     exported ← export
     list ← declarations
     end ← accept (spot_if (is_word reserved.End))
-    pure (record { component = at_component; name = name; export = exported; declarations = list; end = end; names = names; texts = texts })
+    pure (record {
+      component = at_component;
+      name = name;
+      export = exported;
+      declarations = list;
+      end = end;
+      names = names;
+      texts = texts;
+    })
 
   abbrev pub nothing_after : Component → Option Token → Parser Component n
   nothing_after c None = pure c

@@ -1,5 +1,5 @@
--- The productions of functions and methods as parsers. Where an operator is declared, the number of its parameters and the `self`
--- among them are asked at the token where they can fail first.
+-- The productions of functions and methods as parsers. Where an operator is declared, the number of
+-- its parameters and the `self` among them are asked at the token where they can fail first.
 use Rattle.std.specs.Prelude.{ℕ, Bool, true, false, ◌&&◌, ◌||◌, not, List, [], ◌∷◌, Option, Some, None}
 use Rattle.fort_token.specs.declared.token.Token.{Token}
 use Rattle.fort_token.specs.declared.marks.Mark.TheVariants as mark
@@ -37,7 +37,16 @@ module _ (names : Spellings) (n : ℕ) where
     result ← (type_tree names n).parser
     equals ← accept (spot_if is_eq)
     body ← (expr_at names n false).parser
-    pure (record { name = name; left = left; parameters = parameters; right = right; colon = colon; result = result; equals = equals; body = body })
+    pure (record {
+      name = name;
+      left = left;
+      parameters = parameters;
+      right = right;
+      colon = colon;
+      result = result;
+      equals = equals;
+      body = body;
+    })
 
   -- a function behind its name
   unfoldable pub function_from : FunctionName → Parser Function n
@@ -94,7 +103,9 @@ module _ (names : Spellings) (n : ℕ) where
     pure (record { comma = comma; parameter = p })
 
   unfoldable pub next_method_parameters : Bool → Parser (List NextMethodParameter) n
-  next_method_parameters seen = chain n (same_budget n) (λ seen. sees (is_mark mark.Comma)) (λ seen next. seen || is_self next.parameter) next_method_parameter seen
+  next_method_parameters seen =
+      chain n (same_budget n) (λ seen. sees (is_mark mark.Comma)) (λ seen next. seen
+      || is_self next.parameter) next_method_parameter seen
 
   unfoldable pub method_list : Parser MethodParameters n
   method_list = do
@@ -149,12 +160,21 @@ module _ (names : Spellings) (n : ℕ) where
   unfoldable pub method_body : Bool → Parser (Option MethodBody) n
   method_body optional = fork (ends_without_body optional) (pure None) with_body
 
-  unfoldable pub method_rest : Bool → FunctionName → Spot → Option MethodParameters → Spot → Parser Method n
+  unfoldable pub method_rest : Bool → FunctionName → Spot → Option MethodParameters → Spot
+      → Parser Method n
   method_rest optional name left parameters right = do
     colon ← accept (spot_if is_range)
     result ← (type_tree names n).parser
     body ← method_body optional
-    pure (record { name = name; left = left; parameters = parameters; right = right; colon = colon; result = result; body = body })
+    pure (record {
+      name = name;
+      left = left;
+      parameters = parameters;
+      right = right;
+      colon = colon;
+      result = result;
+      body = body;
+    })
 
   -- a method behind its name
   unfoldable pub method_from : Bool → FunctionName → Parser Method n

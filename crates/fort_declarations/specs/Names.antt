@@ -123,7 +123,8 @@ module _ (names : Spellings) (n : ℕ) where
     object_typed (Some var) name
 
   unfoldable pub object_parameter : Eater ObjectParameter n
-  object_parameter = fork_eater (sees (is_word reserved.Var)) var_parameter (token name_of >>| object_typed None)
+  object_parameter =
+      fork_eater (sees (is_word reserved.Var)) var_parameter (token name_of >>| object_typed None)
 
   unfoldable pub next_object_parameter : Eater NextObjectParameter n
   next_object_parameter = token (spot_if (is_mark mark.Comma)) >>| λ comma. do

@@ -17,7 +17,8 @@ use fort_tree::{
 impl<'a> Syntax<'a> {
     #[tactic(auto, unfolding(crate::specs::Declarations::trait_field))]
     fn trait_field(&self, tokens: &mut Cursor<'_>, name: Name) -> Result<TraitMember, Fault>
-        ensures { Reads ((spec.trait_field self.now.names.now self.now.depth name).run tokens.old) result tokens.new }
+        ensures { Reads ((spec.trait_field self.now.names.now self.now.depth name).run tokens.old)
+            result tokens.new }
     {
         let colon = tokens.colon()?;
         let ty = self.types().type_tree(tokens)?;
@@ -26,7 +27,9 @@ impl<'a> Syntax<'a> {
 
     #[tactic(auto, unfolding(crate::specs::Declarations::trait_operator))]
     fn trait_operator(&self, tokens: &mut Cursor<'_>) -> Result<TraitMember, Fault>
-        ensures { Reads ((spec.trait_operator self.now.names.now self.now.depth).parser.run tokens.old) result tokens.new }
+        ensures { Reads
+            ((spec.trait_operator self.now.names.now self.now.depth).parser.run tokens.old) result
+            tokens.new }
     {
         let opr = tokens.word(Reserved::Opr)?;
         let name = self.opr_name(tokens, opr)?;
@@ -36,7 +39,8 @@ impl<'a> Syntax<'a> {
 
     #[tactic(auto, unfolding(crate::specs::Declarations::trait_named))]
     fn trait_named(&self, tokens: &mut Cursor<'_>, name: Name) -> Result<TraitMember, Fault>
-        ensures { Reads ((spec.trait_named self.now.names.now self.now.depth name).run tokens.old) result tokens.new }
+        ensures { Reads ((spec.trait_named self.now.names.now self.now.depth name).run tokens.old)
+            result tokens.new }
     {
         if tokens.sees_mark(Mark::OpenParen) {
             let method = self.method_from(tokens, true, FunctionName::Name(name))?;
@@ -48,7 +52,9 @@ impl<'a> Syntax<'a> {
 
     #[tactic(auto, unfolding(crate::specs::Declarations::trait_member_at))]
     fn trait_member_at(&self, tokens: &mut Cursor<'_>) -> Result<TraitMember, Fault>
-        ensures { Reads ((spec.trait_member_at self.now.names.now self.now.depth).parser.run tokens.old) result tokens.new }
+        ensures { Reads
+            ((spec.trait_member_at self.now.names.now self.now.depth).parser.run tokens.old) result
+            tokens.new }
     {
         if tokens.sees_word(Reserved::Opr) {
             self.trait_operator(tokens)
@@ -60,7 +66,8 @@ impl<'a> Syntax<'a> {
 
     #[tactic(auto, unfolding(crate::specs::Declarations::trait_entry))]
     fn trait_entry(&self, tokens: &mut Cursor<'_>) -> Result<TraitEntry, Fault>
-        ensures { Reads ((spec.trait_entry self.now.names.now self.now.depth).parser.run tokens.old) result tokens.new }
+        ensures { Reads ((spec.trait_entry self.now.names.now self.now.depth).parser.run tokens.old)
+            result tokens.new }
     {
         let member = self.trait_member_at(tokens)?;
         let semicolon = self.semicolon(tokens)?;
@@ -68,7 +75,8 @@ impl<'a> Syntax<'a> {
     }
 
     fn trait_entries(&self, tokens: &mut Cursor<'_>) -> Result<List<TraitEntry>, Fault>
-        ensures { Reads ((spec.trait_entries self.now.names.now self.now.depth).run tokens.old) result tokens.new }
+        ensures { Reads ((spec.trait_entries self.now.names.now self.now.depth).run tokens.old)
+            result tokens.new }
     {
         let mut found = List::new(self.alloc);
         let mut ready = true;
@@ -85,7 +93,9 @@ impl<'a> Syntax<'a> {
 
     #[tactic(auto, unfolding(crate::specs::Declarations::trait_from))]
     fn trait_from(&self, tokens: &mut Cursor<'_>, at_trait: Spot) -> Result<Trait, Fault>
-        ensures { Reads ((spec.trait_from self.now.names.now self.now.depth at_trait).run tokens.old) result tokens.new }
+        ensures { Reads
+            ((spec.trait_from self.now.names.now self.now.depth at_trait).run tokens.old) result
+            tokens.new }
     {
         let name = tokens.name()?;
         let extends = self.extends(tokens)?;
@@ -111,7 +121,9 @@ impl<'a> Syntax<'a> {
         var: Option<Spot>,
         name: Name,
     ) -> Result<ObjectMember, Fault>
-        ensures { Reads ((spec.object_variable self.now.names.now self.now.depth var name).run tokens.old) result tokens.new }
+        ensures { Reads
+            ((spec.object_variable self.now.names.now self.now.depth var name).run tokens.old)
+            result tokens.new }
     {
         let variable = self.variable(tokens, var, name)?;
         Ok(ObjectMember::Variable(variable))
@@ -119,7 +131,8 @@ impl<'a> Syntax<'a> {
 
     #[tactic(auto, unfolding(crate::specs::Declarations::object_var))]
     fn object_var(&self, tokens: &mut Cursor<'_>) -> Result<ObjectMember, Fault>
-        ensures { Reads ((spec.object_var self.now.names.now self.now.depth).parser.run tokens.old) result tokens.new }
+        ensures { Reads ((spec.object_var self.now.names.now self.now.depth).parser.run tokens.old)
+            result tokens.new }
     {
         let var = tokens.word(Reserved::Var)?;
         let name = tokens.name()?;
@@ -128,7 +141,9 @@ impl<'a> Syntax<'a> {
 
     #[tactic(auto, unfolding(crate::specs::Declarations::object_operator))]
     fn object_operator(&self, tokens: &mut Cursor<'_>) -> Result<ObjectMember, Fault>
-        ensures { Reads ((spec.object_operator self.now.names.now self.now.depth).parser.run tokens.old) result tokens.new }
+        ensures { Reads
+            ((spec.object_operator self.now.names.now self.now.depth).parser.run tokens.old) result
+            tokens.new }
     {
         let opr = tokens.word(Reserved::Opr)?;
         let name = self.opr_name(tokens, opr)?;
@@ -138,7 +153,8 @@ impl<'a> Syntax<'a> {
 
     #[tactic(auto, unfolding(crate::specs::Declarations::object_named))]
     fn object_named(&self, tokens: &mut Cursor<'_>, name: Name) -> Result<ObjectMember, Fault>
-        ensures { Reads ((spec.object_named self.now.names.now self.now.depth name).run tokens.old) result tokens.new }
+        ensures { Reads ((spec.object_named self.now.names.now self.now.depth name).run tokens.old)
+            result tokens.new }
     {
         if tokens.sees_mark(Mark::OpenParen) {
             let method = self.method_from(tokens, false, FunctionName::Name(name))?;
@@ -150,7 +166,9 @@ impl<'a> Syntax<'a> {
 
     #[tactic(auto, unfolding(crate::specs::Declarations::object_member_at))]
     fn object_member_at(&self, tokens: &mut Cursor<'_>) -> Result<ObjectMember, Fault>
-        ensures { Reads ((spec.object_member_at self.now.names.now self.now.depth).parser.run tokens.old) result tokens.new }
+        ensures { Reads
+            ((spec.object_member_at self.now.names.now self.now.depth).parser.run tokens.old) result
+            tokens.new }
     {
         if tokens.sees_word(Reserved::Var) {
             self.object_var(tokens)
@@ -164,7 +182,9 @@ impl<'a> Syntax<'a> {
 
     #[tactic(auto, unfolding(crate::specs::Declarations::object_entry))]
     fn object_entry(&self, tokens: &mut Cursor<'_>) -> Result<ObjectEntry, Fault>
-        ensures { Reads ((spec.object_entry self.now.names.now self.now.depth).parser.run tokens.old) result tokens.new }
+        ensures { Reads
+            ((spec.object_entry self.now.names.now self.now.depth).parser.run tokens.old) result
+            tokens.new }
     {
         let member = self.object_member_at(tokens)?;
         let semicolon = self.semicolon(tokens)?;
@@ -172,7 +192,8 @@ impl<'a> Syntax<'a> {
     }
 
     fn object_entries(&self, tokens: &mut Cursor<'_>) -> Result<List<ObjectEntry>, Fault>
-        ensures { Reads ((spec.object_entries self.now.names.now self.now.depth).run tokens.old) result tokens.new }
+        ensures { Reads ((spec.object_entries self.now.names.now self.now.depth).run tokens.old)
+            result tokens.new }
     {
         let mut found = List::new(self.alloc);
         let mut ready = true;
@@ -195,7 +216,9 @@ impl<'a> Syntax<'a> {
         name: Name,
         parameters: Option<ObjectParameters>,
     ) -> Result<Object, Fault>
-        ensures { Reads ((spec.object_rest self.now.names.now self.now.depth at_object name parameters).run tokens.old) result tokens.new }
+        ensures { Reads
+            ((spec.object_rest self.now.names.now self.now.depth at_object name parameters).run
+            tokens.old) result tokens.new }
     {
         let extends = self.extends(tokens)?;
         let members = self.object_entries(tokens)?;
@@ -212,7 +235,9 @@ impl<'a> Syntax<'a> {
 
     #[tactic(auto, unfolding(crate::specs::Declarations::object_from))]
     fn object_from(&self, tokens: &mut Cursor<'_>, at_object: Spot) -> Result<Object, Fault>
-        ensures { Reads ((spec.object_from self.now.names.now self.now.depth at_object).run tokens.old) result tokens.new }
+        ensures { Reads
+            ((spec.object_from self.now.names.now self.now.depth at_object).run tokens.old) result
+            tokens.new }
     {
         let name = tokens.name()?;
         let parameters = self.object_parameters(tokens)?;
@@ -226,7 +251,9 @@ impl<'a> Syntax<'a> {
         var: Option<Spot>,
         name: Name,
     ) -> Result<Declaration, Fault>
-        ensures { Reads ((spec.variable_declaration self.now.names.now self.now.depth var name).run tokens.old) result tokens.new }
+        ensures { Reads
+            ((spec.variable_declaration self.now.names.now self.now.depth var name).run tokens.old)
+            result tokens.new }
     {
         let variable = self.variable(tokens, var, name)?;
         Ok(Declaration::Variable(variable))
@@ -234,7 +261,9 @@ impl<'a> Syntax<'a> {
 
     #[tactic(auto, unfolding(crate::specs::Declarations::var_declaration))]
     fn var_declaration(&self, tokens: &mut Cursor<'_>) -> Result<Declaration, Fault>
-        ensures { Reads ((spec.var_declaration self.now.names.now self.now.depth).parser.run tokens.old) result tokens.new }
+        ensures { Reads
+            ((spec.var_declaration self.now.names.now self.now.depth).parser.run tokens.old) result
+            tokens.new }
     {
         let var = tokens.word(Reserved::Var)?;
         let name = tokens.name()?;
@@ -243,7 +272,9 @@ impl<'a> Syntax<'a> {
 
     #[tactic(auto, unfolding(crate::specs::Declarations::operator_declaration))]
     fn operator_declaration(&self, tokens: &mut Cursor<'_>) -> Result<Declaration, Fault>
-        ensures { Reads ((spec.operator_declaration self.now.names.now self.now.depth).parser.run tokens.old) result tokens.new }
+        ensures { Reads
+            ((spec.operator_declaration self.now.names.now self.now.depth).parser.run tokens.old)
+            result tokens.new }
     {
         let opr = tokens.word(Reserved::Opr)?;
         let name = self.opr_name(tokens, opr)?;
@@ -253,7 +284,9 @@ impl<'a> Syntax<'a> {
 
     #[tactic(auto, unfolding(crate::specs::Declarations::named_declaration))]
     fn named_declaration(&self, tokens: &mut Cursor<'_>, name: Name) -> Result<Declaration, Fault>
-        ensures { Reads ((spec.named_declaration self.now.names.now self.now.depth name).run tokens.old) result tokens.new }
+        ensures { Reads
+            ((spec.named_declaration self.now.names.now self.now.depth name).run tokens.old) result
+            tokens.new }
     {
         if tokens.sees_mark(Mark::OpenParen) {
             let function = self.function_from(tokens, FunctionName::Name(name))?;
@@ -268,7 +301,9 @@ impl<'a> Syntax<'a> {
         tokens: &mut Cursor<'_>,
         word: Reserved,
     ) -> Result<Declaration, Fault>
-        ensures { Reads ((spec.word_declaration self.now.names.now self.now.depth word).parser.run tokens.old) result tokens.new }
+        ensures { Reads
+            ((spec.word_declaration self.now.names.now self.now.depth word).parser.run tokens.old)
+            result tokens.new }
     {
         match word {
             Reserved::Var => self.var_declaration(tokens),
@@ -287,7 +322,9 @@ impl<'a> Syntax<'a> {
 
     #[tactic(auto, unfolding(crate::specs::Declarations::declaration_at))]
     fn declaration_at(&self, tokens: &mut Cursor<'_>) -> Result<Declaration, Fault>
-        ensures { Reads ((spec.declaration_at self.now.names.now self.now.depth).parser.run tokens.old) result tokens.new }
+        ensures { Reads
+            ((spec.declaration_at self.now.names.now self.now.depth).parser.run tokens.old) result
+            tokens.new }
     {
         let Some(next) = tokens.next() else {
             return Err(Fault::Syntax);
@@ -304,7 +341,8 @@ impl<'a> Syntax<'a> {
 
     #[tactic(auto, unfolding(crate::specs::Declarations::declared))]
     fn declared(&self, tokens: &mut Cursor<'_>) -> Result<Declared, Fault>
-        ensures { Reads ((spec.declared self.now.names.now self.now.depth).parser.run tokens.old) result tokens.new }
+        ensures { Reads ((spec.declared self.now.names.now self.now.depth).parser.run tokens.old)
+            result tokens.new }
     {
         let declaration = self.declaration_at(tokens)?;
         let semicolon = self.semicolon(tokens)?;
@@ -316,7 +354,8 @@ impl<'a> Syntax<'a> {
 
     /// Declarations, each behind a `;` or on a new line.
     pub fn declarations(&self, tokens: &mut Cursor<'_>) -> Result<List<Declared>, Fault>
-        ensures { Reads ((spec.declarations self.now.names.now self.now.depth).run tokens.old) result tokens.new }
+        ensures { Reads ((spec.declarations self.now.names.now self.now.depth).run tokens.old)
+            result tokens.new }
     {
         let mut found = List::new(self.alloc);
         let mut ready = true;

@@ -27,7 +27,8 @@ fn copied(alloc: Global, texts: &[Bytes]) -> Result<List<Bytes>, Memory>
 impl<'a> Syntax<'a> {
     #[tactic(auto, unfolding(crate::specs::Declarations::export_from))]
     fn export_from(&self, tokens: &mut Cursor<'_>) -> Result<Option<Export>, Fault>
-        ensures { Reads ((spec.export_from self.now.names.now self.now.depth).run tokens.old) result tokens.new }
+        ensures { Reads ((spec.export_from self.now.names.now self.now.depth).run tokens.old) result
+            tokens.new }
     {
         let export = tokens.word(Reserved::Export)?;
         let name = tokens.called(b"Executable", self.names)?;
@@ -36,7 +37,8 @@ impl<'a> Syntax<'a> {
 
     #[tactic(auto, unfolding(crate::specs::Declarations::export))]
     fn export(&self, tokens: &mut Cursor<'_>) -> Result<Option<Export>, Fault>
-        ensures { Reads ((spec.export self.now.names.now self.now.depth).run tokens.old) result tokens.new }
+        ensures { Reads ((spec.export self.now.names.now self.now.depth).run tokens.old) result
+            tokens.new }
     {
         if tokens.sees_word(Reserved::Export) {
             self.export_from(tokens)
@@ -47,7 +49,9 @@ impl<'a> Syntax<'a> {
 
     #[tactic(auto, unfolding(crate::specs::Declarations::component))]
     fn component(&self, tokens: &mut Cursor<'_>, texts: &[Bytes]) -> Result<Component, Fault>
-        ensures { Reads ((spec.component self.now.names.now self.now.depth texts.now).run tokens.old) result tokens.new }
+        ensures { Reads
+            ((spec.component self.now.names.now self.now.depth texts.now).run tokens.old) result
+            tokens.new }
     {
         let component = tokens.word(Reserved::Component)?;
         let name = tokens.name()?;
@@ -66,9 +70,9 @@ impl<'a> Syntax<'a> {
     }
 }
 
-/// A component and nothing after it, from tokens with these names and texts, each by its number, which the component then
-/// has too. `depth` is the budget, at least one more than there are tokens, and `floor` what it may not fall to. The faults
-/// are those of `Syntax`.
+/// A component and nothing after it, from tokens with these names and texts, each by its number,
+/// which the component then has too. `depth` is the budget, at least one more than there are
+/// tokens, and `floor` what it may not fall to. The faults are those of `Syntax`.
 #[tactic(auto, unfolding(crate::specs::Declarations::whole))]
 pub fn whole(
     alloc: Global,

@@ -1,4 +1,5 @@
-//! Reading declarations and components, over expressions and types: the productions and the frame of a component.
+//! Reading declarations and components, over expressions and types: the productions and the frame
+//! of a component.
 #![tactic(auto)]
 
 mod declarations;

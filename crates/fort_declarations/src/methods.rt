@@ -1,5 +1,5 @@
-//! The productions of functions and methods. Where an operator is declared, the number of its parameters and the `self` among
-//! them are asked at the token where they can fail first.
+//! The productions of functions and methods. Where an operator is declared, the number of its
+//! parameters and the `self` among them are asked at the token where they can fail first.
 
 ghost use Rattle.std.specs.Prelude.{◌≡◌, ◌||◌};
 ghost use Rattle.fort_reading.specs.Parser.{Reads};
@@ -25,7 +25,8 @@ fn is_self(parameter: &MethodParameter) -> bool
     }
 }
 
-/// Whether there is a `self` up to this parameter, where `seen` says whether there is one before it.
+/// Whether there is a `self` up to this parameter, where `seen` says whether there is one before
+/// it.
 fn has_self(seen: bool, parameter: &MethodParameter) -> bool
     ensures { result ≡ (seen || spec.is_self parameter.now) }
 {
@@ -42,7 +43,9 @@ impl<'a> Syntax<'a> {
         parameters: Option<Parameters>,
         right: Spot,
     ) -> Result<Function, Fault>
-        ensures { Reads ((spec.function_rest self.now.names.now self.now.depth name left parameters right).run tokens.old) result tokens.new }
+        ensures { Reads
+            ((spec.function_rest self.now.names.now self.now.depth name left parameters right).run
+            tokens.old) result tokens.new }
     {
         let colon = tokens.colon()?;
         let result = self.types().type_tree(tokens)?;
@@ -67,7 +70,8 @@ impl<'a> Syntax<'a> {
         tokens: &mut Cursor<'_>,
         name: FunctionName,
     ) -> Result<Function, Fault>
-        ensures { Reads ((spec.function_from self.now.names.now self.now.depth name).run tokens.old) result tokens.new }
+        ensures { Reads ((spec.function_from self.now.names.now self.now.depth name).run tokens.old)
+            result tokens.new }
     {
         let left = tokens.mark(Mark::OpenParen)?;
         let parameters = self.types().maybe_parameters(tokens)?;
@@ -81,7 +85,9 @@ impl<'a> Syntax<'a> {
         tokens: &mut Cursor<'_>,
         name: FunctionName,
     ) -> Result<List<NextParameter>, Fault>
-        ensures { Reads ((spec.operator_others self.now.names.now self.now.depth name).run tokens.old) result tokens.new }
+        ensures { Reads
+            ((spec.operator_others self.now.names.now self.now.depth name).run tokens.old) result
+            tokens.new }
     {
         if takes_two(name) && tokens.sees_mark(Mark::Comma) {
             let next = self.types().next_parameter(tokens)?;
@@ -100,7 +106,9 @@ impl<'a> Syntax<'a> {
         tokens: &mut Cursor<'_>,
         name: FunctionName,
     ) -> Result<Parameters, Fault>
-        ensures { Reads ((spec.operator_parameters self.now.names.now self.now.depth name).run tokens.old) result tokens.new }
+        ensures { Reads
+            ((spec.operator_parameters self.now.names.now self.now.depth name).run tokens.old)
+            result tokens.new }
     {
         let first = self.types().parameter(tokens)?;
         let others = self.operator_others(tokens, name)?;
@@ -114,7 +122,8 @@ impl<'a> Syntax<'a> {
         tokens: &mut Cursor<'_>,
         name: FunctionName,
     ) -> Result<Function, Fault>
-        ensures { Reads ((spec.operator_from self.now.names.now self.now.depth name).run tokens.old) result tokens.new }
+        ensures { Reads ((spec.operator_from self.now.names.now self.now.depth name).run tokens.old)
+            result tokens.new }
     {
         let left = tokens.mark(Mark::OpenParen)?;
         let parameters = self.operator_parameters(tokens, name)?;
@@ -124,7 +133,9 @@ impl<'a> Syntax<'a> {
 
     #[tactic(auto, unfolding(crate::specs::Methods::self_parameter))]
     fn self_parameter(&self, tokens: &mut Cursor<'_>) -> Result<MethodParameter, Fault>
-        ensures { Reads ((spec.self_parameter self.now.names.now self.now.depth).parser.run tokens.old) result tokens.new }
+        ensures { Reads
+            ((spec.self_parameter self.now.names.now self.now.depth).parser.run tokens.old) result
+            tokens.new }
     {
         let spot = tokens.word(Reserved::Self_)?;
         Ok(MethodParameter::Self_(spot))
@@ -132,7 +143,9 @@ impl<'a> Syntax<'a> {
 
     #[tactic(auto, unfolding(crate::specs::Methods::plain_parameter))]
     fn plain_parameter(&self, tokens: &mut Cursor<'_>) -> Result<MethodParameter, Fault>
-        ensures { Reads ((spec.plain_parameter self.now.names.now self.now.depth).parser.run tokens.old) result tokens.new }
+        ensures { Reads
+            ((spec.plain_parameter self.now.names.now self.now.depth).parser.run tokens.old) result
+            tokens.new }
     {
         let parameter = self.types().parameter(tokens)?;
         Ok(MethodParameter::Parameter(parameter))
@@ -144,7 +157,9 @@ impl<'a> Syntax<'a> {
         tokens: &mut Cursor<'_>,
         seen: bool,
     ) -> Result<MethodParameter, Fault>
-        ensures { Reads ((spec.method_parameter_at self.now.names.now self.now.depth seen).parser.run tokens.old) result tokens.new }
+        ensures { Reads
+            ((spec.method_parameter_at self.now.names.now self.now.depth seen).parser.run
+            tokens.old) result tokens.new }
     {
         if !seen && tokens.sees_word(Reserved::Self_) {
             self.self_parameter(tokens)
@@ -159,7 +174,9 @@ impl<'a> Syntax<'a> {
         tokens: &mut Cursor<'_>,
         seen: bool,
     ) -> Result<NextMethodParameter, Fault>
-        ensures { Reads ((spec.next_method_parameter self.now.names.now self.now.depth seen).parser.run tokens.old) result tokens.new }
+        ensures { Reads
+            ((spec.next_method_parameter self.now.names.now self.now.depth seen).parser.run
+            tokens.old) result tokens.new }
     {
         let comma = tokens.mark(Mark::Comma)?;
         let parameter = self.method_parameter_at(tokens, seen)?;
@@ -171,7 +188,9 @@ impl<'a> Syntax<'a> {
         tokens: &mut Cursor<'_>,
         seen: bool,
     ) -> Result<List<NextMethodParameter>, Fault>
-        ensures { Reads ((spec.next_method_parameters self.now.names.now self.now.depth seen).run tokens.old) result tokens.new }
+        ensures { Reads
+            ((spec.next_method_parameters self.now.names.now self.now.depth seen).run tokens.old)
+            result tokens.new }
     {
         let mut found = List::new(self.alloc);
         let mut behind = seen;
@@ -188,7 +207,8 @@ impl<'a> Syntax<'a> {
 
     #[tactic(auto, unfolding(crate::specs::Methods::method_list))]
     fn method_list(&self, tokens: &mut Cursor<'_>) -> Result<MethodParameters, Fault>
-        ensures { Reads ((spec.method_list self.now.names.now self.now.depth).run tokens.old) result tokens.new }
+        ensures { Reads ((spec.method_list self.now.names.now self.now.depth).run tokens.old) result
+            tokens.new }
     {
         let first = self.method_parameter_at(tokens, false)?;
         let others = self.next_method_parameters(tokens, is_self(&first))?;
@@ -197,7 +217,8 @@ impl<'a> Syntax<'a> {
 
     #[tactic(auto, unfolding(crate::specs::Methods::maybe_method_list))]
     fn maybe_method_list(&self, tokens: &mut Cursor<'_>) -> Result<Option<MethodParameters>, Fault>
-        ensures { Reads ((spec.maybe_method_list self.now.names.now self.now.depth).run tokens.old) result tokens.new }
+        ensures { Reads ((spec.maybe_method_list self.now.names.now self.now.depth).run tokens.old)
+            result tokens.new }
     {
         if tokens.sees_mark(Mark::CloseParen) {
             Ok(None)
@@ -208,7 +229,8 @@ impl<'a> Syntax<'a> {
 
     #[tactic(auto, unfolding(crate::specs::Methods::plain_second))]
     fn plain_second(&self, tokens: &mut Cursor<'_>) -> Result<List<NextMethodParameter>, Fault>
-        ensures { Reads ((spec.plain_second self.now.names.now self.now.depth).run tokens.old) result tokens.new }
+        ensures { Reads ((spec.plain_second self.now.names.now self.now.depth).run tokens.old)
+            result tokens.new }
     {
         let comma = tokens.mark(Mark::Comma)?;
         let parameter = MethodParameter::Parameter(self.types().parameter(tokens)?);
@@ -217,7 +239,8 @@ impl<'a> Syntax<'a> {
 
     #[tactic(auto, unfolding(crate::specs::Methods::self_second))]
     fn self_second(&self, tokens: &mut Cursor<'_>) -> Result<List<NextMethodParameter>, Fault>
-        ensures { Reads ((spec.self_second self.now.names.now self.now.depth).run tokens.old) result tokens.new }
+        ensures { Reads ((spec.self_second self.now.names.now self.now.depth).run tokens.old) result
+            tokens.new }
     {
         let comma = tokens.mark(Mark::Comma)?;
         let parameter = MethodParameter::Self_(tokens.word(Reserved::Self_)?);
@@ -230,7 +253,8 @@ impl<'a> Syntax<'a> {
         tokens: &mut Cursor<'_>,
         name: FunctionName,
     ) -> Result<MethodParameters, Fault>
-        ensures { Reads ((spec.self_first self.now.names.now self.now.depth name).run tokens.old) result tokens.new }
+        ensures { Reads ((spec.self_first self.now.names.now self.now.depth name).run tokens.old)
+            result tokens.new }
     {
         let first = MethodParameter::Self_(tokens.word(Reserved::Self_)?);
         let others = if takes_two(name) && tokens.sees_mark(Mark::Comma) {
@@ -245,7 +269,8 @@ impl<'a> Syntax<'a> {
 
     #[tactic(auto, unfolding(crate::specs::Methods::plain_first))]
     fn plain_first(&self, tokens: &mut Cursor<'_>) -> Result<MethodParameters, Fault>
-        ensures { Reads ((spec.plain_first self.now.names.now self.now.depth).run tokens.old) result tokens.new }
+        ensures { Reads ((spec.plain_first self.now.names.now self.now.depth).run tokens.old) result
+            tokens.new }
     {
         let first = MethodParameter::Parameter(self.types().parameter(tokens)?);
         let others = self.self_second(tokens)?;
@@ -258,7 +283,8 @@ impl<'a> Syntax<'a> {
         tokens: &mut Cursor<'_>,
         name: FunctionName,
     ) -> Result<MethodParameters, Fault>
-        ensures { Reads ((spec.operator_list self.now.names.now self.now.depth name).run tokens.old) result tokens.new }
+        ensures { Reads ((spec.operator_list self.now.names.now self.now.depth name).run tokens.old)
+            result tokens.new }
     {
         if takes_two(name) && !tokens.sees_word(Reserved::Self_) {
             self.plain_first(tokens)
@@ -269,7 +295,8 @@ impl<'a> Syntax<'a> {
 
     #[tactic(auto, unfolding(crate::specs::Methods::with_body))]
     fn with_body(&self, tokens: &mut Cursor<'_>) -> Result<Option<MethodBody>, Fault>
-        ensures { Reads ((spec.with_body self.now.names.now self.now.depth).run tokens.old) result tokens.new }
+        ensures { Reads ((spec.with_body self.now.names.now self.now.depth).run tokens.old) result
+            tokens.new }
     {
         let equals = tokens.equals()?;
         let body = self.expression(tokens)?;
@@ -282,7 +309,9 @@ impl<'a> Syntax<'a> {
         tokens: &mut Cursor<'_>,
         optional: bool,
     ) -> Result<Option<MethodBody>, Fault>
-        ensures { Reads ((spec.method_body self.now.names.now self.now.depth optional).run tokens.old) result tokens.new }
+        ensures { Reads
+            ((spec.method_body self.now.names.now self.now.depth optional).run tokens.old) result
+            tokens.new }
     {
         if ends_without_body(optional, tokens.next()) {
             Ok(None)
@@ -301,7 +330,9 @@ impl<'a> Syntax<'a> {
         parameters: Option<MethodParameters>,
         right: Spot,
     ) -> Result<Method, Fault>
-        ensures { Reads ((spec.method_rest self.now.names.now self.now.depth optional name left parameters right).run tokens.old) result tokens.new }
+        ensures { Reads
+            ((spec.method_rest self.now.names.now self.now.depth optional name left parameters
+            right).run tokens.old) result tokens.new }
     {
         let colon = tokens.colon()?;
         let result = self.types().type_tree(tokens)?;
@@ -325,7 +356,9 @@ impl<'a> Syntax<'a> {
         optional: bool,
         name: FunctionName,
     ) -> Result<Method, Fault>
-        ensures { Reads ((spec.method_from self.now.names.now self.now.depth optional name).run tokens.old) result tokens.new }
+        ensures { Reads
+            ((spec.method_from self.now.names.now self.now.depth optional name).run tokens.old)
+            result tokens.new }
     {
         let left = tokens.mark(Mark::OpenParen)?;
         let parameters = self.maybe_method_list(tokens)?;
@@ -341,7 +374,9 @@ impl<'a> Syntax<'a> {
         optional: bool,
         name: FunctionName,
     ) -> Result<Method, Fault>
-        ensures { Reads ((spec.operator_method_from self.now.names.now self.now.depth optional name).run tokens.old) result tokens.new }
+        ensures { Reads
+            ((spec.operator_method_from self.now.names.now self.now.depth optional name).run
+            tokens.old) result tokens.new }
     {
         let left = tokens.mark(Mark::OpenParen)?;
         let parameters = self.operator_list(tokens, name)?;

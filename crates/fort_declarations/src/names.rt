@@ -89,7 +89,8 @@ impl<'a> Syntax<'a> {
     /// The `;` behind a declaration or a member, if one stands there.
     #[tactic(auto, unfolding(crate::specs::Names::semicolon))]
     pub fn semicolon(&self, tokens: &mut Cursor<'_>) -> Result<Option<Spot>, Fault>
-        ensures { Reads ((spec.semicolon self.now.names.now self.now.depth).run tokens.old) result tokens.new }
+        ensures { Reads ((spec.semicolon self.now.names.now self.now.depth).run tokens.old) result
+            tokens.new }
     {
         if tokens.sees_mark(Mark::Semicolon) {
             Ok(Some(tokens.mark(Mark::Semicolon)?))
@@ -100,7 +101,9 @@ impl<'a> Syntax<'a> {
 
     #[tactic(auto, unfolding(crate::specs::Names::juxtaposition_name))]
     fn juxtaposition_name(&self, tokens: &mut Cursor<'_>, opr: Spot) -> Result<FunctionName, Fault>
-        ensures { Reads ((spec.juxtaposition_name self.now.names.now self.now.depth opr).run tokens.old) result tokens.new }
+        ensures { Reads
+            ((spec.juxtaposition_name self.now.names.now self.now.depth opr).run tokens.old) result
+            tokens.new }
     {
         let name = tokens.called(b"juxtaposition", self.names)?;
         Ok(FunctionName::Juxtaposition(opr, name))
@@ -108,7 +111,8 @@ impl<'a> Syntax<'a> {
 
     #[tactic(auto, unfolding(crate::specs::Names::operator_name))]
     fn operator_name(&self, tokens: &mut Cursor<'_>, opr: Spot) -> Result<FunctionName, Fault>
-        ensures { Reads ((spec.operator_name self.now.names.now self.now.depth opr).run tokens.old) result tokens.new }
+        ensures { Reads ((spec.operator_name self.now.names.now self.now.depth opr).run tokens.old)
+            result tokens.new }
     {
         let sign = declared_sign(tokens)?;
         Ok(FunctionName::Operator(opr, sign))
@@ -117,7 +121,8 @@ impl<'a> Syntax<'a> {
     /// What follows `opr`: an operator, or the name `juxtaposition`.
     #[tactic(auto, unfolding(crate::specs::Names::opr_name))]
     pub fn opr_name(&self, tokens: &mut Cursor<'_>, opr: Spot) -> Result<FunctionName, Fault>
-        ensures { Reads ((spec.opr_name self.now.names.now self.now.depth opr).run tokens.old) result tokens.new }
+        ensures { Reads ((spec.opr_name self.now.names.now self.now.depth opr).run tokens.old)
+            result tokens.new }
     {
         if sees_name(tokens.next()) {
             self.juxtaposition_name(tokens, opr)
@@ -128,7 +133,8 @@ impl<'a> Syntax<'a> {
 
     #[tactic(auto, unfolding(crate::specs::Names::next_name))]
     fn next_name(&self, tokens: &mut Cursor<'_>) -> Result<NextName, Fault>
-        ensures { Reads ((spec.next_name self.now.names.now self.now.depth).parser.run tokens.old) result tokens.new }
+        ensures { Reads ((spec.next_name self.now.names.now self.now.depth).parser.run tokens.old)
+            result tokens.new }
     {
         let comma = tokens.mark(Mark::Comma)?;
         let name = tokens.name()?;
@@ -136,7 +142,8 @@ impl<'a> Syntax<'a> {
     }
 
     fn next_names(&self, tokens: &mut Cursor<'_>) -> Result<List<NextName>, Fault>
-        ensures { Reads ((spec.next_names self.now.names.now self.now.depth).run tokens.old) result tokens.new }
+        ensures { Reads ((spec.next_names self.now.names.now self.now.depth).run tokens.old) result
+            tokens.new }
     {
         let mut found = List::new(self.alloc);
         for _turn in 0..self.depth {
@@ -150,7 +157,8 @@ impl<'a> Syntax<'a> {
 
     #[tactic(auto, unfolding(crate::specs::Names::braces))]
     fn braces(&self, tokens: &mut Cursor<'_>) -> Result<Names, Fault>
-        ensures { Reads ((spec.braces self.now.names.now self.now.depth).run tokens.old) result tokens.new }
+        ensures { Reads ((spec.braces self.now.names.now self.now.depth).run tokens.old) result
+            tokens.new }
     {
         let left = tokens.mark(Mark::OpenBrace)?;
         let first = tokens.name()?;
@@ -167,7 +175,8 @@ impl<'a> Syntax<'a> {
     /// The name of a type, or names of types in braces.
     #[tactic(auto, unfolding(crate::specs::Names::type_names))]
     pub fn type_names(&self, tokens: &mut Cursor<'_>) -> Result<Names, Fault>
-        ensures { Reads ((spec.type_names self.now.names.now self.now.depth).run tokens.old) result tokens.new }
+        ensures { Reads ((spec.type_names self.now.names.now self.now.depth).run tokens.old) result
+            tokens.new }
     {
         if tokens.sees_mark(Mark::OpenBrace) {
             self.braces(tokens)
@@ -179,7 +188,8 @@ impl<'a> Syntax<'a> {
     /// `extends` and names, if it stands there.
     #[tactic(auto, unfolding(crate::specs::Names::extends))]
     pub fn extends(&self, tokens: &mut Cursor<'_>) -> Result<Option<Extends>, Fault>
-        ensures { Reads ((spec.extends self.now.names.now self.now.depth).run tokens.old) result tokens.new }
+        ensures { Reads ((spec.extends self.now.names.now self.now.depth).run tokens.old) result
+            tokens.new }
     {
         if !tokens.sees_word(Reserved::Extends) {
             return Ok(None);
@@ -192,7 +202,8 @@ impl<'a> Syntax<'a> {
     /// `excludes` and names, if it stands there.
     #[tactic(auto, unfolding(crate::specs::Names::excludes))]
     pub fn excludes(&self, tokens: &mut Cursor<'_>) -> Result<Option<Excludes>, Fault>
-        ensures { Reads ((spec.excludes self.now.names.now self.now.depth).run tokens.old) result tokens.new }
+        ensures { Reads ((spec.excludes self.now.names.now self.now.depth).run tokens.old) result
+            tokens.new }
     {
         if !tokens.sees_word(Reserved::Excludes) {
             return Ok(None);
@@ -205,7 +216,8 @@ impl<'a> Syntax<'a> {
     /// `comprises` and names, if it stands there.
     #[tactic(auto, unfolding(crate::specs::Names::comprises))]
     pub fn comprises(&self, tokens: &mut Cursor<'_>) -> Result<Option<Comprises>, Fault>
-        ensures { Reads ((spec.comprises self.now.names.now self.now.depth).run tokens.old) result tokens.new }
+        ensures { Reads ((spec.comprises self.now.names.now self.now.depth).run tokens.old) result
+            tokens.new }
     {
         if !tokens.sees_word(Reserved::Comprises) {
             return Ok(None);
@@ -222,7 +234,9 @@ impl<'a> Syntax<'a> {
         var: Option<Spot>,
         name: Name,
     ) -> Result<ObjectParameter, Fault>
-        ensures { Reads ((spec.object_typed self.now.names.now self.now.depth var name).run tokens.old) result tokens.new }
+        ensures { Reads
+            ((spec.object_typed self.now.names.now self.now.depth var name).run tokens.old) result
+            tokens.new }
     {
         let colon = tokens.colon()?;
         let ty = self.types().type_tree(tokens)?;
@@ -236,7 +250,9 @@ impl<'a> Syntax<'a> {
 
     #[tactic(auto, unfolding(crate::specs::Names::var_parameter))]
     fn var_parameter(&self, tokens: &mut Cursor<'_>) -> Result<ObjectParameter, Fault>
-        ensures { Reads ((spec.var_parameter self.now.names.now self.now.depth).parser.run tokens.old) result tokens.new }
+        ensures { Reads
+            ((spec.var_parameter self.now.names.now self.now.depth).parser.run tokens.old) result
+            tokens.new }
     {
         let var = tokens.word(Reserved::Var)?;
         let name = tokens.name()?;
@@ -245,7 +261,9 @@ impl<'a> Syntax<'a> {
 
     #[tactic(auto, unfolding(crate::specs::Names::object_parameter))]
     fn object_parameter(&self, tokens: &mut Cursor<'_>) -> Result<ObjectParameter, Fault>
-        ensures { Reads ((spec.object_parameter self.now.names.now self.now.depth).parser.run tokens.old) result tokens.new }
+        ensures { Reads
+            ((spec.object_parameter self.now.names.now self.now.depth).parser.run tokens.old) result
+            tokens.new }
     {
         if tokens.sees_word(Reserved::Var) {
             self.var_parameter(tokens)
@@ -257,7 +275,9 @@ impl<'a> Syntax<'a> {
 
     #[tactic(auto, unfolding(crate::specs::Names::next_object_parameter))]
     fn next_object_parameter(&self, tokens: &mut Cursor<'_>) -> Result<NextObjectParameter, Fault>
-        ensures { Reads ((spec.next_object_parameter self.now.names.now self.now.depth).parser.run tokens.old) result tokens.new }
+        ensures { Reads
+            ((spec.next_object_parameter self.now.names.now self.now.depth).parser.run tokens.old)
+            result tokens.new }
     {
         let comma = tokens.mark(Mark::Comma)?;
         let parameter = self.object_parameter(tokens)?;
@@ -268,7 +288,9 @@ impl<'a> Syntax<'a> {
         &self,
         tokens: &mut Cursor<'_>,
     ) -> Result<List<NextObjectParameter>, Fault>
-        ensures { Reads ((spec.next_object_parameters self.now.names.now self.now.depth).run tokens.old) result tokens.new }
+        ensures { Reads
+            ((spec.next_object_parameters self.now.names.now self.now.depth).run tokens.old) result
+            tokens.new }
     {
         let mut found = List::new(self.alloc);
         for _turn in 0..self.depth {
@@ -282,7 +304,9 @@ impl<'a> Syntax<'a> {
 
     #[tactic(auto, unfolding(crate::specs::Names::object_parameter_list))]
     fn object_parameter_list(&self, tokens: &mut Cursor<'_>) -> Result<ObjectParameterList, Fault>
-        ensures { Reads ((spec.object_parameter_list self.now.names.now self.now.depth).parser.run tokens.old) result tokens.new }
+        ensures { Reads
+            ((spec.object_parameter_list self.now.names.now self.now.depth).parser.run tokens.old)
+            result tokens.new }
     {
         let first = self.object_parameter(tokens)?;
         let others = self.next_object_parameters(tokens)?;
@@ -294,7 +318,8 @@ impl<'a> Syntax<'a> {
         &self,
         tokens: &mut Cursor<'_>,
     ) -> Result<Option<ObjectParameterList>, Fault>
-        ensures { Reads ((spec.maybe_object_list self.now.names.now self.now.depth).run tokens.old) result tokens.new }
+        ensures { Reads ((spec.maybe_object_list self.now.names.now self.now.depth).run tokens.old)
+            result tokens.new }
     {
         if tokens.sees_mark(Mark::CloseParen) {
             Ok(None)
@@ -305,7 +330,8 @@ impl<'a> Syntax<'a> {
 
     #[tactic(auto, unfolding(crate::specs::Names::object_parens))]
     fn object_parens(&self, tokens: &mut Cursor<'_>) -> Result<Option<ObjectParameters>, Fault>
-        ensures { Reads ((spec.object_parens self.now.names.now self.now.depth).run tokens.old) result tokens.new }
+        ensures { Reads ((spec.object_parens self.now.names.now self.now.depth).run tokens.old)
+            result tokens.new }
     {
         let left = tokens.mark(Mark::OpenParen)?;
         let parameters = self.maybe_object_list(tokens)?;
@@ -323,7 +349,8 @@ impl<'a> Syntax<'a> {
         &self,
         tokens: &mut Cursor<'_>,
     ) -> Result<Option<ObjectParameters>, Fault>
-        ensures { Reads ((spec.object_parameters self.now.names.now self.now.depth).run tokens.old) result tokens.new }
+        ensures { Reads ((spec.object_parameters self.now.names.now self.now.depth).run tokens.old)
+            result tokens.new }
     {
         if tokens.sees_mark(Mark::OpenParen) {
             self.object_parens(tokens)

@@ -1,4 +1,5 @@
-//! The parts of declarations that are read by the crate below: expressions, and variables behind their names.
+//! The parts of declarations that are read by the crate below: expressions, and variables behind
+//! their names.
 ghost use Rattle.std.specs.Prelude.{◌≡◌, false};
 ghost use Rattle.fort_reading.specs.Parser.{Reads};
 ghost use Rattle.fort_parse.specs.Runs.{expr_at, variable_at};
@@ -24,7 +25,8 @@ impl<'a> Syntax<'a> {
 
     /// An expression; a new line outside brackets ends it.
     pub fn expression(&self, tokens: &mut Cursor<'_>) -> Result<Expr, Fault>
-        ensures { Reads ((expr_at self.now.names.now self.now.depth false).parser.run tokens.old) result tokens.new }
+        ensures { Reads ((expr_at self.now.names.now self.now.depth false).parser.run tokens.old)
+            result tokens.new }
     {
         self.exprs().expr(tokens, false)
     }
@@ -36,7 +38,8 @@ impl<'a> Syntax<'a> {
         var: Option<Spot>,
         name: Name,
     ) -> Result<Variable, Fault>
-        ensures { Reads ((variable_at self.now.names.now self.now.depth var name).run tokens.old) result tokens.new }
+        ensures { Reads ((variable_at self.now.names.now self.now.depth var name).run tokens.old)
+            result tokens.new }
     {
         self.exprs().variable(tokens, var, name)
     }

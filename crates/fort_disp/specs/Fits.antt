@@ -1,4 +1,6 @@
--- Chapter "Calls": what the code asks of the declarations of a row, argument by argument. The chapter's sentence is `Dispatches` of the machine's definitions, which the public contract cites; these are means to meet it.
+-- Chapter "Calls": what the code asks of the declarations of a row, argument by argument. The
+-- chapter's sentence is `Dispatches` of the machine's definitions, which the public contract cites;
+-- these are means to meet it.
 use Rattle.std.specs.Prelude.{◌≡◌, ◌==◌, ◌≤◌, ◌<◌, ℕ, zero, suc, Bool, true, false, ◌&&◌, List, length, map, Option, Some, None, slice_get}
 use Rattle.fort_base.specs.declared.ids.DeclId.{DeclId}
 use Rattle.fort_base.specs.declared.ty.Ty.{Ty}
@@ -14,11 +16,14 @@ asked (Some decl) f = f decl
 
 -- Whether a declaration is more specific than another one.
 abbrev pub goes_before : Program → DeclId → DeclId → Bool
-goes_before p d e = asked (slice_get p.decls d.0) (λ decl. asked (slice_get p.decls e.0) (λ other. all_below p decl.parameters other.parameters))
+goes_before p d e =
+    asked (slice_get p.decls d.0)
+    (λ decl. asked (slice_get p.decls e.0) (λ other. all_below p decl.parameters other.parameters))
 
 -- Whether values can be passed to a declaration.
 abbrev pub applies : Program → List Value → DeclId → Bool
-applies p vs d = asked (slice_get p.decls d.0) (λ decl. all_below p (map (type_of p) vs) decl.parameters)
+applies p vs d =
+    asked (slice_get p.decls d.0) (λ decl. all_below p (map (type_of p) vs) decl.parameters)
 
 -- Whether the argument in a place is there and has the parameter's type.
 abbrev pub takes : Program → Option Value → Option Ty → Bool
@@ -26,7 +31,8 @@ takes p (Some v) (Some t) = has_type p v t
 takes p (Some v) None = false
 takes p None o = false
 
--- Whether there are as many arguments as parameters, and the first so many have the parameters' types.
+-- Whether there are as many arguments as parameters, and the first so many have the parameters'
+-- types.
 abbrev pub fits_first : Program → List Value → List Ty → ℕ → Bool
 fits_first p vs ts zero = length vs == length ts
 fits_first p vs ts (suc n) = fits_first p vs ts n && takes p (slice_get vs n) (slice_get ts n)
@@ -36,7 +42,8 @@ fits p vs n d = asked (slice_get p.decls d.0) (λ decl. fits_first p vs decl.par
 
 -- Something holds of no declaration of a row from one place on and before another one.
 abbrev pub HoldsNowhere : (DeclId → Bool) → List DeclId → ℕ → ℕ → Type 0
-HoldsNowhere f row from to = (k : ℕ) (d : DeclId) → from ≤ k → k < to → slice_get row k ≡ Some d → f d ≡ false
+HoldsNowhere f row from to = (k : ℕ) (d : DeclId) → from ≤ k → k < to → slice_get row k ≡ Some d
+    → f d ≡ false
 
 -- It holds of the declaration in a place, where there is one.
 abbrev pub HoldsThere : (DeclId → Bool) → List DeclId → ℕ → Type 0
@@ -47,7 +54,8 @@ pub record IsFirst (p : Program) (vs : List Value) (row : List DeclId) (d : Decl
   pub place : ℕ
   pub is_there : slice_get row place ≡ Some d
   pub applicable : applies p vs d ≡ true
-  pub none_before : (k : ℕ) (e : DeclId) → k < place → slice_get row k ≡ Some e → applies p vs e ≡ false
+  pub none_before : (k : ℕ) (e : DeclId) → k < place → slice_get row k ≡ Some e
+      → applies p vs e ≡ false
 
 -- No declaration of a row is.
 abbrev pub IsNone : Program → List Value → List DeclId → Type 0

@@ -18,7 +18,8 @@ use std::sync::ledger::Ledger;
 // Whether the argument in a place is there and has the parameter's type.
 #[inline(always)]
 fn takes(program: &Program, decl: &CoreDecl, values: &List<Value>, place: usize) -> bool
-    ensures { result ≡ takes_it program.now (slice_get values.now place) (slice_get decl.now.parameters place) }
+    ensures { result
+        ≡ takes_it program.now (slice_get values.now place) (slice_get decl.now.parameters place) }
 {
     let value = match values.get(place) {
         None => return false,
@@ -73,7 +74,9 @@ fn next(program: &Program, row: &[DeclId], values: &List<Value>, count: usize, f
 
 // Whether the declaration in a place of a row takes one argument more.
 fn goes_on(program: &Program, row: &[DeclId], values: &List<Value>, place: usize, at: usize) -> bool
-    ensures { (d : DeclId) → slice_get row.now at ≡ Some d → fits_it program.now values.now place d ≡ true → result ≡ fits_it program.now values.now (place + 1) d }
+    ensures { (d : DeclId) → slice_get row.now at ≡ Some d
+        → fits_it program.now values.now place d ≡ true
+        → result ≡ fits_it program.now values.now (place + 1) d }
 {
     let number = match row.get(at) {
         None => return false,
@@ -113,7 +116,8 @@ fn first<L: Ledger>(
     values: &List<Value>,
     steps: &mut Steps<L>,
 ) -> Option<DeclId>
-    ensures first { MatchOption result (IsNone program.now values.now row.now) (IsFirst program.now values.now row.now) }
+    ensures first { MatchOption result (IsNone program.now values.now row.now)
+        (IsFirst program.now values.now row.now) }
     ensures steps { steps.new ≤ steps.old + length values.now + 1 }
 {
     steps.tick();
@@ -138,7 +142,8 @@ pub fn found<L: Ledger>(
 ) -> Option<DeclId>
     requires rows { AreRows tables.now.program.now tables.now.program.now.sets tables.now.rows }
     requires through { GoesThrough tables.now.program.now }
-    ensures runs { (number : DeclId) → (decl : CoreDecl) → Dispatches tables.now.program.now set values.now number decl → result ≡ Some number }
+    ensures runs { (number : DeclId) → (decl : CoreDecl)
+        → Dispatches tables.now.program.now set values.now number decl → result ≡ Some number }
     ensures applicable { MatchOption result
         ((number : DeclId) → (decl : CoreDecl) → IsApplicable tables.now.program.now set (map (type_of tables.now.program.now) values.now) number decl → ⊥)
         (λ number. (decl : CoreDecl) × IsApplicable tables.now.program.now set (map (type_of tables.now.program.now) values.now) number decl) }
@@ -163,8 +168,10 @@ pub fn pick<L: Ledger>(
 ) -> DeclId
     requires rows { AreRows tables.now.program.now tables.now.program.now.sets tables.now.rows }
     requires through { GoesThrough tables.now.program.now }
-    requires runs { (number : DeclId) × (decl : CoreDecl) × Dispatches tables.now.program.now set values.now number decl }
-    ensures runs { (decl : CoreDecl) × Dispatches tables.now.program.now set values.now result decl }
+    requires runs { (number : DeclId) × (decl : CoreDecl)
+        × Dispatches tables.now.program.now set values.now number decl }
+    ensures runs { (decl : CoreDecl)
+        × Dispatches tables.now.program.now set values.now result decl }
     ensures steps { steps.new ≤ steps.old + length values.now + 1 }
 {
     found(tables, set, values, steps).unwrap()

@@ -17,8 +17,10 @@ use std::sync::ledger::{Blank, Ledger};
 /// "Calls".
 pub fn running<'a>(tables: &Tables<'a>, set: SetId, values: &List<Value>) -> &'a CoreDecl
     requires tables { MayPick tables.now }
-    requires runs { (number : DeclId) × (decl : CoreDecl) × Dispatches tables.now.program.now set values.now number decl }
-    ensures { (number : DeclId) × Dispatches tables.now.program.now set values.now number result.now }
+    requires runs { (number : DeclId) × (decl : CoreDecl)
+        × Dispatches tables.now.program.now set values.now number decl }
+    ensures { (number : DeclId)
+        × Dispatches tables.now.program.now set values.now number result.now }
 {
     let number = picked::<Brand>(tables, set, values, Blank::new(1));
     match tables.program.decls.get(number.0 as usize) {
@@ -33,7 +35,8 @@ fn picked<L: Ledger>(tables: &Tables, set: SetId, values: &List<Value>, blank: B
     requires parts { blank.parts ≡ L.parts }
     requires some { 0 < blank.parts }
     requires tables { MayPick tables.now }
-    requires runs { (number : DeclId) × (decl : CoreDecl) × Dispatches tables.now.program.now set values.now number decl }
+    requires runs { (number : DeclId) × (decl : CoreDecl)
+        × Dispatches tables.now.program.now set values.now number decl }
     ensures { (decl : CoreDecl) × Dispatches tables.now.program.now set values.now result decl }
 {
     let mut steps = Steps::<L>::open(blank);

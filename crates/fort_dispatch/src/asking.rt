@@ -10,12 +10,14 @@ use fort_value::{all_have, are_below};
 
 // Whether values can be passed to a declaration.
 fn applies(program: &Program, values: &List<Value>, decl: &CoreDecl) -> bool
-    ensures { result ≡ all_below program.now (map (type_of program.now) values.now) decl.now.parameters }
+    ensures { result
+        ≡ all_below program.now (map (type_of program.now) values.now) decl.now.parameters }
 {
     all_have(program, values, &decl.parameters)
 }
 
-// Whether a declaration is the one of a number, or isn't applicable, or is less specific than that one.
+// Whether a declaration is the one of a number, or isn't applicable, or is less specific than that
+// one.
 fn gives_way(
     program: &Program,
     values: &List<Value>,
@@ -23,7 +25,8 @@ fn gives_way(
     number: DeclId,
     other: DeclId,
 ) -> bool
-    ensures { result ≡ gives_way_to program.now (map (type_of program.now) values.now) decl.now number other }
+    ensures { result
+        ≡ gives_way_to program.now (map (type_of program.now) values.now) decl.now number other }
 {
     if other.0 == number.0 {
         return true;
@@ -45,7 +48,9 @@ fn is_over(
     decl: &CoreDecl,
     number: DeclId,
 ) -> bool
-    ensures { result ≡ list_all (gives_way_to program.now (map (type_of program.now) values.now) decl.now number) members.now }
+    ensures { result
+        ≡ list_all (gives_way_to program.now (map (type_of program.now) values.now) decl.now number)
+        members.now }
 {
     for other in members {
         if !gives_way(program, values, decl, number, *other) {
@@ -57,7 +62,8 @@ fn is_over(
 
 /// Whether a declaration of a set is applicable, and more specific than each other applicable one.
 pub fn wins(program: &Program, members: &[DeclId], values: &List<Value>, number: DeclId) -> bool
-    ensures { result ≡ wins_among program.now members.now (map (type_of program.now) values.now) number }
+    ensures { result
+        ≡ wins_among program.now members.now (map (type_of program.now) values.now) number }
 {
     match program.decls.get(number.0 as usize) {
         None => false,
@@ -75,7 +81,8 @@ pub fn is_no_rival(
     number: DeclId,
     other: DeclId,
 ) -> bool
-    ensures { result ≡ is_other program.now members.now (map (type_of program.now) values.now) number other }
+    ensures { result
+        ≡ is_other program.now members.now (map (type_of program.now) values.now) number other }
 {
     other.0 == number.0 || !wins(program, members, values, other)
 }

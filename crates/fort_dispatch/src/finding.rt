@@ -13,7 +13,9 @@ use fort_core::{CoreDecl, Program, Value};
 
 // The first declaration that wins.
 fn winner(program: &Program, members: &[DeclId], values: &List<Value>) -> Option<DeclId>
-    ensures { result ≡ find (wins_among program.now members.now (map (type_of program.now) values.now)) members.now }
+    ensures { result
+        ≡ find (wins_among program.now members.now (map (type_of program.now) values.now))
+        members.now }
 {
     for number in members {
         if wins(program, members, values, *number) {
@@ -25,7 +27,9 @@ fn winner(program: &Program, members: &[DeclId], values: &List<Value>) -> Option
 
 // Whether no other declaration wins.
 fn is_sole(program: &Program, members: &[DeclId], values: &List<Value>, number: DeclId) -> bool
-    ensures { result ≡ list_all (is_other program.now members.now (map (type_of program.now) values.now) number) members.now }
+    ensures { result
+        ≡ list_all (is_other program.now members.now (map (type_of program.now) values.now) number)
+        members.now }
 {
     for other in members {
         if !is_no_rival(program, members, values, number, *other) {
@@ -35,8 +39,9 @@ fn is_sole(program: &Program, members: &[DeclId], values: &List<Value>, number: 
     true
 }
 
-/// The declaration that a call of a set runs on these values: the one that is applicable to them and more specific than each
-/// other applicable one, or `None` where there is none or more than one. It takes no memory. The chapter "Calls".
+/// The declaration that a call of a set runs on these values: the one that is applicable to them
+/// and more specific than each other applicable one, or `None` where there is none or more than
+/// one. It takes no memory. The chapter "Calls".
 pub fn dispatched<'a>(
     program: &'a Program,
     set: SetId,

@@ -11,7 +11,8 @@ use Rattle.fort_effects.specs.Cells.{cell}
 use Rattle.fort_effects.specs.Levels.{Levels, seen, added}
 use Rattle.fort_effects.specs.declared.cell.Cell.{Cell}
 
--- The innermost machine does something on the store that it sees: the store suits it, and nothing else is done.
+-- The innermost machine does something on the store that it sees: the store suits it, and nothing
+-- else is done.
 pub record Adds (d : Effect) (old new : Levels) : Type 0 where
   pub fits : FitsAll d (seen old)
   pub is_new : new ≡ added d old

@@ -1,4 +1,5 @@
--- Chapter "Store and effects": the code's cell of a location as the machine's, and what stands of it after an attempt.
+-- Chapter "Store and effects": the code's cell of a location as the machine's, and what stands of
+-- it after an attempt.
 use Rattle.std.specs.Prelude.{◌≡◌, Option, Some, None}
 use Rattle.fort_core.specs.declared.value.Value.{Value}
 use Rattle.fort_machine.specs.Cells as machine

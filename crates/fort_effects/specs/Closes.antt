@@ -37,8 +37,10 @@ pub record JoinsAll (c : Closing) (parent : Layer) (cells : CellMap) (whole : La
   pub same_cost : whole.cost ≡ parent.cost
 
 -- The last of an attempt's cells, if there is one, is joined to those of the one round it.
-pub record JoinsLast (c : Closing) (old : Layer) (cells : CellMap) (new : Layer) (rest : CellMap) : Type 0 where
-  pub same_join : (k : ℕ) → joined (cells_of new k) (closed_at c rest k) ≡ joined (cells_of old k) (closed_at c cells k)
+pub record JoinsLast (c : Closing) (old : Layer) (cells : CellMap) (new : Layer)
+    (rest : CellMap) : Type 0 where
+  pub same_join : (k : ℕ)
+      → joined (cells_of new k) (closed_at c rest k) ≡ joined (cells_of old k) (closed_at c cells k)
   pub same_output : new.output ≡ old.output
   pub same_cost : new.cost ≡ old.cost
   pub fewer : index_map_len rest ≡ index_map_len cells - 1
@@ -52,7 +54,9 @@ abbrev pub SettlesAll : Closing → Store → CellMap → Store → Type 0
 SettlesAll c store cells new = (k : ℕ) → held new k ≡ left_at (closed_at c cells k) (held store k)
 
 -- The last of an attempt's cells, if there is one, is done to a store.
-pub record SettlesLast (c : Closing) (old : Store) (cells : CellMap) (new : Store) (rest : CellMap) : Type 0 where
-  pub same_left : (k : ℕ) → left_at (closed_at c rest k) (held new k) ≡ left_at (closed_at c cells k) (held old k)
+pub record SettlesLast (c : Closing) (old : Store) (cells : CellMap) (new : Store)
+    (rest : CellMap) : Type 0 where
+  pub same_left : (k : ℕ)
+      → left_at (closed_at c rest k) (held new k) ≡ left_at (closed_at c cells k) (held old k)
   pub suits : SuitsAll c new rest
   pub fewer : index_map_len rest ≡ index_map_len cells - 1

@@ -1,4 +1,5 @@
--- Chapter "Store and effects": what the root's run did and what each open attempt did, as the machine has it. The code keeps a store and a map of cells for each attempt.
+-- Chapter "Store and effects": what the root's run did and what each open attempt did, as the
+-- machine has it. The code keeps a store and a map of cells for each attempt.
 use Rattle.std.specs.Prelude.{◌≡◌, ℕ, ◌+◌, List, [], ◌∷◌, ◌++◌, nat_eq, Option, Some, None}
 use Rattle.indexmap.specs.IndexMap.{get}
 use Rattle.fort_core.specs.declared.program.Program.{Program}
@@ -22,7 +23,8 @@ cells_of l k = cell_of (get nat_eq l.cells k)
 abbrev pub effect_of : Layer → Effect
 effect_of l = record { cells = cells_of l; output = l.output; cost = l.cost }
 
--- A machine's levels: the root's store, what the root's run printed and cost, and what each open attempt did, the innermost one first.
+-- A machine's levels: the root's store, what the root's run printed and cost, and what each open
+-- attempt did, the innermost one first.
 pub record Levels : Type 0 where
   pub store : Store
   pub output : List ℕ
@@ -41,7 +43,13 @@ attempts_of (Some top) below = effect_of top ∷ inward below []
 
 -- The levels that layers stand for.
 abbrev pub levels_of : Layers → Levels
-levels_of l = record { store = held l.store; output = l.output; cost = l.cost; attempts = attempts_of l.top l.below }
+levels_of l =
+    record {
+      store = held l.store;
+      output = l.output;
+      cost = l.cost;
+      attempts = attempts_of l.top l.below;
+    }
 
 -- A program's levels before its run.
 abbrev pub first_levels : Program → Levels
@@ -63,15 +71,23 @@ seen v = through v.store v.attempts
 
 -- The innermost attempt, or the root's run where there is none, with something done more.
 abbrev pub added_to : Effect → Levels → List Effect → Levels
-added_to d v [] = record { store = afterwards d v.store; output = v.output ++ d.output; cost = v.cost + d.cost; attempts = [] }
-added_to d v (e ∷ es) = record { store = v.store; output = v.output; cost = v.cost; attempts = both e d ∷ es }
+added_to d v [] =
+    record {
+      store = afterwards d v.store;
+      output = v.output ++ d.output;
+      cost = v.cost + d.cost;
+      attempts = [];
+    }
+added_to d v (e ∷ es) =
+    record { store = v.store; output = v.output; cost = v.cost; attempts = both e d ∷ es }
 
 abbrev pub added : Effect → Levels → Levels
 added d v = added_to d v v.attempts
 
 -- A new attempt within the innermost one.
 abbrev pub opened : Levels → Levels
-opened v = record { store = v.store; output = v.output; cost = v.cost; attempts = idle ∷ v.attempts }
+opened v =
+    record { store = v.store; output = v.output; cost = v.cost; attempts = idle ∷ v.attempts }
 
 -- One location is touched, at a cost.
 abbrev pub touching : ℕ → machine.Cell → ℕ → Effect
@@ -95,7 +111,8 @@ text_after Aborted output text = output
 
 -- The root's levels once its only attempt ended so.
 abbrev pub root_closed : Closing → Store → List ℕ → ℕ → Effect → Levels
-root_closed c s output cost e = added_to (closing c e) (record { store = s; output = output; cost = cost; attempts = [] }) []
+root_closed c s output cost e =
+    added_to (closing c e) (record { store = s; output = output; cost = cost; attempts = [] }) []
 
 -- An attempt is open, and the store below it suits what it did.
 abbrev pub IsOpen : Store → List Effect → Type 0

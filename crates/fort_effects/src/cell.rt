@@ -9,7 +9,8 @@ use fort_core::Value;
 /// What was done at one location; where nothing was there is no cell.
 #[derive(Drop)]
 pub enum Cell {
-    /// The location was there: the value that was read while no write of its own stood, and the value last written.
+    /// The location was there: the value that was read while no write of its own stood, and the
+    /// value last written.
     Found(Option<Value>, Option<Value>),
     /// The location is new: its value, or none where an abort took it away.
     Made(Option<Value>),
@@ -49,7 +50,8 @@ fn share_some(value: &Option<Value>) -> Result<Option<Value>, Memory>
 
 // The later of two writes.
 fn later(first: &Option<Value>, second: Option<Value>) -> Result<Option<Value>, Memory>
-    ensures { IfOk result (λ value. value ≡ Rattle.fort_machine.specs.Cells.later first.now second) }
+    ensures { IfOk result (λ value. value
+        ≡ Rattle.fort_machine.specs.Cells.later first.now second) }
 {
     match second {
         None => share_some(first),
@@ -63,7 +65,8 @@ fn first_read(
     now: &Option<Value>,
     next: Option<Value>,
 ) -> Result<Option<Value>, Memory>
-    ensures { IfOk result (λ value. value ≡ Rattle.fort_machine.specs.Cells.first_read first.now now.now next) }
+    ensures { IfOk result (λ value. value
+        ≡ Rattle.fort_machine.specs.Cells.first_read first.now now.now next) }
 {
     match first {
         Some(value) => Ok(Some(value.share()?)),

@@ -17,7 +17,8 @@ use indexmap::IndexMap;
 #[tactic(auto, using(crate::proofs::Closed::merges))]
 pub(crate) fn merged(parent: Layer, layer: Layer, closing: Closing) -> Result<Layer, Memory>
     requires { parent.cost + 1 + layer.cost < 2 ^ 64 }
-    ensures { IfOk result (λ whole. effect_of whole ≡ both (effect_of parent) (closed_by closing (effect_of layer))) }
+    ensures { IfOk result (λ whole. effect_of whole
+        ≡ both (effect_of parent) (closed_by closing (effect_of layer))) }
 {
     let Layer {
         cells,
@@ -128,8 +129,9 @@ fn settle_last(
 }
 
 impl Layers {
-    /// Ends the innermost attempt: what it did, by how it ended, is done by the machine round it, and 1 is paid for the
-    /// attempt itself. It takes time for each location that the attempt touched, and for no other one.
+    /// Ends the innermost attempt: what it did, by how it ended, is done by the machine round it,
+    /// and 1 is paid for the attempt itself. It takes time for each location that the attempt
+    /// touched, and for no other one.
     ///
     /// # Errors
     ///
@@ -178,7 +180,8 @@ fn close_root(
 ) -> Result<Layers, Memory>
     requires fits { FitsAll (effect_of layer) (held store) }
     requires room { cost + 1 + layer.cost < 2 ^ 64 }
-    ensures { IfOk result (λ layers. levels_of layers ≡ root_closed closing (held store) output cost (effect_of layer)) }
+    ensures { IfOk result (λ layers. levels_of layers
+        ≡ root_closed closing (held store) output cost (effect_of layer)) }
 {
     let below = List::new(layer.output.allocator());
     let Layer {

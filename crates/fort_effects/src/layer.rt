@@ -10,8 +10,8 @@ use fort_base::{Bytes, List, Loc, Memory};
 use indexmap::IndexMap;
 use std::alloc::Global;
 
-/// What an attempt did so far, over the store that it began from: a cell for each location that it touched, what it printed
-/// and what it cost.
+/// What an attempt did so far, over the store that it began from: a cell for each location that it
+/// touched, what it printed and what it cost.
 ///
 /// It is as large as the number of locations that the attempt touched.
 #[derive(Drop)]
@@ -47,7 +47,8 @@ impl Layer {
     // One thing more at one location. Where memory is wanting the cells are as they were.
     #[tactic(auto, using(crate::proofs::Touched::joins_here))]
     pub(crate) fn join(&mut self, loc: Loc, more: Cell) -> Result<(), Memory>
-        ensures ok { OnOk result (cells_of self.new ≡ (λ k. joined (cells_of self.old k) (only_at loc.0 (cell more) k))) }
+        ensures ok { OnOk result (cells_of self.new
+            ≡ (λ k. joined (cells_of self.old k) (only_at loc.0 (cell more) k))) }
         ensures err { OnErr result (cells_of self.new ≡ cells_of self.old) }
         ensures output { self.new.output ≡ self.old.output }
         ensures cost { self.new.cost ≡ self.old.cost }

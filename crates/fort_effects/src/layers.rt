@@ -15,14 +15,16 @@ use fort_core::{Program, Value};
 use fort_store::Store;
 use std::alloc::Global;
 
-/// What a run did so far, and the attempts that are open in it: the root's store with what the root's run printed and cost,
-/// and a layer for each attempt that isn't finished, in which is what it did over the store below.
+/// What a run did so far, and the attempts that are open in it: the root's store with what the
+/// root's run printed and cost, and a layer for each attempt that isn't finished, in which is what
+/// it did over the store below.
 #[derive(Drop)]
 pub struct Layers {
     pub(crate) store: Store,
     pub(crate) output: Bytes,
     pub(crate) cost: u64,
-    // The innermost attempt, and those round it, the outermost one first; without the innermost one they don't count.
+    // The innermost attempt, and those round it, the outermost one first; without the innermost one
+    // they don't count.
     pub(crate) top: Option<Layer>,
     pub(crate) below: List<Layer>,
 }
@@ -52,8 +54,8 @@ impl Layers {
         })
     }
 
-    /// The value at a location as the innermost machine sees it, or `None` where the location isn't there; it takes no
-    /// memory, and constant time for each open attempt on average.
+    /// The value at a location as the innermost machine sees it, or `None` where the location isn't
+    /// there; it takes no memory, and constant time for each open attempt on average.
     pub fn look(&self, loc: Loc) -> Option<&Value>
         ensures { option_copied result ≡ seen (levels_of self.now) loc.0 }
     {
@@ -67,8 +69,8 @@ impl Layers {
         }
     }
 
-    /// Reads a location for the innermost machine, at the cost of 1: its value, or `None` where it isn't there, and then
-    /// nothing is done.
+    /// Reads a location for the innermost machine, at the cost of 1: its value, or `None` where it
+    /// isn't there, and then nothing is done.
     ///
     /// # Errors
     ///
@@ -86,8 +88,8 @@ impl Layers {
         Ok(Some(value))
     }
 
-    /// Writes a location for the innermost machine, at the cost of 1; or it answers `false` where the location isn't there,
-    /// and then nothing is done.
+    /// Writes a location for the innermost machine, at the cost of 1; or it answers `false` where
+    /// the location isn't there, and then nothing is done.
     ///
     /// # Errors
     ///
@@ -111,7 +113,8 @@ impl Layers {
     #[tactic(auto, using(crate::proofs::Touched::printed_root, crate::proofs::Touched::printed_top))]
     pub fn print(&mut self, text: Bytes, cost: u64) -> Result<(), Memory>
         requires room { spent (levels_of self.old) + cost < 2 ^ 64 }
-        ensures ok { OnOk result (Adds (printed text cost) (levels_of self.old) (levels_of self.new)) }
+        ensures ok { OnOk result
+            (Adds (printed text cost) (levels_of self.old) (levels_of self.new)) }
         ensures err { OnErr result (levels_of self.new ≡ levels_of self.old) }
     {
         match &mut self.top {
@@ -152,7 +155,8 @@ impl Layers {
         })
     }
 
-    /// What the root's run printed and cost, without the attempts that are open; it takes no memory.
+    /// What the root's run printed and cost, without the attempts that are open; it takes no
+    /// memory.
     pub fn account(self) -> Account
         ensures output { result.output ≡ (levels_of self).output }
         ensures cost { result.cost ≡ (levels_of self).cost }
@@ -172,7 +176,8 @@ impl Layers {
     fn note_read(&mut self, loc: Loc, value: &Value) -> Result<(), Memory>
         requires there { seen (levels_of self.old) loc.0 ≡ Some value.now }
         requires room { spent (levels_of self.old) + 1 < 2 ^ 64 }
-        ensures ok { OnOk result (Adds (reading loc.0 value.now) (levels_of self.old) (levels_of self.new)) }
+        ensures ok { OnOk result
+            (Adds (reading loc.0 value.now) (levels_of self.old) (levels_of self.new)) }
         ensures err { OnErr result (levels_of self.new ≡ levels_of self.old) }
     {
         let read = value.share()?;
@@ -196,7 +201,8 @@ impl Layers {
     pub(crate) fn touch(&mut self, loc: Loc, change: Cell, cost: u64) -> Result<(), Memory>
         requires fits { Fits (cell change) (seen (levels_of self.old) loc.0) }
         requires room { spent (levels_of self.old) + cost < 2 ^ 64 }
-        ensures ok { OnOk result (levels_of self.new ≡ added (touching loc.0 (cell change) cost) (levels_of self.old)) }
+        ensures ok { OnOk result (levels_of self.new
+            ≡ added (touching loc.0 (cell change) cost) (levels_of self.old)) }
         ensures err { OnErr result (levels_of self.new ≡ levels_of self.old) }
     {
         match &mut self.top {
@@ -245,7 +251,8 @@ fn look_below<'a>(below: &'a [Layer], store: &'a Store, loc: Loc) -> Option<&'a 
 // What was done at a location is done to a store.
 pub(crate) fn settle(store: &mut Store, loc: Loc, change: Cell) -> Result<(), Memory>
     requires { Fits (cell change) (held store.old loc.0) }
-    ensures ok { OnOk result (held store.new ≡ (λ k. left_at (only_at loc.0 (cell change) k) (held store.old k))) }
+    ensures ok { OnOk result (held store.new
+        ≡ (λ k. left_at (only_at loc.0 (cell change) k) (held store.old k))) }
     ensures err { OnErr result (held store.new ≡ held store.old) }
 {
     match change {

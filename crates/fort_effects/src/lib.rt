@@ -1,5 +1,5 @@
-//! What a run and the attempts in it have done to the store: cells of locations, in layers over the store. The chapter
-//! "Store and effects" of docs/MACHINE.md.
+//! What a run and the attempts in it have done to the store: cells of locations, in layers over the
+//! store. The chapter "Store and effects" of docs/MACHINE.md.
 #![tactic(auto)]
 
 mod cell;

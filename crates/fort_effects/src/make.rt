@@ -14,8 +14,8 @@ use fort_core::Value;
 use fort_store::Store;
 
 impl Layers {
-    /// Puts values into consecutive locations that aren't there yet, the first of a number, for the innermost machine, at a
-    /// cost.
+    /// Puts values into consecutive locations that aren't there yet, the first of a number, for the
+    /// innermost machine, at a cost.
     ///
     /// # Errors
     ///
@@ -25,7 +25,8 @@ impl Layers {
         requires free { AreFree first.0 (length values.now) (seen (levels_of self.old)) }
         requires bounded { first.0 + length values.now ≤ 2 ^ 64 }
         requires room { spent (levels_of self.old) + cost < 2 ^ 64 }
-        ensures { OnOk result (Adds (making first.0 values.now cost) (levels_of self.old) (levels_of self.new)) }
+        ensures { OnOk result
+            (Adds (making first.0 values.now cost) (levels_of self.old) (levels_of self.new)) }
     {
         match &mut self.top {
             None => {
@@ -45,7 +46,8 @@ impl Layers {
 // New locations of an attempt.
 fn make_in_layer(layer: &mut Layer, at: u64, values: &List<Value>) -> Result<(), Memory>
     requires { at + length values.now ≤ 2 ^ 64 }
-    ensures cells { OnOk result (cells_of layer.new ≡ (λ k. joined (cells_of layer.old k) (made_from at values.now k))) }
+    ensures cells { OnOk result (cells_of layer.new
+        ≡ (λ k. joined (cells_of layer.old k) (made_from at values.now k))) }
     ensures output { layer.new.output ≡ layer.old.output }
     ensures cost { layer.new.cost ≡ layer.old.cost }
 {
@@ -59,7 +61,8 @@ fn make_in_layer(layer: &mut Layer, at: u64, values: &List<Value>) -> Result<(),
 #[tactic(auto, using(crate::proofs::Made::make_nothing, crate::proofs::Made::make_something))]
 fn make_value(layer: &mut Layer, at: u64, values: &List<Value>, i: usize) -> Result<(), Memory>
     requires { at + length values.now ≤ 2 ^ 64 }
-    ensures cells { IfOk result (λ _. MadeAt (at + i) (slice_get values.now i) (cells_of layer.old) (cells_of layer.new)) }
+    ensures cells { IfOk result
+        (λ _. MadeAt (at + i) (slice_get values.now i) (cells_of layer.old) (cells_of layer.new)) }
     ensures output { layer.new.output ≡ layer.old.output }
     ensures cost { layer.new.cost ≡ layer.old.cost }
 {
@@ -76,7 +79,8 @@ fn make_value(layer: &mut Layer, at: u64, values: &List<Value>, i: usize) -> Res
 // New locations of the root.
 fn make_in_store(store: &mut Store, at: u64, values: &List<Value>) -> Result<(), Memory>
     requires { at + length values.now ≤ 2 ^ 64 }
-    ensures { OnOk result (held store.new ≡ (λ k. left_at (made_from at values.now k) (held store.old k))) }
+    ensures { OnOk result (held store.new
+        ≡ (λ k. left_at (made_from at values.now k) (held store.old k))) }
 {
     for i in 0..values.len() {
         put_value(store, at, values, i)?;
@@ -88,7 +92,8 @@ fn make_in_store(store: &mut Store, at: u64, values: &List<Value>) -> Result<(),
 #[tactic(auto, using(crate::proofs::Made::put_nothing, crate::proofs::Made::put_something))]
 fn put_value(store: &mut Store, at: u64, values: &List<Value>, i: usize) -> Result<(), Memory>
     requires { at + length values.now ≤ 2 ^ 64 }
-    ensures { IfOk result (λ _. PutAt (at + i) (slice_get values.now i) (held store.old) (held store.new)) }
+    ensures { IfOk result
+        (λ _. PutAt (at + i) (slice_get values.now i) (held store.old) (held store.new)) }
 {
     match values.get(i) {
         None => Ok(()),

@@ -12,8 +12,8 @@ use fort_core::Value;
 use std::alloc::Global;
 
 impl Layers {
-    /// What the innermost attempt read while no write of its own stood, with the values, in rising order of the locations,
-    /// each once.
+    /// What the innermost attempt read while no write of its own stood, with the values, in rising
+    /// order of the locations, each once.
     ///
     /// # Errors
     ///
@@ -58,7 +58,8 @@ impl Layer {
     // A mark for the location of a number among the cells, if it was read.
     #[tactic(auto, using(crate::proofs::InOrder::noted_none, crate::proofs::InOrder::noted_some))]
     fn note_at(&self, marks: &mut List<(Loc, Value)>, at: usize) -> Result<(), Memory>
-        ensures { IfOk result (λ _. MarksNoted marks.old (slice_get self.now.cells.entries at) marks.new) }
+        ensures { IfOk result
+            (λ _. MarksNoted marks.old (slice_get self.now.cells.entries at) marks.new) }
     {
         match self.cells.get_index(at) {
             None => Ok(()),

@@ -32,8 +32,9 @@ fn atoms(alloc: Global, elements: &[Element]) -> Result<List<Element>, Memory>
 
 /// The grouping of elements that stand side by side, at least one.
 ///
-/// It refuses 606 as `loose` of fort_juxt does. A postfix, which no juxtaposition of a component has, counts as an atom. It answers
-/// `Memory` where memory is wanting. The chapter "Juxtaposition".
+/// It refuses 606 as `loose` of fort_juxt does. A postfix, which no juxtaposition of a component
+/// has, counts as an atom. It answers `Memory` where memory is wanting. The chapter
+/// "Juxtaposition".
 #[tactic(auto, using(crate::proofs::Atoms::are_atoms, crate::proofs::Atoms::as_many, crate::proofs::Atoms::grouping_is))]
 pub fn grouping(alloc: Global, elements: &[Element]) -> Result<Grouping, CheckFault>
     requires { 0 < length elements.now }

@@ -1,4 +1,5 @@
-//! The elements of runs and juxtapositions: what goes together next, and how all are grouped, as the judge of typing has it.
+//! The elements of runs and juxtapositions: what goes together next, and how all are grouped, as
+//! the judge of typing has it.
 #![tactic(auto)]
 
 mod asked;

@@ -34,7 +34,8 @@ fn is_argument(atom: &Element, after: &[Element]) -> bool
     atom.parens && !begins_with_postfix(after)
 }
 
-/// What comes of a function with this number and of the atom that directly follows it, where both stand first.
+/// What comes of a function with this number and of the atom that directly follows it, where both
+/// stand first.
 fn applied(at: usize, rest: &[Element]) -> Result<Tight, CheckFault>
     ensures { result ≡ applying [] (Some (at, rest.now)) }
 {
@@ -49,7 +50,8 @@ fn applied(at: usize, rest: &[Element]) -> Result<Tight, CheckFault>
     }
 }
 
-/// The next rewriting of elements that begin with a postfix: of a function that an atom directly follows, or there is none.
+/// The next rewriting of elements that begin with a postfix: of a function that an atom directly
+/// follows, or there is none.
 #[tactic(auto, using(crate::proofs::Places::found_next, crate::proofs::Places::over_next))]
 fn behind_postfix(elements: &[Element]) -> Result<Tight, CheckFault>
     requires { postfix_first elements.now ≡ true }
@@ -70,8 +72,9 @@ fn behind_postfix(elements: &[Element]) -> Result<Tight, CheckFault>
 
 /// The next rewriting of a run's elements.
 ///
-/// It refuses 606 and 607 as `tight` of fort_juxt does. Where a postfix stands first, which no run of a component has, that one applies to
-/// nothing; `Whole` says that nothing is rewritten. It takes no memory. The chapter "Juxtaposition".
+/// It refuses 606 and 607 as `tight` of fort_juxt does. Where a postfix stands first, which no run
+/// of a component has, that one applies to nothing; `Whole` says that nothing is rewritten. It
+/// takes no memory. The chapter "Juxtaposition".
 #[tactic(auto, using(crate::proofs::Places::nothing_left))]
 pub fn rewriting(elements: &[Element]) -> Result<Tight, CheckFault>
     ensures { result ≡ next_rewriting elements.now }

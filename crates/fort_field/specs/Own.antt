@@ -1,4 +1,5 @@
--- The chapter "Members", fields: the fields that a declaration declares, in its order. The code walks the declarations once.
+-- The chapter "Members", fields: the fields that a declaration declares, in its order. The code
+-- walks the declarations once.
 use Rattle.std.specs.Prelude.{Bool, true, false, ◌||◌, is_some, List, [], ◌∷◌, ◌++◌, Option, Some, None, map, replicate}
 use Rattle.std.specs.List.{flat_map}
 use Rattle.fort_base.specs.declared.refusal.Place.{Place}
@@ -49,14 +50,21 @@ variable_field list names v = record {
 
 -- A value parameter of an object is a field.
 abbrev pub parameter_field : List Spelling → List Spelling → ObjectParameter → Field
-parameter_field list names p = record { name = p.name.id; place = first_place p.var p.name; ty = written list names p.ty; mutable = is_some p.var }
+parameter_field list names p =
+    record {
+      name = p.name.id;
+      place = first_place p.var p.name;
+      ty = written list names p.ty;
+      mutable = is_some p.var;
+    }
 
 abbrev pub next_field : List Spelling → List Spelling → NextObjectParameter → Field
 next_field list names next = parameter_field list names next.parameter
 
 abbrev pub list_fields : List Spelling → List Spelling → Option ObjectParameterList → List Field
 list_fields list names None = []
-list_fields list names (Some l) = parameter_field list names l.first ∷ map (next_field list names) l.others
+list_fields list names (Some l) =
+    parameter_field list names l.first ∷ map (next_field list names) l.others
 
 abbrev pub parameter_fields : List Spelling → List Spelling → Option ObjectParameters → List Field
 parameter_fields list names None = []
@@ -72,18 +80,22 @@ object_field list names entry = object_member_field list names entry.member
 
 -- A trait's field can't be assigned to.
 abbrev pub trait_member_field : List Spelling → List Spelling → TraitMember → List Field
-trait_member_field list names (trait_member.Field name colon ty) = record { name = name.id; place = name.spot.place; ty = written list names ty; mutable = false } ∷ []
+trait_member_field list names (trait_member.Field name colon ty) =
+    record { name = name.id; place = name.spot.place; ty = written list names ty; mutable = false }
+    ∷ []
 trait_member_field list names (trait_member.Method m) = []
 
 abbrev pub trait_field : List Spelling → List Spelling → TraitEntry → List Field
 trait_field list names entry = trait_member_field list names entry.member
 
--- The fields that a declaration declares, where it declares a type: an object's parameters stand before the fields of its body.
+-- The fields that a declaration declares, where it declares a type: an object's parameters stand
+-- before the fields of its body.
 abbrev pub own_of : List Spelling → List Spelling → Declaration → List (List Field)
 own_of list names (declaration.Variable v) = []
 own_of list names (declaration.Function f) = []
 own_of list names (declaration.Trait t) = flat_map (trait_field list names) t.members ∷ []
-own_of list names (declaration.Object o) = (parameter_fields list names o.parameters ++ flat_map (object_field list names) o.members) ∷ []
+own_of list names (declaration.Object o) =
+    (parameter_fields list names o.parameters ++ flat_map (object_field list names) o.members) ∷ []
 
 abbrev pub declared_own : List Spelling → List Spelling → Declared → List (List Field)
 declared_own list names d = own_of list names d.declaration
@@ -92,9 +104,11 @@ declared_own list names d = own_of list names d.declaration
 abbrev pub types_of : Component → List Spelling
 types_of c = all_types c.names (heads_of c)
 
--- The fields that each type of a component declares, by the types' numbers; a built-in type declares none.
+-- The fields that each type of a component declares, by the types' numbers; a built-in type
+-- declares none.
 abbrev pub own_fields : Component → List (List Field)
-own_fields c = replicate TYPE_COUNT [] ++ flat_map (declared_own (types_of c) c.names) c.declarations
+own_fields c =
+    replicate TYPE_COUNT [] ++ flat_map (declared_own (types_of c) c.names) c.declarations
 
 -- The variables at the top of a component, in source order.
 abbrev pub variables_at : List Spelling → List Spelling → Declaration → List Field

@@ -1,4 +1,5 @@
--- The chapter "Members", its two rules. The code asks 451 of each type, and then 452 of each field of a trait and each type below it.
+-- The chapter "Members", its two rules. The code asks 451 of each type, and then 452 of each field
+-- of a trait and each type below it.
 use Rattle.std.specs.Prelude.{◌≡◌, ◌≢◌, ◌⊎◌, ◌<◌, ◌≤◌, ◌+◌, ◌-◌, ℕ, List, length, slice_get, Some}
 use Rattle.fort_base.specs.declared.rules.TheConstants.{DUPLICATE_MEMBER, FIELD_NOT_BELOW}
 use Rattle.fort_base.specs.declared.refusal.CheckFault.{CheckFault}
@@ -17,15 +18,19 @@ use Rattle.fort_field.specs.Inherited.{Declares, DeclaresNone, Has}
 
 -- A field of a list has the name of one before it, and this is its place.
 abbrev pub IsRepeated : List Field → Place → Type 0
-IsRepeated fs place = (i j : ℕ) × (f : Field) × (g : Field) × (i < j) × (slice_get fs i ≡ Some f) × (slice_get fs j ≡ Some g) × (f.name ≡ g.name) × (place ≡ g.place)
+IsRepeated fs place = (i j : ℕ) × (f : Field) × (g : Field) × (i < j) × (slice_get fs i ≡ Some f)
+    × (slice_get fs j ≡ Some g) × (f.name ≡ g.name) × (place ≡ g.place)
 
 -- A type declares two fields of one name, and this is the later one's place.
 abbrev pub DeclaresTwice : List (List Field) → Place → Type 0
-DeclaresTwice own place = (a : ℕ) × (fs : List Field) × (slice_get own a ≡ Some fs) × IsRepeated fs place
+DeclaresTwice own place = (a : ℕ) × (fs : List Field) × (slice_get own a ≡ Some fs)
+    × IsRepeated fs place
 
--- A trait that declares no field of a name gets it from two types that it extends, with different types.
+-- A trait that declares no field of a name gets it from two types that it extends, with different
+-- types.
 abbrev pub GetsTwo : DeclaredTypes → List (List Field) → ℕ → Type 0
-GetsTwo h own a = Trait h a × (b c : ℕ) × (f g : Field) × Extends h a b × Extends h a c × (b ≢ c) × Has h own b f × Has h own c g
+GetsTwo h own a = Trait h a × (b c : ℕ) × (f g : Field) × Extends h a b × Extends h a c × (b ≢ c)
+    × Has h own b f × Has h own c g
     × (f.name ≡ g.name) × (f.ty ≢ g.ty) × DeclaresNone own a f.name
 
 -- ---- 452
@@ -38,15 +43,18 @@ IsMissing h own a f = Leaf h a × DeclaresNone own a f.name
 abbrev pub IsWider : DeclaredTypes → List (List Field) → ℕ → Field → Type 0
 IsWider h own a f = (g : Field) × Declares own a g × (g.name ≡ f.name) × (Below h g.ty f.ty → ⊥)
 
--- A field of a trait is missing in an object below the trait, or declared again below it with a type that isn't below.
+-- A field of a trait is missing in an object below the trait, or declared again below it with a
+-- type that isn't below.
 abbrev pub LacksField : DeclaredTypes → List (List Field) → ℕ → Type 0
-LacksField h own a = (t : ℕ) × (f : Field) × Trait h t × Path h a t × Declares own t f × (IsMissing h own a f ⊎ IsWider h own a f)
+LacksField h own a = (t : ℕ) × (f : Field) × Trait h t × Path h a t × Declares own t f
+    × (IsMissing h own a f ⊎ IsWider h own a f)
 
 -- ---- which rule is broken, and where
 
 -- A type has a property, and this is the place of its name; the places are those of the last types.
 abbrev pub AtName : DeclaredTypes → List Place → (ℕ → Type 0) → Place → Type 0
-AtName h places P place = (k : ℕ) × (slice_get places k ≡ Some place) × P (length h - length places + k)
+AtName h places P place = (k : ℕ) × (slice_get places k ≡ Some place)
+    × P (length h - length places + k)
 
 -- 451 is broken at a place.
 abbrev pub IsDuplicate : DeclaredTypes → List (List Field) → List Place → Place → Type 0
@@ -58,8 +66,10 @@ IsNotBelow h own places place = AtName h places (LacksField h own) place
 
 -- A component whose types are an accepted hierarchy breaks a rule at a place.
 pub data Broken (c : Component) (rule : ℕ) (place : Place) : Type 0 where
-  duplicate : rule ≡ DUPLICATE_MEMBER.0 → IsDuplicate (declares c) (own_fields c) (places_of c) place → Broken c rule place
-  not_below : rule ≡ FIELD_NOT_BELOW.0 → IsNotBelow (declares c) (own_fields c) (places_of c) place → Broken c rule place
+  duplicate : rule ≡ DUPLICATE_MEMBER.0
+      → IsDuplicate (declares c) (own_fields c) (places_of c) place → Broken c rule place
+  not_below : rule ≡ FIELD_NOT_BELOW.0 → IsNotBelow (declares c) (own_fields c) (places_of c) place
+      → Broken c rule place
 
 -- A component breaks a rule, there at the earliest, and no rule of a lower number.
 pub record IsReported (c : Component) (rule : ℕ) (place : Place) : Type 0 where
@@ -71,8 +81,11 @@ abbrev pub IsFault : Component → CheckFault → Type 0
 IsFault c (a_fault.Refused rule place) = IsReported c rule.0 place
 IsFault c a_fault.Memory = Unit {0}
 
--- A refusal by 451 at its earliest place; or by 452 at its earliest place, where 451 is broken nowhere.
+-- A refusal by 451 at its earliest place; or by 452 at its earliest place, where 451 is broken
+-- nowhere.
 abbrev pub IsFieldRefusal : DeclaredTypes → List (List Field) → List Place → CheckFault → Type 0
-IsFieldRefusal h own places (a_fault.Refused rule place) = ((rule.0 ≡ DUPLICATE_MEMBER.0) × IsEarliest (IsDuplicate h own places) place)
-    ⊎ ((rule.0 ≡ FIELD_NOT_BELOW.0) × IsEarliest (IsNotBelow h own places) place × ((at : Place) → IsDuplicate h own places at → ⊥))
+IsFieldRefusal h own places (a_fault.Refused rule place) =
+    ((rule.0 ≡ DUPLICATE_MEMBER.0) × IsEarliest (IsDuplicate h own places) place)
+    ⊎ ((rule.0 ≡ FIELD_NOT_BELOW.0) × IsEarliest (IsNotBelow h own places) place
+    × ((at : Place) → IsDuplicate h own places at → ⊥))
 IsFieldRefusal h own places a_fault.Memory = Unit {0}

@@ -1,4 +1,5 @@
--- The chapter "Members": what the code's walks over lists of fields find, and what it keeps of the fields of one trait.
+-- The chapter "Members": what the code's walks over lists of fields find, and what it keeps of the
+-- fields of one trait.
 use Rattle.std.specs.Prelude.{◌≡◌, ◌≢◌, ◌⊎◌, ◌<◌, ◌≤◌, ◌++◌, ◌↔◌, nat_eq, ℕ, Bool, IsTrue, List, [], ◌∷◌, filter, length, slice_get, get_or, Some, None, Contains}
 use Rattle.indexmap.specs.IndexMap.{get}
 use Rattle.indexmap.specs.IndexSet.{contains, IndexSet}
@@ -68,8 +69,10 @@ abbrev pub Lacks : DeclaredTypes → Bool → List Field → Field → Type 0
 Lacks h must own f = (IsTrue must × (HasFieldNamed own f.name → ⊥)) ⊎ SomeIn (IsWiderThan h f) own
 
 -- A field of one type, which is a trait above, is lacking.
-abbrev pub LacksOf : DeclaredTypes → List (List Bool) → Bool → List (List Field) → ℕ → DeclaredType → ℕ → Type 0
-LacksOf h rows must own a d t = (d.kind ≡ a_kind.Trait) × IsTrue (is_set rows a t) × SomeIn (Lacks h must (fields_of own a)) (fields_of own t)
+abbrev pub LacksOf : DeclaredTypes → List (List Bool) → Bool → List (List Field) → ℕ → DeclaredType
+    → ℕ → Type 0
+LacksOf h rows must own a d t = (d.kind ≡ a_kind.Trait) × IsTrue (is_set rows a t)
+    × SomeIn (Lacks h must (fields_of own a)) (fields_of own t)
 
 -- ---- names that stood so far
 
@@ -87,7 +90,8 @@ count_of row = length (filter (λ b. b) row)
 pub record AreHeights (h : DeclaredTypes) (heights : List ℕ) : Type 0 where
   pub number : length heights ≡ length h
   pub bounded : (a n : ℕ) → slice_get heights a ≡ Some n → n ≤ length h
-  pub falls : (a b m n : ℕ) → Extends h a b → slice_get heights a ≡ Some m → slice_get heights b ≡ Some n → n < m
+  pub falls : (a b m n : ℕ) → Extends h a b → slice_get heights a ≡ Some m
+      → slice_get heights b ≡ Some n → n < m
 
 -- ---- the fields of one trait
 
@@ -95,19 +99,27 @@ pub record AreHeights (h : DeclaredTypes) (heights : List ℕ) : Type 0 where
 pub record KnowsNames (g : Gathering) : Type 0 where
   pub knows : (f : Field) → Contains g.fields f → get nat_eq g.first f.name.0 ≢ None
 
--- The fields that a trait declares, and behind them further ones as they come: each whose name isn't declared and that isn't there by name and type.
+-- The fields that a trait declares, and behind them further ones as they come: each whose name
+-- isn't declared and that isn't there by name and type.
 pub data IsInOrder (own : List Field) : List Field → List Field → Type 0 where
   begins : {further fs : List Field} → further ≡ [] → fs ≡ own → IsInOrder own further fs
-  passes : {further more fs : List Field} (x : Field) → more ≡ further ++ x ∷ [] → HasFieldNamed own x.name ⊎ SomeIn (IsLike x) fs → IsInOrder own further fs → IsInOrder own more fs
-  adds : {further more fs gs : List Field} (x : Field) → more ≡ further ++ x ∷ [] → gs ≡ fs ++ x ∷ [] → (HasFieldNamed own x.name ⊎ SomeIn (IsLike x) fs → ⊥)
+  passes : {further more fs : List Field} (x : Field) → more ≡ further ++ x ∷ []
+      → HasFieldNamed own x.name ⊎ SomeIn (IsLike x) fs → IsInOrder own further fs
+      → IsInOrder own more fs
+  adds : {further more fs gs : List Field} (x : Field) → more ≡ further ++ x ∷ []
+      → gs ≡ fs ++ x ∷ [] → (HasFieldNamed own x.name ⊎ SomeIn (IsLike x) fs → ⊥)
       → IsInOrder own further fs → IsInOrder own more gs
 
--- What is put together of the fields that a trait declares and of further ones: the declared ones stand first, and behind them fields of
--- names that aren't declared; each of these is a further one; each further one of such a name is there by name and type; and of one such
--- name and type there is one, the first.
+-- What is put together of the fields that a trait declares and of further ones: the declared ones
+-- stand first, and behind them fields of names that aren't declared; each of these is a further
+-- one; each further one of such a name is there by name and type; and of one such name and type
+-- there is one, the first.
 pub record Gathers (own further fs : List Field) : Type 0 where
-  pub first : (rest : List Field) × (fs ≡ own ++ rest) × ((f : Field) → Contains rest f → HasFieldNamed own f.name → ⊥)
-  pub from : (f : Field) → Contains fs f → Contains own f ⊎ (Contains further f × (HasFieldNamed own f.name → ⊥))
+  pub first : (rest : List Field) × (fs ≡ own ++ rest)
+      × ((f : Field) → Contains rest f → HasFieldNamed own f.name → ⊥)
+  pub from : (f : Field) → Contains fs f
+      → Contains own f ⊎ (Contains further f × (HasFieldNamed own f.name → ⊥))
   pub all : (f : Field) → Contains further f → (HasFieldNamed own f.name → ⊥) → SomeIn (IsLike f) fs
-  pub differ : (i j : ℕ) (f g : Field) → slice_get fs i ≡ Some f → slice_get fs j ≡ Some g → IsLike f g → (HasFieldNamed own f.name → ⊥) → i ≡ j
+  pub differ : (i j : ℕ) (f g : Field) → slice_get fs i ≡ Some f → slice_get fs j ≡ Some g
+      → IsLike f g → (HasFieldNamed own f.name → ⊥) → i ≡ j
   pub order : IsInOrder own further fs

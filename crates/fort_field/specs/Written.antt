@@ -1,4 +1,5 @@
--- The chapter "Members", written types: which type is written. The code goes down the tree and looks names up in a map.
+-- The chapter "Members", written types: which type is written. The code goes down the tree and
+-- looks names up in a map.
 use Rattle.std.specs.Prelude.{List, [], ◌∷◌, Option, Some, None, cond}
 use Rattle.std.specs.Str.{bytes_eq}
 use Rattle.fort_base.specs.declared.ty.Ty.{Ty}
@@ -15,7 +16,8 @@ use Rattle.fort_hier.specs.Numbers.{number_of}
 
 -- The type that a spelling names: `Any`, or the declared type with its number.
 abbrev pub named : List Spelling → Spelling → Ty
-named list s = cond (bytes_eq s any_spelling) a_type.Any (a_type.Named (record { 0 = number_of list s }))
+named list s =
+    cond (bytes_eq s any_spelling) a_type.Any (a_type.Named (record { 0 = number_of list s }))
 
 -- The types between parentheses: one alone is itself, and any other number of them is a tuple.
 abbrev pub parts : Option (List Ty) → Ty
@@ -27,7 +29,8 @@ parts (Some ts) = a_type.Tuple ts
 
 abbrev pub simple_type : List Spelling → List Spelling → SimpleType-F Ty Ty Ty (List Ty) → Ty
 simple_type list names (SimpleType-F.Named name) = named list (spelling names name)
-simple_type list names (SimpleType-F.Array array left element comma index right) = a_type.Array element
+simple_type list names (SimpleType-F.Array array left element comma index right) =
+    a_type.Array element
 simple_type list names (SimpleType-F.Parts left types right) = parts types
 
 abbrev pub type_tree : TypeTree-F Ty Ty Ty (List Ty) → Ty
@@ -44,13 +47,17 @@ type_list list = list.first ∷ list.others
 
 -- The type that is written, where the types have these names and the component those.
 unfoldable pub written : List Spelling → List Spelling → TypeTree → Ty
-written list names = fold-TypeTree Ty Ty Ty (List Ty) (simple_type list names) type_tree next_type type_list
+written list names =
+    fold-TypeTree Ty Ty Ty (List Ty) (simple_type list names) type_tree next_type type_list
 
 unfoldable pub written_simple : List Spelling → List Spelling → SimpleType → Ty
-written_simple list names = fold-SimpleType Ty Ty Ty (List Ty) (simple_type list names) type_tree next_type type_list
+written_simple list names =
+    fold-SimpleType Ty Ty Ty (List Ty) (simple_type list names) type_tree next_type type_list
 
 unfoldable pub written_next : List Spelling → List Spelling → NextType → Ty
-written_next list names = fold-NextType Ty Ty Ty (List Ty) (simple_type list names) type_tree next_type type_list
+written_next list names =
+    fold-NextType Ty Ty Ty (List Ty) (simple_type list names) type_tree next_type type_list
 
 unfoldable pub written_list : List Spelling → List Spelling → TypeList → List Ty
-written_list list names = fold-TypeList Ty Ty Ty (List Ty) (simple_type list names) type_tree next_type type_list
+written_list list names =
+    fold-TypeList Ty Ty Ty (List Ty) (simple_type list names) type_tree next_type type_list

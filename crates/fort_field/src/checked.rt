@@ -27,11 +27,12 @@ use std::alloc::Global;
 /// More types than this have no numbers.
 const MOST_TYPES: usize = 0x4000_0000;
 
-/// The fields of the types of a component, by the types' numbers, over the hierarchy that its types are.
+/// The fields of the types of a component, by the types' numbers, over the hierarchy that its types
+/// are.
 ///
-/// It answers `Refused` with 451 or 452 exactly where the component breaks that rule, the lower one first, at the earliest place where
-/// it is broken. Its only other error is want of memory, which it also answers where a component has more than 2^30 types. The chapter
-/// is "Members".
+/// It answers `Refused` with 451 or 452 exactly where the component breaks that rule, the lower one
+/// first, at the earliest place where it is broken. Its only other error is want of memory, which
+/// it also answers where a component has more than 2^30 types. The chapter is "Members".
 pub fn fields(
     alloc: Global,
     component: &Component,

@@ -13,8 +13,8 @@ use fort_set::Field;
 use fort_types::DeclaredType;
 use std::alloc::Global;
 
-/// The earliest place where a type has two fields of one name, or `None` where none has: one that declares two, or a trait that gets
-/// two with different types.
+/// The earliest place where a type has two fields of one name, or `None` where none has: one that
+/// declares two, or a trait that gets two with different types.
 ///
 /// `all` are the fields that each type has, and the places those of the last types' names.
 pub fn first_duplicate(
@@ -50,7 +50,8 @@ fn first_declared_twice(alloc: Global, own: &[List<Field>]) -> Result<Option<Pla
     Ok(best)
 }
 
-/// Whether a type is a trait that gets a field which it doesn't declare from two types, with different types.
+/// Whether a type is a trait that gets a field which it doesn't declare from two types, with
+/// different types.
 fn gets_two(
     alloc: Global,
     types: &[DeclaredType],
@@ -71,7 +72,8 @@ fn gets_two(
     }
 }
 
-/// Whether two of these types have fields of one name and different types, of a name that isn't declared.
+/// Whether two of these types have fields of one name and different types, of a name that isn't
+/// declared.
 fn any_differ(extends: &[usize], own: &[Field], all: &[List<Field>]) -> bool
     ensures { IsTrue result ↔ SomeDiffer own.now all.now extends.now }
 {
@@ -95,7 +97,8 @@ fn differs_from_any(b: usize, extends: &[usize], own: &[Field], all: &[List<Fiel
     false
 }
 
-/// Whether two types are not one, and have fields of one name and different types, of a name that isn't declared.
+/// Whether two types are not one, and have fields of one name and different types, of a name that
+/// isn't declared.
 fn differ_at(b: usize, c: usize, own: &[Field], all: &[List<Field>]) -> bool
     ensures { IsTrue result ↔ DifferAt own.now all.now b c }
 {

@@ -36,7 +36,8 @@ impl Gathering {
     pub fn inherit(&mut self, alloc: Global, own: &[Field], fields: &[Field]) -> Result<(), Memory>
         requires { KnowsNames self.old }
         ensures knows { OnOk result (KnowsNames self.new) }
-        ensures gathers { OnOk result ((further : Seq AField) → Gathers own.now further self.old.fields
+        ensures gathers { OnOk result ((further : Seq AField)
+            → Gathers own.now further self.old.fields
             → Gathers own.now (further ++ fields.now) self.new.fields) }
     {
         for field in fields {
@@ -67,12 +68,14 @@ impl Gathering {
     /// Whether the trait declares a field of that name, or there is one of that name and type.
     fn is_held(&self, own: &[Field], field: &Field) -> bool
         requires { KnowsNames self.now }
-        ensures { IsTrue result ↔ (HasFieldNamed own.now field.now.name ⊎ SomeIn (IsLike field.now) self.now.fields) }
+        ensures { IsTrue result
+            ↔ (HasFieldNamed own.now field.now.name ⊎ SomeIn (IsLike field.now) self.now.fields) }
     {
         declares(own, field.name) || self.has(field)
     }
 
-    /// Whether there is a field of that name and type. The first of that name is asked before all others.
+    /// Whether there is a field of that name and type. The first of that name is asked before all
+    /// others.
     fn has(&self, field: &Field) -> bool
         requires { KnowsNames self.now }
         ensures { IsTrue result ↔ SomeIn (IsLike field.now) self.now.fields }

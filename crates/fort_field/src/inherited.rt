@@ -14,10 +14,11 @@ use fort_set::Field;
 use fort_types::DeclaredType;
 use std::alloc::Global;
 
-/// The fields that each type has, by the types' numbers: first those that it declares, in their order; of inherited ones of one name
-/// and one type it has one.
+/// The fields that each type has, by the types' numbers: first those that it declares, in their
+/// order; of inherited ones of one name and one type it has one.
 ///
-/// The types are asked from the top of the hierarchy down: one with fewer supertypes before one with more.
+/// The types are asked from the top of the hierarchy down: one with fewer supertypes before one
+/// with more.
 pub fn all_fields(
     alloc: Global,
     types: &[DeclaredType],
@@ -35,7 +36,8 @@ pub fn all_fields(
     Ok(all)
 }
 
-/// Puts together the fields of all traits, those with the fewest supertypes first; before that each type has what it declares.
+/// Puts together the fields of all traits, those with the fewest supertypes first; before that each
+/// type has what it declares.
 fn gather_all(
     alloc: Global,
     types: &[DeclaredType],
@@ -102,7 +104,8 @@ fn gather_at(
 
 /// Whether a type is a trait of that height.
 fn is_asked(declared: &DeclaredType, heights: &[usize], a: usize, height: usize) -> bool
-    ensures { IsTrue result ↔ (declared.now.kind ≡ a_kind.Trait) × (slice_get heights.now a ≡ Some height) }
+    ensures { IsTrue result
+        ↔ (declared.now.kind ≡ a_kind.Trait) × (slice_get heights.now a ≡ Some height) }
 {
     declared.kind.is_trait() && is_at(heights, a, height)
 }
@@ -117,7 +120,8 @@ fn is_at(heights: &[usize], a: usize, height: usize) -> bool
     }
 }
 
-/// The fields of a trait, of those that it declares and of those that the types which it extends have.
+/// The fields of a trait, of those that it declares and of those that the types which it extends
+/// have.
 fn gathered(
     alloc: Global,
     declared: &DeclaredType,

@@ -1,4 +1,5 @@
-//! 452: a field of a trait that is missing below it, or declared again with a type that isn't below.
+//! 452: a field of a trait that is missing below it, or declared again with a type that isn't
+//! below.
 ghost use Rattle.std.specs.Prelude.{◌≡◌, ◌≤◌, ◌<◌, ◌↔◌, IsTrue, length, List as Seq};
 ghost use Rattle.fort_types.specs.declared.hierarchy.DeclaredType.{DeclaredType as ADeclared};
 ghost use Rattle.fort_types.specs.Table.{HasRows};
@@ -12,7 +13,8 @@ use fort_base::{List, Place, TypeTable, earlier};
 use fort_set::Field;
 use fort_types::{DeclaredType, below, set_at};
 
-/// The earliest place of the name of a type that lacks a field of a trait above it, or `None` where none does.
+/// The earliest place of the name of a type that lacks a field of a trait above it, or `None` where
+/// none does.
 ///
 /// The places are those of the last types' names.
 pub fn first_lacking(
@@ -60,7 +62,8 @@ fn lacks_of(
     declared: &DeclaredType,
     t: usize,
 ) -> bool
-    ensures { (h : Seq ADeclared) → HasRows h table.now → IsTrue result ↔ LacksOf h table.now.below must own.now a declared.now t }
+    ensures { (h : Seq ADeclared) → HasRows h table.now → IsTrue result
+        ↔ LacksOf h table.now.below must own.now a declared.now t }
 {
     if !declared.kind.is_trait() {
         return false;
@@ -73,7 +76,8 @@ fn lacks_of(
 
 /// Whether a type lacks one of a trait's fields.
 fn lacks_any(table: &TypeTable, must: bool, own: &[Field], fields: &[Field]) -> bool
-    ensures { (h : Seq ADeclared) → HasRows h table.now → IsTrue result ↔ SomeIn (Lacks h must own.now) fields.now }
+    ensures { (h : Seq ADeclared) → HasRows h table.now → IsTrue result
+        ↔ SomeIn (Lacks h must own.now) fields.now }
 {
     for field in fields {
         if lacks(table, must, own, field) {
@@ -83,16 +87,19 @@ fn lacks_any(table: &TypeTable, must: bool, own: &[Field], fields: &[Field]) -> 
     false
 }
 
-/// Whether a field is missing, where it must be there, or declared again with a type that isn't below.
+/// Whether a field is missing, where it must be there, or declared again with a type that isn't
+/// below.
 fn lacks(table: &TypeTable, must: bool, own: &[Field], field: &Field) -> bool
-    ensures { (h : Seq ADeclared) → HasRows h table.now → IsTrue result ↔ Lacks h must own.now field.now }
+    ensures { (h : Seq ADeclared) → HasRows h table.now → IsTrue result
+        ↔ Lacks h must own.now field.now }
 {
     (must && !declares(own, field.name)) || any_wider(table, own, field)
 }
 
 /// Whether a field is declared again with a type that isn't below its type.
 fn any_wider(table: &TypeTable, own: &[Field], field: &Field) -> bool
-    ensures { (h : Seq ADeclared) → HasRows h table.now → IsTrue result ↔ SomeIn (IsWiderThan h field.now) own.now }
+    ensures { (h : Seq ADeclared) → HasRows h table.now → IsTrue result
+        ↔ SomeIn (IsWiderThan h field.now) own.now }
 {
     for other in own {
         if is_wider(table, other, field) {
@@ -104,7 +111,8 @@ fn any_wider(table: &TypeTable, own: &[Field], field: &Field) -> bool
 
 /// Whether a field has the name of another, and a type that isn't below the other's.
 fn is_wider(table: &TypeTable, other: &Field, field: &Field) -> bool
-    ensures { (h : Seq ADeclared) → HasRows h table.now → IsTrue result ↔ IsWiderThan h field.now other.now }
+    ensures { (h : Seq ADeclared) → HasRows h table.now → IsTrue result
+        ↔ IsWiderThan h field.now other.now }
 {
     other.name == field.name && !below(table, &other.ty, &field.ty)
 }

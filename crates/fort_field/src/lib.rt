@@ -1,4 +1,5 @@
-//! The fields of a component's types, declared and inherited, and the two rules on them, over the hierarchy.
+//! The fields of a component's types, declared and inherited, and the two rules on them, over the
+//! hierarchy.
 #![tactic(auto)]
 
 mod checked;

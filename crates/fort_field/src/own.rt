@@ -17,7 +17,8 @@ use fort_tree::{
 };
 use std::alloc::Global;
 
-/// The fields that each type declares, by the types' numbers; the size is that of the list of numbered names.
+/// The fields that each type declares, by the types' numbers; the size is that of the list of
+/// numbered names.
 pub fn own_in(
     alloc: Global,
     names: &[Bytes],
@@ -25,8 +26,10 @@ pub fn own_in(
     size: usize,
     declarations: &[Declared],
 ) -> Result<List<List<Field>>, Memory>
-    ensures { IfOk result (λ own. (list : Seq Spelling) → HoldsNumbers list numbers.now → length list ≡ size
-        → own ≡ replicate TYPE_COUNT [] ++ flat_map (declared_own list names.now) declarations.now) }
+    ensures { IfOk result (λ own. (list : Seq Spelling) → HoldsNumbers list numbers.now
+        → length list ≡ size
+        → own ≡ replicate TYPE_COUNT []
+        ++ flat_map (declared_own list names.now) declarations.now) }
 {
     let mut own = none_built_in(alloc)?;
     for declared in declarations {
@@ -55,7 +58,8 @@ fn add_own(
     declaration: &Declaration,
     own: &mut List<List<Field>>,
 ) -> Result<(), Memory>
-    ensures { OnOk result ((list : Seq Spelling) → HoldsNumbers list numbers.now → length list ≡ size
+    ensures { OnOk result ((list : Seq Spelling) → HoldsNumbers list numbers.now
+        → length list ≡ size
         → own.new ≡ own.old ++ own_of list names.now declaration.now) }
 {
     match declaration {
@@ -105,7 +109,8 @@ fn add_trait_fields(
     members: &[TraitEntry],
     fields: &mut List<Field>,
 ) -> Result<(), Memory>
-    ensures { OnOk result ((list : Seq Spelling) → HoldsNumbers list numbers.now → length list ≡ size
+    ensures { OnOk result ((list : Seq Spelling) → HoldsNumbers list numbers.now
+        → length list ≡ size
         → fields.new ≡ fields.old ++ flat_map (trait_field list names.now) members.now) }
 {
     for entry in members {
@@ -123,7 +128,8 @@ fn add_trait_member(
     member: &TraitMember,
     fields: &mut List<Field>,
 ) -> Result<(), Memory>
-    ensures { OnOk result ((list : Seq Spelling) → HoldsNumbers list numbers.now → length list ≡ size
+    ensures { OnOk result ((list : Seq Spelling) → HoldsNumbers list numbers.now
+        → length list ≡ size
         → fields.new ≡ fields.old ++ trait_member_field list names.now member.now) }
 {
     match member {
@@ -146,7 +152,8 @@ fn add_object_fields(
     members: &[ObjectEntry],
     fields: &mut List<Field>,
 ) -> Result<(), Memory>
-    ensures { OnOk result ((list : Seq Spelling) → HoldsNumbers list numbers.now → length list ≡ size
+    ensures { OnOk result ((list : Seq Spelling) → HoldsNumbers list numbers.now
+        → length list ≡ size
         → fields.new ≡ fields.old ++ flat_map (object_field list names.now) members.now) }
 {
     for entry in members {
@@ -164,7 +171,8 @@ fn add_object_member(
     member: &ObjectMember,
     fields: &mut List<Field>,
 ) -> Result<(), Memory>
-    ensures { OnOk result ((list : Seq Spelling) → HoldsNumbers list numbers.now → length list ≡ size
+    ensures { OnOk result ((list : Seq Spelling) → HoldsNumbers list numbers.now
+        → length list ≡ size
         → fields.new ≡ fields.old ++ object_member_field list names.now member.now) }
 {
     match member {
@@ -183,7 +191,8 @@ pub fn field_of_variable(
     size: usize,
     variable: &Variable,
 ) -> Result<Field, Memory>
-    ensures { IfOk result (λ field. (list : Seq Spelling) → HoldsNumbers list numbers.now → length list ≡ size
+    ensures { IfOk result (λ field. (list : Seq Spelling) → HoldsNumbers list numbers.now
+        → length list ≡ size
         → field ≡ variable_field list names.now variable.now) }
 {
     Ok(Field {
@@ -203,7 +212,8 @@ fn add_parameters(
     parameters: &Option<ObjectParameters>,
     fields: &mut List<Field>,
 ) -> Result<(), Memory>
-    ensures { OnOk result ((list : Seq Spelling) → HoldsNumbers list numbers.now → length list ≡ size
+    ensures { OnOk result ((list : Seq Spelling) → HoldsNumbers list numbers.now
+        → length list ≡ size
         → fields.new ≡ fields.old ++ parameter_fields list names.now parameters.now) }
 {
     match parameters {
@@ -221,7 +231,8 @@ fn add_list(
     parameters: &Option<ObjectParameterList>,
     fields: &mut List<Field>,
 ) -> Result<(), Memory>
-    ensures { OnOk result ((list : Seq Spelling) → HoldsNumbers list numbers.now → length list ≡ size
+    ensures { OnOk result ((list : Seq Spelling) → HoldsNumbers list numbers.now
+        → length list ≡ size
         → fields.new ≡ fields.old ++ list_fields list names.now parameters.now) }
 {
     match parameters {
@@ -242,7 +253,8 @@ fn add_next_parameters(
     others: &[NextObjectParameter],
     fields: &mut List<Field>,
 ) -> Result<(), Memory>
-    ensures { OnOk result ((list : Seq Spelling) → HoldsNumbers list numbers.now → length list ≡ size
+    ensures { OnOk result ((list : Seq Spelling) → HoldsNumbers list numbers.now
+        → length list ≡ size
         → fields.new ≡ fields.old ++ map (next_field list names.now) others.now) }
 {
     for next in others {
@@ -259,7 +271,8 @@ fn field_of_parameter(
     size: usize,
     parameter: &ObjectParameter,
 ) -> Result<Field, Memory>
-    ensures { IfOk result (λ field. (list : Seq Spelling) → HoldsNumbers list numbers.now → length list ≡ size
+    ensures { IfOk result (λ field. (list : Seq Spelling) → HoldsNumbers list numbers.now
+        → length list ≡ size
         → field ≡ parameter_field list names.now parameter.now) }
 {
     Ok(Field {

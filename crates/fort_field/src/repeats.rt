@@ -10,7 +10,8 @@ use fort_set::Field;
 use indexmap::IndexSet;
 use std::alloc::Global;
 
-/// The earliest place of a field that has the name of one before it, or `None` where each name stands once.
+/// The earliest place of a field that has the name of one before it, or `None` where each name
+/// stands once.
 pub fn first_repeated(alloc: Global, fields: &[Field]) -> Result<Option<Place>, Memory>
     ensures { IfOk result (IsFirst (IsRepeated fields.now)) }
 {

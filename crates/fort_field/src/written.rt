@@ -21,7 +21,8 @@ pub fn written_type(
     size: usize,
     tree: &TypeTree,
 ) -> Result<Ty, Memory>
-    ensures { IfOk result (λ ty. (list : Seq Spelling) → HoldsNumbers list numbers.now → length list ≡ size
+    ensures { IfOk result (λ ty. (list : Seq Spelling) → HoldsNumbers list numbers.now
+        → length list ≡ size
         → ty ≡ written list names.now tree.now) }
 {
     match tree {
@@ -45,7 +46,8 @@ fn simple_type(
     size: usize,
     simple: &SimpleType,
 ) -> Result<Ty, Memory>
-    ensures { IfOk result (λ ty. (list : Seq Spelling) → HoldsNumbers list numbers.now → length list ≡ size
+    ensures { IfOk result (λ ty. (list : Seq Spelling) → HoldsNumbers list numbers.now
+        → length list ≡ size
         → ty ≡ written_simple list names.now simple.now) }
 {
     match simple {
@@ -73,7 +75,8 @@ fn maybe_parts(
     size: usize,
     types: &Option<TypeList>,
 ) -> Result<Ty, Memory>
-    ensures { IfOk result (λ ty. (list : Seq Spelling) → HoldsNumbers list numbers.now → length list ≡ size
+    ensures { IfOk result (λ ty. (list : Seq Spelling) → HoldsNumbers list numbers.now
+        → length list ≡ size
         → ty ≡ parts (option_map (written_list list names.now) types.now)) }
 {
     match types {
@@ -108,7 +111,8 @@ fn add_next_types(
     others: &[NextType],
     types: &mut List<Ty>,
 ) -> Result<(), Memory>
-    ensures { OnOk result ((list : Seq Spelling) → HoldsNumbers list numbers.now → length list ≡ size
+    ensures { OnOk result ((list : Seq Spelling) → HoldsNumbers list numbers.now
+        → length list ≡ size
         → types.new ≡ types.old ++ map (written_next list names.now) others.now) }
 {
     for next in others {
@@ -119,7 +123,8 @@ fn add_next_types(
 
 /// The type that a name names; want of memory where its number is none of 32 bits.
 fn named_type(names: &[Bytes], numbers: &Numbers, size: usize, name: Name) -> Result<Ty, Memory>
-    ensures { IfOk result (λ ty. (list : Seq Spelling) → HoldsNumbers list numbers.now → length list ≡ size
+    ensures { IfOk result (λ ty. (list : Seq Spelling) → HoldsNumbers list numbers.now
+        → length list ≡ size
         → ty ≡ named list (spelling names.now name)) }
 {
     let written = spelled(names, name);

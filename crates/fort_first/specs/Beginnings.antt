@@ -63,7 +63,8 @@ begins_postfix _ = false
 -- whether the next token begins a further part of a run
 unfoldable pub begins_run_part : Bool → Option Token → Bool
 begins_run_part blocks None = false
-begins_run_part blocks (Some t) = is_empty t.gap && (begins_atom blocks t.kind || begins_postfix t.kind)
+begins_run_part blocks (Some t) =
+    is_empty t.gap && (begins_atom blocks t.kind || begins_postfix t.kind)
 
 -- whether an operator is a prefix operator
 abbrev pub op_is_prefix : Op → Bool
@@ -88,7 +89,9 @@ is_infix_kind _ = false
 -- whether the next token begins a further part of a flat expression
 unfoldable pub begins_flat_part : Allowed → Option Token → Bool
 begins_flat_part allowed None = false
-begins_flat_part allowed (Some t) = (allowed.lines || not (is_line t.gap)) && (is_infix_kind t.kind || (not (is_empty t.gap) && begins_atom allowed.blocks t.kind))
+begins_flat_part allowed (Some t) =
+    (allowed.lines || not (is_line t.gap))
+    && (is_infix_kind t.kind || (not (is_empty t.gap) && begins_atom allowed.blocks t.kind))
 
 -- whether a reserved word begins a head
 abbrev pub word_begins_head : Reserved → Bool
@@ -129,7 +132,8 @@ word_begins_local _ = false
 
 -- whether a token begins an item of a block
 unfoldable pub begins_item_kind : Kind → Bool
-begins_item_kind (kind.Word w) = word_begins_local w || (word_begins_head w || word_begins_atom true w)
+begins_item_kind (kind.Word w) =
+    word_begins_local w || (word_begins_head w || word_begins_atom true w)
 begins_item_kind k = begins_expr k
 
 -- Whether the next token begins an item or a clause of these: behind a `;`, or on a new line.

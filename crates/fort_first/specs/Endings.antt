@@ -19,7 +19,8 @@ pub semicolon_local : (ts : Row) → Locally semicolon_run ts (semicolon_run ts)
 unfolding semicolon_run
 semicolon_local ts = (one_at_most {n = zero}).local ts
 
-pub semicolon_deep : (n : ℕ) (ts rest : Row) → semicolon_run ts ≡ Failed TooDeep rest → n ≤ length ts
+pub semicolon_deep : (n : ℕ) (ts rest : Row) → semicolon_run ts ≡ Failed TooDeep rest
+    → n ≤ length ts
 unfolding semicolon_run
 semicolon_deep n ts rest e = (one_at_most {n = n}).deep ts rest e
 

@@ -1,4 +1,5 @@
--- A unit that is one name, or two or more names in parentheses, and nothing else: what a declaration of locals begins with.
+-- A unit that is one name, or two or more names in parentheses, and nothing else: what a
+-- declaration of locals begins with.
 use Rattle.std.specs.Prelude.{List, [], ◌∷◌, Option, Some, None}
 use Rattle.fort_tree.specs.declared.spot.Spot.{Spot}
 use Rattle.fort_tree.specs.declared.spot.Name.{Name}
@@ -35,11 +36,15 @@ use Rattle.fort_first.specs.declared.plain.PlainNames.{PlainNames}
 
 -- one level of an atom, its parts as they are
 abbrev pub AnAtom : Type 0
-AnAtom = Atom-F Delimited Item Atom Expr FlatPart Generator Head Postfix RunPart Variable Also BlockItem CaseClause Catch Elif ElseBlock ElseClause Finally NextGenerator TypeClause ExprList Flat NextExpr Operand Run
+AnAtom = Atom-F Delimited Item Atom Expr FlatPart Generator Head Postfix RunPart Variable Also
+    BlockItem CaseClause Catch Elif ElseBlock ElseClause Finally NextGenerator TypeClause ExprList
+    Flat NextExpr Operand Run
 
 -- one level of an expression, its parts as they are
 abbrev pub AnExpr : Type 0
-AnExpr = Expr-F Delimited Item Atom Expr FlatPart Generator Head Postfix RunPart Variable Also BlockItem CaseClause Catch Elif ElseBlock ElseClause Finally NextGenerator TypeClause ExprList Flat NextExpr Operand Run
+AnExpr = Expr-F Delimited Item Atom Expr FlatPart Generator Head Postfix RunPart Variable Also
+    BlockItem CaseClause Catch Elif ElseBlock ElseClause Finally NextGenerator TypeClause ExprList
+    Flat NextExpr Operand Run
 
 -- ---- a unit that is one atom
 
@@ -98,18 +103,22 @@ join_names comma None others = None
 -- the names that further expressions of a list are
 unfoldable pub next_names : List NextExpr → Option (List NextName)
 next_names [] = Some []
-next_names (e ∷ es) = join_names (out-NextExpr e).comma (expr_name (out-NextExpr e).expr) (next_names es)
+next_names (e ∷ es) =
+    join_names (out-NextExpr e).comma (expr_name (out-NextExpr e).expr) (next_names es)
 
 -- names in parentheses, where each is there and there are two or more
 abbrev pub names_between : Spot → Spot → Option Name → Option (List NextName) → Option PlainNames
 names_between left right (Some first) (Some []) = None
-names_between left right (Some first) (Some (n ∷ ns)) = Some (record { left = left; first = first; others = n ∷ ns; right = right })
+names_between left right (Some first) (Some (n ∷ ns)) =
+    Some (record { left = left; first = first; others = n ∷ ns; right = right })
 names_between left right (Some first) None = None
 names_between left right None others = None
 
 -- the names that an atom is
 abbrev pub atom_names : AnAtom → Option PlainNames
-atom_names (Atom-F.Parens left (Some list) right) = names_between left right (expr_name (out-ExprList list).first) (next_names (out-ExprList list).others)
+atom_names (Atom-F.Parens left (Some list) right) =
+    names_between left right (expr_name (out-ExprList list).first)
+    (next_names (out-ExprList list).others)
 atom_names (Atom-F.Parens left None right) = None
 atom_names _ = None
 

@@ -91,8 +91,8 @@ pub fn is_infix_kind(kind: Kind) -> bool
     }
 }
 
-/// Whether the next token begins a further part of a flat expression; `lines` says whether it may stand on a
-/// new line, `blocks` whether `do` may begin an atom.
+/// Whether the next token begins a further part of a flat expression; `lines` says whether it may
+/// stand on a new line, `blocks` whether `do` may begin an atom.
 #[tactic(auto, unfolding(crate::specs::Beginnings::begins_flat_part))]
 pub fn begins_flat_part(lines: bool, blocks: bool, next: Option<Token>) -> bool
     ensures { result ≡ spec.begins_flat_part (record { lines = lines; blocks = blocks }) next }
@@ -163,7 +163,8 @@ fn begins_item_kind(kind: Kind) -> bool
     }
 }
 
-/// Whether the next token begins a further item of a block: behind a `;`, which `ready` says, or on a new line.
+/// Whether the next token begins a further item of a block: behind a `;`, which `ready` says, or on
+/// a new line.
 #[tactic(auto, unfolding(crate::specs::Beginnings::begins_item, crate::specs::Beginnings::begins_apart_of))]
 pub fn begins_item(ready: bool, next: Option<Token>) -> bool
     ensures { result ≡ spec.begins_item ready next }
@@ -225,7 +226,8 @@ pub fn is_next_tight(next: Option<Token>) -> bool
     }
 }
 
-/// Whether the next token is a `(` with no gap before it: behind the name of a postfix it begins the arguments of a method.
+/// Whether the next token is a `(` with no gap before it: behind the name of a postfix it begins
+/// the arguments of a method.
 #[tactic(auto, unfolding(fort_reading::specs::Words::sees_tight))]
 pub fn sees_arguments(next: Option<Token>) -> bool
     ensures { result ≡ sees_tight (is_mark Mark.OpenParen) next }

@@ -1,4 +1,5 @@
-//! The tokens with which declarations and members begin, and those before which a method ends without a body.
+//! The tokens with which declarations and members begin, and those before which a method ends
+//! without a body.
 ghost use Rattle.std.specs.Prelude.{◌≡◌};
 ghost use Rattle.fort_reading.specs.Words.{is_eq, sees};
 ghost use Rattle.fort_first.specs.Declarations as spec;
@@ -13,7 +14,8 @@ fn begins_trait_member(kind: Kind) -> bool
     matches!(kind, Kind::Name(_) | Kind::Word(Reserved::Opr))
 }
 
-/// Whether the next token begins a further member of a trait: behind a `;`, which `ready` says, or on a new line.
+/// Whether the next token begins a further member of a trait: behind a `;`, which `ready` says, or
+/// on a new line.
 #[tactic(auto, unfolding(crate::specs::Declarations::begins_trait_entry, crate::specs::Beginnings::begins_apart_of))]
 pub fn begins_trait_entry(ready: bool, next: Option<Token>) -> bool
     ensures { result ≡ spec.begins_trait_entry ready next }
@@ -78,7 +80,8 @@ fn sees_equals(next: Option<Token>) -> bool
     }
 }
 
-/// Whether a method ends before this token, without a body; `optional` says whether the body may be left out.
+/// Whether a method ends before this token, without a body; `optional` says whether the body may be
+/// left out.
 pub fn ends_without_body(optional: bool, next: Option<Token>) -> bool
     ensures { result ≡ spec.ends_without_body optional next }
 {

@@ -1,4 +1,5 @@
-//! What a declaration of locals begins with: a unit that is one name, or names in parentheses, and nothing else.
+//! What a declaration of locals begins with: a unit that is one name, or names in parentheses, and
+//! nothing else.
 ghost use Rattle.std.specs.Prelude.{◌≡◌, IfOk};
 ghost use Rattle.std.specs.Option.{option_copied};
 ghost use Rattle.fort_tree.specs.declared.expr.ExprList.{out-ExprList};
@@ -71,7 +72,9 @@ fn names_between(
     list: &ExprList,
     right: Spot,
 ) -> Result<Option<PlainNames>, Memory>
-    ensures { IfOk result (λ names. names ≡ spec.names_between left right (spec.expr_name (out-ExprList list.now).first) (spec.next_names (out-ExprList list.now).others)) }
+    ensures { IfOk result (λ names. names
+        ≡ spec.names_between left right (spec.expr_name (out-ExprList list.now).first)
+        (spec.next_names (out-ExprList list.now).others)) }
 {
     let Some(first) = expr_name(list.first.get()) else {
         return Ok(None);

@@ -152,7 +152,9 @@ fn add_elif(elif: &Elif, rows: &mut List<Row>) -> Result<(), Memory>
 /// Adds the flat expressions of the `else` of an `if`.
 #[cycle(add)]
 fn add_maybe_else_block(otherwise: &Option<ElseBlock>, rows: &mut List<Row>) -> Result<(), Memory>
-    ensures { OnOk result (rows.new ≡ rows.old ++ all_flats (maybe_measured (option_map measured_else_block otherwise.now))) }
+    ensures { OnOk result (rows.new
+        ≡ rows.old
+        ++ all_flats (maybe_measured (option_map measured_else_block otherwise.now))) }
 {
     if let Some(otherwise) = otherwise {
         add_block(otherwise.block.as_slice(), rows)?;
@@ -163,7 +165,8 @@ fn add_maybe_else_block(otherwise: &Option<ElseBlock>, rows: &mut List<Row>) -> 
 /// Adds the flat expressions of the further generators of a `for`.
 #[cycle(add)]
 fn add_next_generators(others: &[NextGenerator], rows: &mut List<Row>) -> Result<(), Memory>
-    ensures { OnOk result (rows.new ≡ rows.old ++ all_flats (map measured_next_generator others.now)) }
+    ensures { OnOk result (rows.new
+        ≡ rows.old ++ all_flats (map measured_next_generator others.now)) }
 {
     for next in others {
         add_generator(&next.generator, rows)?;
@@ -174,7 +177,8 @@ fn add_next_generators(others: &[NextGenerator], rows: &mut List<Row>) -> Result
 /// Adds the flat expressions of a `finally`.
 #[cycle(add)]
 fn add_maybe_finally(finally: &Option<Finally>, rows: &mut List<Row>) -> Result<(), Memory>
-    ensures { OnOk result (rows.new ≡ rows.old ++ all_flats (maybe_measured (option_map measured_finally finally.now))) }
+    ensures { OnOk result (rows.new
+        ≡ rows.old ++ all_flats (maybe_measured (option_map measured_finally finally.now))) }
 {
     if let Some(finally) = finally {
         add_block(finally.block.as_slice(), rows)?;

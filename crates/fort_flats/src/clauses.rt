@@ -10,7 +10,8 @@ use fort_tree::{CaseClause, Catch, ElseClause, Row, TypeClause};
 /// Adds the flat expressions of the clauses of a `case`.
 #[cycle(add)]
 pub fn add_case_clauses(clauses: &[CaseClause], rows: &mut List<Row>) -> Result<(), Memory>
-    ensures { OnOk result (rows.new ≡ rows.old ++ all_flats (map measured_case_clause clauses.now)) }
+    ensures { OnOk result (rows.new
+        ≡ rows.old ++ all_flats (map measured_case_clause clauses.now)) }
 {
     for clause in clauses {
         add_case_clause(clause, rows)?;
@@ -31,7 +32,8 @@ fn add_case_clause(clause: &CaseClause, rows: &mut List<Row>) -> Result<(), Memo
 /// Adds the flat expressions of the clauses of a `typecase` or a `catch`.
 #[cycle(add)]
 pub fn add_type_clauses(clauses: &[TypeClause], rows: &mut List<Row>) -> Result<(), Memory>
-    ensures { OnOk result (rows.new ≡ rows.old ++ all_flats (map measured_type_clause clauses.now)) }
+    ensures { OnOk result (rows.new
+        ≡ rows.old ++ all_flats (map measured_type_clause clauses.now)) }
 {
     for clause in clauses {
         add_expr(&clause.value, rows)?;
@@ -45,7 +47,9 @@ pub fn add_maybe_else_clause(
     otherwise: &Option<Boxed<ElseClause>>,
     rows: &mut List<Row>,
 ) -> Result<(), Memory>
-    ensures { OnOk result (rows.new ≡ rows.old ++ all_flats (maybe_measured (option_map measured_else_clause otherwise.now))) }
+    ensures { OnOk result (rows.new
+        ≡ rows.old
+        ++ all_flats (maybe_measured (option_map measured_else_clause otherwise.now))) }
 {
     if let Some(otherwise) = otherwise {
         add_expr(&otherwise.get().value, rows)?;
@@ -56,7 +60,8 @@ pub fn add_maybe_else_clause(
 /// Adds the flat expressions of a `catch`.
 #[cycle(add)]
 pub fn add_maybe_catch(catch: &Option<Catch>, rows: &mut List<Row>) -> Result<(), Memory>
-    ensures { OnOk result (rows.new ≡ rows.old ++ all_flats (listed_parts (option_map measured_catch catch.now))) }
+    ensures { OnOk result (rows.new
+        ≡ rows.old ++ all_flats (listed_parts (option_map measured_catch catch.now))) }
 {
     if let Some(catch) = catch {
         add_type_clauses(catch.clauses.as_slice(), rows)?;

@@ -11,7 +11,8 @@ use fort_tree::{
 };
 use std::alloc::Global;
 
-/// What the grouping of each flat expression of a component depends on, in the order of their first tokens.
+/// What the grouping of each flat expression of a component depends on, in the order of their first
+/// tokens.
 ///
 /// A flat expression comes before those that stand in it. The chapter "Operators".
 pub fn rows(alloc: Global, component: &Component) -> Result<List<Row>, Memory>
@@ -24,7 +25,9 @@ pub fn rows(alloc: Global, component: &Component) -> Result<List<Row>, Memory>
 
 /// Adds the flat expressions of the declarations of a component.
 fn add_declarations(declarations: &[Declared], rows: &mut List<Row>) -> Result<(), Memory>
-    ensures { OnOk result (rows.new ≡ rows.old ++ all_flats (map (λ d. measured_declaration d.declaration) declarations.now)) }
+    ensures { OnOk result (rows.new
+        ≡ rows.old
+        ++ all_flats (map (λ d. measured_declaration d.declaration) declarations.now)) }
 {
     for declared in declarations {
         add_declaration(&declared.declaration, rows)?;
@@ -47,7 +50,8 @@ fn add_declaration(declaration: &Declaration, rows: &mut List<Row>) -> Result<()
 
 /// Adds the flat expressions of the members of a trait.
 fn add_trait_members(members: &[TraitEntry], rows: &mut List<Row>) -> Result<(), Memory>
-    ensures { OnOk result (rows.new ≡ rows.old ++ all_flats (map (λ e. measured_trait_member e.member) members.now)) }
+    ensures { OnOk result (rows.new
+        ≡ rows.old ++ all_flats (map (λ e. measured_trait_member e.member) members.now)) }
 {
     for entry in members {
         add_trait_member(&entry.member, rows)?;
@@ -68,7 +72,8 @@ fn add_trait_member(member: &TraitMember, rows: &mut List<Row>) -> Result<(), Me
 
 /// Adds the flat expressions of the members of an object.
 fn add_object_members(members: &[ObjectEntry], rows: &mut List<Row>) -> Result<(), Memory>
-    ensures { OnOk result (rows.new ≡ rows.old ++ all_flats (map (λ e. measured_object_member e.member) members.now)) }
+    ensures { OnOk result (rows.new
+        ≡ rows.old ++ all_flats (map (λ e. measured_object_member e.member) members.now)) }
 {
     for entry in members {
         add_object_member(&entry.member, rows)?;

@@ -44,7 +44,8 @@ pub fn add_expr(expr: &Expr, rows: &mut List<Row>) -> Result<(), Memory>
 /// Adds the flat expressions of a head that may be left out.
 #[cycle(add)]
 fn add_maybe_head(head: &Option<Boxed<Head>>, rows: &mut List<Row>) -> Result<(), Memory>
-    ensures { OnOk result (rows.new ≡ rows.old ++ all_flats (maybe_measured (option_map measured_head head.now))) }
+    ensures { OnOk result (rows.new
+        ≡ rows.old ++ all_flats (maybe_measured (option_map measured_head head.now))) }
 {
     if let Some(head) = head {
         add_head(head.get(), rows)?;
@@ -82,7 +83,8 @@ pub fn add_generator(generator: &Generator, rows: &mut List<Row>) -> Result<(), 
 /// Adds the flat expressions of a list of expressions that may be left out.
 #[cycle(add)]
 pub fn add_maybe_list(list: &Option<ExprList>, rows: &mut List<Row>) -> Result<(), Memory>
-    ensures { OnOk result (rows.new ≡ rows.old ++ all_flats (listed_parts (option_map measured_expr_list list.now))) }
+    ensures { OnOk result (rows.new
+        ≡ rows.old ++ all_flats (listed_parts (option_map measured_expr_list list.now))) }
 {
     if let Some(list) = list {
         add_list(list, rows)?;

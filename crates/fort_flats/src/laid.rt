@@ -18,7 +18,8 @@ fn joint(part: &FlatPart) -> Joint
 
 /// How the further units of a flat expression stand, each to the one before it.
 fn joints(alloc: Global, parts: &[FlatPart]) -> Result<List<Joint>, Memory>
-    ensures { IfOk result (λ joints. joints ≡ map (λ part. part.joint) (map measured_flat_part parts.now)) }
+    ensures { IfOk result (λ joints. joints
+        ≡ map (λ part. part.joint) (map measured_flat_part parts.now)) }
 {
     let mut joints = List::new(alloc);
     for part in parts {
@@ -27,8 +28,8 @@ fn joints(alloc: Global, parts: &[FlatPart]) -> Result<List<Joint>, Memory>
     Ok(joints)
 }
 
-/// What the grouping of a flat expression depends on: the place of its first token, and how each unit but the
-/// first stands to the one before it. The chapter "Operators".
+/// What the grouping of a flat expression depends on: the place of its first token, and how each
+/// unit but the first stands to the one before it. The chapter "Operators".
 pub fn row(alloc: Global, flat: &Flat) -> Result<Row, Memory>
     ensures { IfOk result (λ row. row ≡ row_of flat.now) }
 {

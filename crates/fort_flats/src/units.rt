@@ -23,7 +23,8 @@ pub fn add_flat(flat: &Flat, rows: &mut List<Row>) -> Result<(), Memory>
 /// Adds the flat expressions in the further units of a flat expression.
 #[cycle(add)]
 fn add_parts(parts: &[FlatPart], rows: &mut List<Row>) -> Result<(), Memory>
-    ensures { OnOk result (rows.new ≡ rows.old ++ all_flats (map (λ part. part.unit) (map measured_flat_part parts.now))) }
+    ensures { OnOk result (rows.new
+        ≡ rows.old ++ all_flats (map (λ part. part.unit) (map measured_flat_part parts.now))) }
 {
     for part in parts {
         add_part(part, rows)?;

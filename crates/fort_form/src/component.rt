@@ -7,7 +7,8 @@ use fort_base::{List, NameId, Place, Ty, TypeId};
 pub struct Forms {
     /// The place of the component's name.
     pub name: Place,
-    /// The initials of the variables at the top and of the fields in the bodies of objects, in the order of their places.
+    /// The initials of the variables at the top and of the fields in the bodies of objects, in the
+    /// order of their places.
     pub initials: List<InitialForm>,
     /// The functions and the methods that have a body, in the order of their places.
     pub bodies: List<BodyForm>,
@@ -31,7 +32,8 @@ pub struct BodyForm {
     pub owner: Option<TypeId>,
     /// The parameters that have names, `self` aside, in their order.
     pub parameters: List<Parameter>,
-    /// Which parameter of the declaration is the receiver or `self`, counted from 0, where it is a method.
+    /// Which parameter of the declaration is the receiver or `self`, counted from 0, where it is a
+    /// method.
     pub receiver: Option<u32>,
     /// The written result.
     pub result: Ty,

@@ -4,8 +4,8 @@ use fort_ops::Op;
 
 /// A form of an expression, with the place of its first token first.
 ///
-/// Groupings are applied, written types are resolved, and what is written in one way alone is one form alone: a flat
-/// expression of one unit is its run, a run of one atom is that atom.
+/// Groupings are applied, written types are resolved, and what is written in one way alone is one
+/// form alone: a flat expression of one unit is its run, a run of one atom is that atom.
 #[cycle(form)]
 #[derive(Drop)]
 pub enum Form {
@@ -23,7 +23,8 @@ pub enum Form {
     Parens(Place, Boxed<Form>),
     /// `()`, or `(e, f, ..)` of two parts or more.
     Tuple(Place, List<Form>),
-    /// A prefix operator and its operand, or an infix operator that is no relation and its two sides.
+    /// A prefix operator and its operand, or an infix operator that is no relation and its two
+    /// sides.
     Operator(Place, Op, List<Form>),
     /// Relations, one or more, and their sides, one more than operators.
     Chain(Place, List<Op>, List<Form>),
@@ -41,24 +42,27 @@ pub enum Form {
     Method(Place, Place, NameId, List<Form>),
     /// `array⟦T⟧(n).fill(v)`: T, n, v.
     Fill(Place, Ty, Boxed<Form>, Boxed<Form>),
-    /// The items of a block; its place is that of its first item, or where it has none that of the word before it.
+    /// The items of a block; its place is that of its first item, or where it has none that of the
+    /// word before it.
     Block(Place, List<Item>),
     /// `do b end`, or `do b also do c .. end`: its blocks, one or more, each a `Block`.
     Do(Place, List<Form>),
-    /// `if c then b elif d then e .. else f end`: each condition with its `Block`, one or more, and the `Block` behind
-    /// `else`.
+    /// `if c then b elif d then e .. else f end`: each condition with its `Block`, one or more, and
+    /// the `Block` behind `else`.
     If(Place, List<Branch>, Option<Boxed<Form>>),
     /// `while c do b end`: the condition, the `Block`.
     While(Place, Boxed<Form>, Boxed<Form>),
     /// `for g, h, .. do b end`: its generators, one or more, and the `Block`.
     For(Place, List<Generator>, Boxed<Form>),
-    /// `case s of e => v .. else => w end`: the subject, each clause, one or more, and what stands behind `else`.
+    /// `case s of e => v .. else => w end`: the subject, each clause, one or more, and what stands
+    /// behind `else`.
     Case(Place, Boxed<Form>, List<Branch>, Option<Boxed<Form>>),
-    /// `typecase x = s of T => v .. else => w end`: the place and the name of x, the subject, each clause, one or more,
-    /// and what stands behind `else`.
+    /// `typecase x = s of T => v .. else => w end`: the place and the name of x, the subject, each
+    /// clause, one or more, and what stands behind `else`.
     Typecase(Place, Place, NameId, Boxed<Form>, List<TypeBranch>, Option<Boxed<Form>>),
-    /// `try b catch x T => v .. finally c end`: the `Block`, the place and the name of x where there is a `catch`, its
-    /// clauses, none where there is no `catch`, and the `Block` behind `finally`.
+    /// `try b catch x T => v .. finally c end`: the `Block`, the place and the name of x where
+    /// there is a `catch`, its clauses, none where there is no `catch`, and the `Block` behind
+    /// `finally`.
     Try(Place, Boxed<Form>, Option<(Place, NameId)>, List<TypeBranch>, Option<Boxed<Form>>),
     /// `atomic e`
     Atomic(Place, Boxed<Form>),
@@ -78,7 +82,8 @@ pub enum Form {
 #[cycle(form)]
 #[derive(Drop)]
 pub enum Item {
-    /// `x: T = e`, with `var` or `:=` where it is mutable: the place and the name of x, whether it is mutable, T, e.
+    /// `x: T = e`, with `var` or `:=` where it is mutable: the place and the name of x, whether it
+    /// is mutable, T, e.
     Local(Place, NameId, bool, Ty, Form),
     /// `(x, y, ..): T = e`: the place of the `(`, the places and the names, two or more, T, e.
     Locals(Place, List<(Place, NameId)>, Ty, Form),
@@ -86,7 +91,8 @@ pub enum Item {
     Expression(Form),
 }
 
-/// A clause of an `if` or of a `case`: its condition or what the subject is compared with, and what it gives.
+/// A clause of an `if` or of a `case`: its condition or what the subject is compared with, and what
+/// it gives.
 #[cycle(form)]
 #[derive(Drop)]
 pub struct Branch {

@@ -1,4 +1,5 @@
-//! Forms: what the bodies and initials of a component say, without the tokens that they are written with.
+//! Forms: what the bodies and initials of a component say, without the tokens that they are written
+//! with.
 #![tactic(auto)]
 
 mod component;

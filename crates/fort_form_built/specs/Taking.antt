@@ -13,7 +13,8 @@ use Rattle.fort_formed.specs.Formed.{formed_block_item}
 use Rattle.fort_form_tasks.specs.Tasks.{inside_list}
 
 -- Where these forms lie on the top of the stack, they are taken off, and this is made of them.
-pub record Gives {A : Type 0} (forms : List Form) (it : A) (old new : List Form) (made : A) : Type 0 where
+pub record Gives {A : Type 0} (forms : List Form) (it : A) (old new : List Form)
+    (made : A) : Type 0 where
   pub gives : (rest : List Form) → old ≡ forms ++ rest → (made ≡ it) × (new ≡ rest)
 
 -- a form that may be left out, as those that lie on the stack

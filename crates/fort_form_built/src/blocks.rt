@@ -23,7 +23,9 @@ pub fn delimited<L: Lookup>(
     form: &Delimited,
     forms: &mut Stack<Form>,
 ) -> Result<Form, Memory>
-    ensures { IfOk result (Gives (delimited_at (L.source lookup.now) (out-Delimited form.now)) (formed_delimited (L.source lookup.now) form.now) forms.old forms.new) }
+    ensures { IfOk result
+        (Gives (delimited_at (L.source lookup.now) (out-Delimited form.now))
+        (formed_delimited (L.source lookup.now) form.now) forms.old forms.new) }
 {
     match form {
         Delimited::Do { do_, others, .. } => {
@@ -101,7 +103,8 @@ pub fn delimited<L: Lookup>(
 
 /// The top where there is to be one.
 fn maybe(alloc: Global, is: bool, forms: &mut Stack<Form>) -> Result<Option<Boxed<Form>>, Memory>
-    ensures { IfOk result (λ made. (last : _) → is_some last ≡ is → Gives (maybe_form last) last forms.old forms.new made) }
+    ensures { IfOk result (λ made. (last : _) → is_some last ≡ is
+        → Gives (maybe_form last) last forms.old forms.new made) }
 {
     if is {
         let last = take_boxed(alloc, forms)?;
@@ -127,7 +130,10 @@ fn caught<L: Lookup>(
     catch: &Option<Catch>,
     forms: &mut Stack<Form>,
 ) -> Result<List<TypeBranch>, Memory>
-    ensures { IfOk result (Gives (inside_catch (L.source lookup.now) catch.now) (caught_by (option_map (formed_catch (L.source lookup.now)) catch.now)) forms.old forms.new) }
+    ensures { IfOk result
+        (Gives (inside_catch (L.source lookup.now) catch.now)
+        (caught_by (option_map (formed_catch (L.source lookup.now)) catch.now)) forms.old
+        forms.new) }
 {
     match catch {
         None => Ok(List::new(alloc)),
@@ -145,7 +151,9 @@ fn type_branches<L: Lookup>(
     clauses: &[TypeClause],
     forms: &mut Stack<Form>,
 ) -> Result<List<TypeBranch>, Memory>
-    ensures { IfOk result (Gives (map (type_clause_value (L.source lookup.now)) clauses.now) (map (formed_type_clause (L.source lookup.now)) clauses.now) forms.old forms.new) }
+    ensures { IfOk result
+        (Gives (map (type_clause_value (L.source lookup.now)) clauses.now)
+        (map (formed_type_clause (L.source lookup.now)) clauses.now) forms.old forms.new) }
 {
     let mut made = List::new(alloc);
     for clause in clauses {
@@ -161,7 +169,9 @@ fn type_branch<L: Lookup>(
     clause: &TypeClause,
     forms: &mut Stack<Form>,
 ) -> Result<TypeBranch, Memory>
-    ensures { IfOk result (Gives (type_clause_value (L.source lookup.now) clause.now ∷ []) (formed_type_clause (L.source lookup.now) clause.now) forms.old forms.new) }
+    ensures { IfOk result
+        (Gives (type_clause_value (L.source lookup.now) clause.now ∷ [])
+        (formed_type_clause (L.source lookup.now) clause.now) forms.old forms.new) }
 {
     let ty = lookup.written_type(alloc, &clause.ty)?;
     let value = take(forms)?;
@@ -180,7 +190,9 @@ pub fn block<L: Lookup>(
     entries: &[BlockItem],
     forms: &mut Stack<Form>,
 ) -> Result<Form, Memory>
-    ensures { IfOk result (Gives (map (item_value (L.source lookup.now)) entries.now) (formed_block (L.source lookup.now) word entries.now) forms.old forms.new) }
+    ensures { IfOk result
+        (Gives (map (item_value (L.source lookup.now)) entries.now)
+        (formed_block (L.source lookup.now) word entries.now) forms.old forms.new) }
 {
     match entries.split_first() {
         None => Ok(Form::Block(word.place, List::new(alloc))),
@@ -196,7 +208,10 @@ fn filled<L: Lookup>(
     others: &[BlockItem],
     forms: &mut Stack<Form>,
 ) -> Result<Form, Memory>
-    ensures { IfOk result (λ form. (word : _) → Gives (map (item_value (L.source lookup.now)) (first.now ∷ others.now)) (formed_block (L.source lookup.now) word (first.now ∷ others.now)) forms.old forms.new form) }
+    ensures { IfOk result (λ form. (word : _)
+        → Gives (map (item_value (L.source lookup.now)) (first.now ∷ others.now))
+        (formed_block (L.source lookup.now) word (first.now ∷ others.now)) forms.old forms.new
+        form) }
 {
     let begun = placed(alloc, lookup, first, forms)?;
     let PlacedItem { place, item } = begun;
@@ -214,7 +229,9 @@ fn further_items<L: Lookup>(
     entries: &[BlockItem],
     forms: &mut Stack<Form>,
 ) -> Result<List<Item>, Memory>
-    ensures { IfOk result (Gives (map (item_value (L.source lookup.now)) entries.now) (map (entry_item (L.source lookup.now)) entries.now) forms.old forms.new) }
+    ensures { IfOk result
+        (Gives (map (item_value (L.source lookup.now)) entries.now)
+        (map (entry_item (L.source lookup.now)) entries.now) forms.old forms.new) }
 {
     let mut made = List::new(alloc);
     for entry in entries {
@@ -230,7 +247,9 @@ fn next_item<L: Lookup>(
     entry: &BlockItem,
     forms: &mut Stack<Form>,
 ) -> Result<Item, Memory>
-    ensures { IfOk result (Gives (item_value (L.source lookup.now) entry.now ∷ []) (entry_item (L.source lookup.now) entry.now) forms.old forms.new) }
+    ensures { IfOk result
+        (Gives (item_value (L.source lookup.now) entry.now ∷ [])
+        (entry_item (L.source lookup.now) entry.now) forms.old forms.new) }
 {
     let made = placed(alloc, lookup, entry, forms)?;
     let PlacedItem { item, .. } = made;

@@ -22,7 +22,9 @@ pub fn expression<L: Lookup>(
     expr: &Expr,
     forms: &mut Stack<Form>,
 ) -> Result<Form, Memory>
-    ensures { IfOk result (Gives (expr_at (L.source lookup.now) (out-Expr expr.now)) (formed_expr (L.source lookup.now) expr.now) forms.old forms.new) }
+    ensures { IfOk result
+        (Gives (expr_at (L.source lookup.now) (out-Expr expr.now))
+        (formed_expr (L.source lookup.now) expr.now) forms.old forms.new) }
 {
     match expr {
         Expr::Flat(_) => Ok(take(forms)?),
@@ -42,7 +44,11 @@ fn assigned<L: Lookup>(
     sign: AssignSign,
     forms: &mut Stack<Form>,
 ) -> Result<Form, Memory>
-    ensures { IfOk result (λ form. (target : _) (value : _) → Gives (target ∷ value ∷ inside_maybe_head (L.source lookup.now) head.now) (assignment_of target sign (opened (option_map (formed_head (L.source lookup.now)) head.now) value)) forms.old forms.new form) }
+    ensures { IfOk result (λ form. (target : _) (value : _)
+        → Gives (target ∷ value ∷ inside_maybe_head (L.source lookup.now) head.now)
+        (assignment_of target sign
+        (opened (option_map (formed_head (L.source lookup.now)) head.now) value)) forms.old
+        forms.new form) }
 {
     let target = take(forms)?;
     let value = take(forms)?;
@@ -58,7 +64,9 @@ fn behind_head<L: Lookup>(
     head: &Head,
     forms: &mut Stack<Form>,
 ) -> Result<Form, Memory>
-    ensures { IfOk result (λ form. (body : _) → Gives (body ∷ inside_head (L.source lookup.now) head.now) (formed_head (L.source lookup.now) head.now body) forms.old forms.new form) }
+    ensures { IfOk result (λ form. (body : _)
+        → Gives (body ∷ inside_head (L.source lookup.now) head.now)
+        (formed_head (L.source lookup.now) head.now body) forms.old forms.new form) }
 {
     let body = take(forms)?;
     let form = headed(alloc, lookup, head, body, forms)?;
@@ -73,7 +81,10 @@ fn assigned_behind_head<L: Lookup>(
     sign: AssignSign,
     forms: &mut Stack<Form>,
 ) -> Result<Form, Memory>
-    ensures { IfOk result (λ form. (target : _) (value : _) → Gives (target ∷ value ∷ inside_head (L.source lookup.now) head.now) (formed_head (L.source lookup.now) head.now (assignment_of target sign value)) forms.old forms.new form) }
+    ensures { IfOk result (λ form. (target : _) (value : _)
+        → Gives (target ∷ value ∷ inside_head (L.source lookup.now) head.now)
+        (formed_head (L.source lookup.now) head.now (assignment_of target sign value)) forms.old
+        forms.new form) }
 {
     let target = take(forms)?;
     let value = take(forms)?;
@@ -111,7 +122,10 @@ fn maybe_headed<L: Lookup>(
     body: Form,
     forms: &mut Stack<Form>,
 ) -> Result<Form, Memory>
-    ensures { IfOk result (Gives (inside_maybe_head (L.source lookup.now) head.now) (opened (option_map (formed_head (L.source lookup.now)) head.now) body) forms.old forms.new) }
+    ensures { IfOk result
+        (Gives (inside_maybe_head (L.source lookup.now) head.now)
+        (opened (option_map (formed_head (L.source lookup.now)) head.now) body) forms.old
+        forms.new) }
 {
     match head {
         None => Ok(body),
@@ -127,7 +141,9 @@ fn headed<L: Lookup>(
     body: Form,
     forms: &mut Stack<Form>,
 ) -> Result<Form, Memory>
-    ensures { IfOk result (Gives (inside_head (L.source lookup.now) head.now) (formed_head (L.source lookup.now) head.now body) forms.old forms.new) }
+    ensures { IfOk result
+        (Gives (inside_head (L.source lookup.now) head.now)
+        (formed_head (L.source lookup.now) head.now body) forms.old forms.new) }
 {
     let boxed = Boxed::new(alloc, body)?;
     match head {
@@ -184,7 +200,9 @@ fn big_place(big: Big) -> Place
 
 /// A generator, with its source.
 pub fn generator(tree: &Generator, forms: &mut Stack<Form>) -> Result<FormGenerator, Memory>
-    ensures { IfOk result (λ made. (k : Source) → Gives (source_form k tree.now ∷ []) (formed_generator k tree.now) forms.old forms.new made) }
+    ensures { IfOk result (λ made. (k : Source)
+        → Gives (source_form k tree.now ∷ []) (formed_generator k tree.now) forms.old forms.new
+        made) }
 {
     let source = take(forms)?;
     match tree {
@@ -210,7 +228,10 @@ pub fn generators(
     others: &[NextGenerator],
     forms: &mut Stack<Form>,
 ) -> Result<List<FormGenerator>, Memory>
-    ensures { IfOk result (λ made. (k : Source) → Gives (source_form k first.now ∷ map (next_source k) others.now) (formed_generator k first.now ∷ map (formed_next_generator k) others.now) forms.old forms.new made) }
+    ensures { IfOk result (λ made. (k : Source)
+        → Gives (source_form k first.now ∷ map (next_source k) others.now)
+        (formed_generator k first.now ∷ map (formed_next_generator k) others.now) forms.old
+        forms.new made) }
 {
     let begun = generator(first, forms)?;
     let mut made = List::new(alloc);
@@ -226,7 +247,9 @@ fn further_generators(
     others: &[NextGenerator],
     forms: &mut Stack<Form>,
 ) -> Result<List<FormGenerator>, Memory>
-    ensures { IfOk result (λ made. (k : Source) → Gives (map (next_source k) others.now) (map (formed_next_generator k) others.now) forms.old forms.new made) }
+    ensures { IfOk result (λ made. (k : Source)
+        → Gives (map (next_source k) others.now) (map (formed_next_generator k) others.now)
+        forms.old forms.new made) }
 {
     let mut made = List::new(alloc);
     for next in others {

@@ -28,7 +28,9 @@ pub fn group(
     grouped: &Grouped,
     forms: &mut Stack<Form>,
 ) -> Result<Form, Memory>
-    ensures { IfOk result (λ form. (k : Source) → Gives (group_at k flat.now (out-Grouped grouped.now)) (formed_group k flat.now grouped.now) forms.old forms.new form) }
+    ensures { IfOk result (λ form. (k : Source)
+        → Gives (group_at k flat.now (out-Grouped grouped.now))
+        (formed_group k flat.now grouped.now) forms.old forms.new form) }
 {
     match grouped {
         Grouped::Unit(_) => Ok(take(forms)?),
@@ -40,7 +42,9 @@ pub fn group(
 
 /// An infix operator and its sides.
 fn binary(alloc: Global, op: Op, forms: &mut Stack<Form>) -> Result<Form, Memory>
-    ensures { IfOk result (λ form. (left : _) (right : _) → Gives (left ∷ right ∷ []) (a_form.Operator (place_of left) op (left ∷ right ∷ [])) forms.old forms.new form) }
+    ensures { IfOk result (λ form. (left : _) (right : _)
+        → Gives (left ∷ right ∷ []) (a_form.Operator (place_of left) op (left ∷ right ∷ []))
+        forms.old forms.new form) }
 {
     let sides = take_forms(alloc, forms, 2)?;
     Ok(Form::Operator(first_place(&sides), op, sides))
@@ -48,7 +52,8 @@ fn binary(alloc: Global, op: Op, forms: &mut Stack<Form>) -> Result<Form, Memory
 
 /// Relations and their sides.
 fn chain(alloc: Global, ops: &[Op], count: usize, forms: &mut Stack<Form>) -> Result<Form, Memory>
-    ensures { IfOk result (λ form. (sides : _) → length sides ≡ count → Gives sides (a_form.Chain (begins sides) ops.now sides) forms.old forms.new form) }
+    ensures { IfOk result (λ form. (sides : _) → length sides ≡ count
+        → Gives sides (a_form.Chain (begins sides) ops.now sides) forms.old forms.new form) }
 {
     let sides = take_forms(alloc, forms, count)?;
     let relations = List::from_slice(alloc, ops)?;
@@ -57,7 +62,8 @@ fn chain(alloc: Global, ops: &[Op], count: usize, forms: &mut Stack<Form>) -> Re
 
 /// Units beside each other.
 fn beside(alloc: Global, count: usize, forms: &mut Stack<Form>) -> Result<Form, Memory>
-    ensures { IfOk result (λ form. (units : _) → length units ≡ count → Gives units (a_form.Beside (begins units) units) forms.old forms.new form) }
+    ensures { IfOk result (λ form. (units : _) → length units ≡ count
+        → Gives units (a_form.Beside (begins units) units) forms.old forms.new form) }
 {
     let units = take_forms(alloc, forms, count)?;
     Ok(Form::Beside(first_place(&units), units))
@@ -75,7 +81,9 @@ fn first_place(forms: &List<Form>) -> Place
 
 /// A unit: its run, behind its prefix operator where it has one.
 pub fn unit(alloc: Global, operand: &Operand, forms: &mut Stack<Form>) -> Result<Form, Memory>
-    ensures { IfOk result (λ form. (k : Source) → Gives (formed_run k (out-Operand operand.now).run ∷ []) (formed_operand k operand.now) forms.old forms.new form) }
+    ensures { IfOk result (λ form. (k : Source)
+        → Gives (formed_run k (out-Operand operand.now).run ∷ []) (formed_operand k operand.now)
+        forms.old forms.new form) }
 {
     match operand.prefix {
         None => Ok(take(forms)?),
@@ -85,7 +93,8 @@ pub fn unit(alloc: Global, operand: &Operand, forms: &mut Stack<Form>) -> Result
 
 /// A run behind a prefix operator.
 fn signed(alloc: Global, prefix: Prefix, forms: &mut Stack<Form>) -> Result<Form, Memory>
-    ensures { IfOk result (λ form. (run : _) → Gives (run ∷ []) (behind_prefix (Some prefix) run) forms.old forms.new form) }
+    ensures { IfOk result (λ form. (run : _)
+        → Gives (run ∷ []) (behind_prefix (Some prefix) run) forms.old forms.new form) }
 {
     match prefix {
         Prefix::Minus(spot) => Ok(prefixed(alloc, spot.place, Op::Minus, forms)?),
@@ -95,7 +104,8 @@ fn signed(alloc: Global, prefix: Prefix, forms: &mut Stack<Form>) -> Result<Form
 
 /// A prefix operator and its operand.
 fn prefixed(alloc: Global, place: Place, op: Op, forms: &mut Stack<Form>) -> Result<Form, Memory>
-    ensures { IfOk result (λ form. (run : _) → Gives (run ∷ []) (a_form.Operator place op (run ∷ [])) forms.old forms.new form) }
+    ensures { IfOk result (λ form. (run : _)
+        → Gives (run ∷ []) (a_form.Operator place op (run ∷ [])) forms.old forms.new form) }
 {
     let operand = take_forms(alloc, forms, 1)?;
     Ok(Form::Operator(place, op, operand))
@@ -103,7 +113,8 @@ fn prefixed(alloc: Global, place: Place, op: Op, forms: &mut Stack<Form>) -> Res
 
 /// A run: its elements, or its one atom.
 pub fn run(alloc: Global, run: &Run, forms: &mut Stack<Form>) -> Result<Form, Memory>
-    ensures { IfOk result (λ form. (k : Source) → Gives (inside_run k run.now) (formed_run k run.now) forms.old forms.new form) }
+    ensures { IfOk result (λ form. (k : Source)
+        → Gives (inside_run k run.now) (formed_run k run.now) forms.old forms.new form) }
 {
     if run.rest.is_empty() {
         return Ok(take(forms)?);
@@ -119,7 +130,9 @@ pub fn atom<L: Lookup>(
     atom: &Atom,
     forms: &mut Stack<Form>,
 ) -> Result<Form, Memory>
-    ensures { IfOk result (Gives (atom_at (L.source lookup.now) (out-Atom atom.now)) (formed_atom (L.source lookup.now) atom.now) forms.old forms.new) }
+    ensures { IfOk result
+        (Gives (atom_at (L.source lookup.now) (out-Atom atom.now))
+        (formed_atom (L.source lookup.now) atom.now) forms.old forms.new) }
 {
     match atom {
         Atom::Name(name) => Ok(Form::Name(name.spot.place, name.id)),
@@ -144,7 +157,10 @@ fn between(
     contents: &Option<ExprList>,
     forms: &mut Stack<Form>,
 ) -> Result<Form, Memory>
-    ensures { IfOk result (λ form. (k : Source) → Gives (inside_list k contents.now) (between_parentheses place (option_map (formed_expr_list k) contents.now)) forms.old forms.new form) }
+    ensures { IfOk result (λ form. (k : Source)
+        → Gives (inside_list k contents.now)
+        (between_parentheses place (option_map (formed_expr_list k) contents.now)) forms.old
+        forms.new form) }
 {
     match contents {
         None => Ok(Form::Tuple(place, List::new(alloc))),
@@ -159,7 +175,10 @@ fn parenthesized(
     list: &ExprList,
     forms: &mut Stack<Form>,
 ) -> Result<Form, Memory>
-    ensures { IfOk result (λ form. (k : Source) → Gives (list_forms k list.now) (between_parentheses place (Some (formed_expr_list k list.now))) forms.old forms.new form) }
+    ensures { IfOk result (λ form. (k : Source)
+        → Gives (list_forms k list.now)
+        (between_parentheses place (Some (formed_expr_list k list.now))) forms.old forms.new
+        form) }
 {
     if list.others.is_empty() {
         let inner = take_boxed(alloc, forms)?;
@@ -175,7 +194,9 @@ fn listed(
     list: &Option<ExprList>,
     forms: &mut Stack<Form>,
 ) -> Result<List<Form>, Memory>
-    ensures { IfOk result (λ made. (k : Source) → Gives (inside_list k list.now) (arguments_of (option_map (formed_expr_list k) list.now)) forms.old forms.new made) }
+    ensures { IfOk result (λ made. (k : Source)
+        → Gives (inside_list k list.now)
+        (arguments_of (option_map (formed_expr_list k) list.now)) forms.old forms.new made) }
 {
     match list {
         None => Ok(List::new(alloc)),
@@ -191,7 +212,10 @@ fn fill<L: Lookup>(
     element: &TypeTree,
     forms: &mut Stack<Form>,
 ) -> Result<Form, Memory>
-    ensures { IfOk result (λ form. (size : _) (value : _) → Gives (size ∷ value ∷ []) (a_form.Fill place ((L.source lookup.now).written element.now) size value) forms.old forms.new form) }
+    ensures { IfOk result (λ form. (size : _) (value : _)
+        → Gives (size ∷ value ∷ [])
+        (a_form.Fill place ((L.source lookup.now).written element.now) size value) forms.old
+        forms.new form) }
 {
     let ty = lookup.written_type(alloc, element)?;
     let size = take_boxed(alloc, forms)?;
@@ -201,7 +225,9 @@ fn fill<L: Lookup>(
 
 /// A postfix.
 pub fn postfix(alloc: Global, postfix: &Postfix, forms: &mut Stack<Form>) -> Result<Form, Memory>
-    ensures { IfOk result (λ form. (k : Source) → Gives (postfix_at k (out-Postfix postfix.now)) (formed_postfix k postfix.now) forms.old forms.new form) }
+    ensures { IfOk result (λ form. (k : Source)
+        → Gives (postfix_at k (out-Postfix postfix.now)) (formed_postfix k postfix.now)
+        forms.old forms.new form) }
 {
     match postfix {
         Postfix::Subscript { left, .. } => {

@@ -30,7 +30,10 @@ pub fn placed<L: Lookup>(
     entry: &BlockItem,
     forms: &mut Stack<Form>,
 ) -> Result<PlacedItem, Memory>
-    ensures { IfOk result (λ made. Gives (item_value (L.source lookup.now) entry.now ∷ []) (formed_block_item (L.source lookup.now) entry.now) forms.old forms.new (placed_as made.place made.item)) }
+    ensures { IfOk result
+        (λ made. Gives (item_value (L.source lookup.now) entry.now ∷ [])
+        (formed_block_item (L.source lookup.now) entry.now) forms.old forms.new
+        (placed_as made.place made.item)) }
 {
     let value = take(forms)?;
     match &entry.item {
@@ -66,7 +69,9 @@ fn local<L: Lookup>(
     variable: &Variable,
     value: Form,
 ) -> Result<PlacedItem, Memory>
-    ensures { IfOk result (λ made. value ≡ formed_expr (L.source lookup.now) (out-Variable variable.now).value → placed_as made.place made.item ≡ formed_variable (L.source lookup.now) variable.now) }
+    ensures { IfOk result (λ made. value
+        ≡ formed_expr (L.source lookup.now) (out-Variable variable.now).value
+        → placed_as made.place made.item ≡ formed_variable (L.source lookup.now) variable.now) }
 {
     let ty = lookup.written_type(alloc, &variable.ty)?;
     let name = variable.name;
@@ -79,7 +84,8 @@ fn local<L: Lookup>(
 
 /// Where a declaration of a variable begins.
 fn variable_place(variable: &Variable) -> Place
-    ensures { result ≡ (var_spot (out-Variable variable.now).var (out-Variable variable.now).name.spot).place }
+    ensures { result
+        ≡ (var_spot (out-Variable variable.now).var (out-Variable variable.now).name.spot).place }
 {
     match variable.var {
         Some(spot) => spot.place,
@@ -89,7 +95,9 @@ fn variable_place(variable: &Variable) -> Place
 
 /// Whether a declaration of a variable is that of a mutable one: with `var` or with `:=`.
 fn is_mutable(variable: &Variable) -> bool
-    ensures { result ≡ (is_some (out-Variable variable.now).var || sign_becomes (out-Variable variable.now).sign) }
+    ensures { result
+        ≡ (is_some (out-Variable variable.now).var
+        || sign_becomes (out-Variable variable.now).sign) }
 {
     variable.var.is_some() || becomes(variable.sign)
 }
@@ -110,7 +118,8 @@ fn binders(
     first: &Name,
     others: &[NextName],
 ) -> Result<List<(Place, NameId)>, Memory>
-    ensures { IfOk result (λ names. names ≡ bound first.now ∷ map (λ (next : ANextName). bound next.name) others.now) }
+    ensures { IfOk result (λ names. names ≡ bound first.now ∷ map (λ
+        (next : ANextName). bound next.name) others.now) }
 {
     let mut names = List::new(alloc);
     names.push(named(first))?;

@@ -1,4 +1,5 @@
--- The parts of a tree, each of which has one form, and the tasks of the walk in the words of the definitions.
+-- The parts of a tree, each of which has one form, and the tasks of the walk in the words of the
+-- definitions.
 use Rattle.std.specs.Prelude.{◌≡◌, ℕ, List, [], ◌∷◌, ◌++◌, Option, Some, None, map}
 use Rattle.std.specs.List.{flat_map}
 use Rattle.fort_form.specs.declared.form.Form.{Form}
@@ -47,11 +48,15 @@ formed_block k word items = block word (map (formed_block_item k) items)
 
 -- the form of the unit of that number of a flat expression
 abbrev pub formed_unit : Source → Flat → ℕ → Form
-formed_unit k flat n = unit_at (formed_operand k (out-Flat flat).first) (map (formed_flat_part k) (out-Flat flat).rest) n
+formed_unit k flat n =
+    unit_at (formed_operand k (out-Flat flat).first) (map (formed_flat_part k) (out-Flat flat).rest)
+    n
 
 -- the form of a part of a flat expression that is grouped so
 abbrev pub formed_group : Source → Flat → Grouped → Form
-formed_group k flat grouping = grouped (formed_operand k (out-Flat flat).first) (map (formed_flat_part k) (out-Flat flat).rest) grouping
+formed_group k flat grouping =
+    grouped (formed_operand k (out-Flat flat).first) (map (formed_flat_part k) (out-Flat flat).rest)
+    grouping
 
 -- The form of a part.
 abbrev pub formed_part : Source → Part → Form
@@ -68,7 +73,10 @@ formed_part k (a_part.Block word items) = formed_block k word items.now
 -- ---- the forms that stand in a part
 
 -- the source of a generator
-abbrev pub source_at : Source → Generator-F Delimited Item Atom Expr FlatPart Generator Head Postfix RunPart Variable Also BlockItem CaseClause Catch Elif ElseBlock ElseClause Finally NextGenerator TypeClause ExprList Flat NextExpr Operand Run → Form
+abbrev pub source_at : Source
+    → Generator-F Delimited Item Atom Expr FlatPart Generator Head Postfix RunPart Variable Also
+    BlockItem CaseClause Catch Elif ElseBlock ElseClause Finally NextGenerator TypeClause ExprList
+    Flat NextExpr Operand Run → Form
 source_at k (Generator-F.Parallel name arrow source) = formed_flat k source
 source_at k (Generator-F.Sequential name arrow seq left source right) = formed_flat k source
 
@@ -79,7 +87,10 @@ abbrev pub next_source : Source → NextGenerator → Form
 next_source k next = source_form k (out-NextGenerator next).generator
 
 -- a reduction has its generator's source
-abbrev pub head_at : Source → Head-F Delimited Item Atom Expr FlatPart Generator Head Postfix RunPart Variable Also BlockItem CaseClause Catch Elif ElseBlock ElseClause Finally NextGenerator TypeClause ExprList Flat NextExpr Operand Run → List Form
+abbrev pub head_at : Source
+    → Head-F Delimited Item Atom Expr FlatPart Generator Head Postfix RunPart Variable Also
+    BlockItem CaseClause Catch Elif ElseBlock ElseClause Finally NextGenerator TypeClause ExprList
+    Flat NextExpr Operand Run → List Form
 head_at k (Head-F.Atomic s) = []
 head_at k (Head-F.Tryatomic s) = []
 head_at k (Head-F.Throw s) = []
@@ -94,25 +105,35 @@ inside_maybe_head k None = []
 inside_maybe_head k (Some head) = inside_head k head
 
 -- what stands in an expression: what its head has stands last
-abbrev pub expr_at : Source → Expr-F Delimited Item Atom Expr FlatPart Generator Head Postfix RunPart Variable Also BlockItem CaseClause Catch Elif ElseBlock ElseClause Finally NextGenerator TypeClause ExprList Flat NextExpr Operand Run → List Form
+abbrev pub expr_at : Source
+    → Expr-F Delimited Item Atom Expr FlatPart Generator Head Postfix RunPart Variable Also
+    BlockItem CaseClause Catch Elif ElseBlock ElseClause Finally NextGenerator TypeClause ExprList
+    Flat NextExpr Operand Run → List Form
 expr_at k (Expr-F.Flat flat) = formed_flat k flat ∷ []
-expr_at k (Expr-F.Assign target sign head value) = formed_flat k target ∷ formed_flat k value ∷ inside_maybe_head k head
+expr_at k (Expr-F.Assign target sign head value) =
+    formed_flat k target ∷ formed_flat k value ∷ inside_maybe_head k head
 expr_at k (Expr-F.Open head body) = formed_flat k body ∷ inside_head k head
-expr_at k (Expr-F.OpenAssign head target sign value) = formed_flat k target ∷ formed_flat k value ∷ inside_head k head
+expr_at k (Expr-F.OpenAssign head target sign value) =
+    formed_flat k target ∷ formed_flat k value ∷ inside_head k head
 
 -- the units or the parts of a grouping
 abbrev pub group_at : Source → Flat → Grouped-F Grouped → List Form
 group_at k flat (Grouped-F.Unit n) = formed_unit k flat n ∷ []
-group_at k flat (Grouped-F.Binary op left right) = formed_group k flat left ∷ formed_group k flat right ∷ []
+group_at k flat (Grouped-F.Binary op left right) =
+    formed_group k flat left ∷ formed_group k flat right ∷ []
 group_at k flat (Grouped-F.Chain ops parts) = map (formed_group k flat) parts
 group_at k flat (Grouped-F.Juxt units) = map (formed_unit k flat) units
 
 -- the expressions of a list
 abbrev pub inside_list : Source → Option ExprList → List Form
 inside_list k None = []
-inside_list k (Some list) = formed_expr k (out-ExprList list).first ∷ map (formed_next_expr k) (out-ExprList list).others
+inside_list k (Some list) =
+    formed_expr k (out-ExprList list).first ∷ map (formed_next_expr k) (out-ExprList list).others
 
-abbrev pub atom_at : Source → Atom-F Delimited Item Atom Expr FlatPart Generator Head Postfix RunPart Variable Also BlockItem CaseClause Catch Elif ElseBlock ElseClause Finally NextGenerator TypeClause ExprList Flat NextExpr Operand Run → List Form
+abbrev pub atom_at : Source
+    → Atom-F Delimited Item Atom Expr FlatPart Generator Head Postfix RunPart Variable Also
+    BlockItem CaseClause Catch Elif ElseBlock ElseClause Finally NextGenerator TypeClause ExprList
+    Flat NextExpr Operand Run → List Form
 atom_at k (Atom-F.Name name) = []
 atom_at k (Atom-F.Number value s) = []
 atom_at k (Atom-F.Text text s) = []
@@ -121,9 +142,13 @@ atom_at k (Atom-F.False s) = []
 atom_at k (Atom-F.Self_ s) = []
 atom_at k (Atom-F.Parens left contents right) = inside_list k contents
 atom_at k (Atom-F.Delimited form) = formed_delimited k form ∷ []
-atom_at k (Atom-F.ArrayFill spots element size value) = formed_expr k size ∷ formed_expr k value ∷ []
+atom_at k (Atom-F.ArrayFill spots element size value) =
+    formed_expr k size ∷ formed_expr k value ∷ []
 
-abbrev pub postfix_at : Source → Postfix-F Delimited Item Atom Expr FlatPart Generator Head Postfix RunPart Variable Also BlockItem CaseClause Catch Elif ElseBlock ElseClause Finally NextGenerator TypeClause ExprList Flat NextExpr Operand Run → List Form
+abbrev pub postfix_at : Source
+    → Postfix-F Delimited Item Atom Expr FlatPart Generator Head Postfix RunPart Variable Also
+    BlockItem CaseClause Catch Elif ElseBlock ElseClause Finally NextGenerator TypeClause ExprList
+    Flat NextExpr Operand Run → List Form
 postfix_at k (Postfix-F.Subscript left index right) = formed_expr k index ∷ []
 postfix_at k (Postfix-F.Power power exponent) = formed_atom k exponent ∷ []
 postfix_at k (Postfix-F.Field dot name) = []
@@ -134,7 +159,10 @@ abbrev pub inside_run : Source → Run → List Form
 inside_run k run = formed_atom k (out-Run run).first ∷ map (formed_run_part k) (out-Run run).rest
 
 -- an item of a block has one expression
-abbrev pub item_at : Source → Item-F Delimited Item Atom Expr FlatPart Generator Head Postfix RunPart Variable Also BlockItem CaseClause Catch Elif ElseBlock ElseClause Finally NextGenerator TypeClause ExprList Flat NextExpr Operand Run → Form
+abbrev pub item_at : Source
+    → Item-F Delimited Item Atom Expr FlatPart Generator Head Postfix RunPart Variable Also
+    BlockItem CaseClause Catch Elif ElseBlock ElseClause Finally NextGenerator TypeClause ExprList
+    Flat NextExpr Operand Run → Form
 item_at k (Item-F.Variable variable) = formed_expr k (out-Variable variable).value
 item_at k (Item-F.Names left first others right colon ty equals value) = formed_expr k value
 item_at k (Item-F.Expr expr) = formed_expr k expr
@@ -142,12 +170,15 @@ item_at k (Item-F.Expr expr) = formed_expr k expr
 abbrev pub item_value : Source → BlockItem → Form
 item_value k entry = item_at k (out-Item (out-BlockItem entry).item)
 
--- an `elif` has its condition and its block, a clause of a `case` what it compares with and what it gives
+-- an `elif` has its condition and its block, a clause of a `case` what it compares with and what it
+-- gives
 abbrev pub inside_elif : Source → Elif → List Form
-inside_elif k e = formed_flat k (out-Elif e).condition ∷ formed_block k (out-Elif e).then (out-Elif e).block ∷ []
+inside_elif k e =
+    formed_flat k (out-Elif e).condition ∷ formed_block k (out-Elif e).then (out-Elif e).block ∷ []
 
 abbrev pub inside_case_clause : Source → CaseClause → List Form
-inside_case_clause k c = formed_flat k (out-CaseClause c).subject ∷ formed_expr k (out-CaseClause c).value ∷ []
+inside_case_clause k c =
+    formed_flat k (out-CaseClause c).subject ∷ formed_expr k (out-CaseClause c).value ∷ []
 
 -- what a clause of a `typecase` or a `catch` gives
 abbrev pub type_clause_value : Source → TypeClause → Form
@@ -170,16 +201,29 @@ abbrev pub inside_finally : Source → Option Finally → List Form
 inside_finally k None = []
 inside_finally k (Some f) = formed_finally k f ∷ []
 
-abbrev pub delimited_at : Source → Delimited-F Delimited Item Atom Expr FlatPart Generator Head Postfix RunPart Variable Also BlockItem CaseClause Catch Elif ElseBlock ElseClause Finally NextGenerator TypeClause ExprList Flat NextExpr Operand Run → List Form
-delimited_at k (Delimited-F.Do at_do items others end) = formed_block k at_do items ∷ map (formed_also k) others
-delimited_at k (Delimited-F.If at_if condition then items elifs otherwise end) = formed_flat k condition ∷ formed_block k then items ∷ (flat_map (inside_elif k) elifs ++ inside_else_block k otherwise)
-delimited_at k (Delimited-F.While at_while condition at_do items end) = formed_flat k condition ∷ formed_block k at_do items ∷ []
-delimited_at k (Delimited-F.For at_for generator others at_do items end) = source_form k generator ∷ (map (next_source k) others ++ formed_block k at_do items ∷ [])
-delimited_at k (Delimited-F.Case at_case subject of clauses otherwise end) = formed_flat k subject ∷ (flat_map (inside_case_clause k) clauses ++ inside_else_clause k otherwise)
-delimited_at k (Delimited-F.Typecase at_typecase name equals subject of clauses otherwise end) = formed_flat k subject ∷ (map (type_clause_value k) clauses ++ inside_else_clause k otherwise)
-delimited_at k (Delimited-F.Try at_try items catch finally end) = formed_block k at_try items ∷ (inside_catch k catch ++ inside_finally k finally)
+abbrev pub delimited_at : Source
+    → Delimited-F Delimited Item Atom Expr FlatPart Generator Head Postfix RunPart Variable Also
+    BlockItem CaseClause Catch Elif ElseBlock ElseClause Finally NextGenerator TypeClause ExprList
+    Flat NextExpr Operand Run → List Form
+delimited_at k (Delimited-F.Do at_do items others end) =
+    formed_block k at_do items ∷ map (formed_also k) others
+delimited_at k (Delimited-F.If at_if condition then items elifs otherwise end) =
+    formed_flat k condition ∷ formed_block k
+    then items ∷ (flat_map (inside_elif k) elifs ++ inside_else_block k otherwise)
+delimited_at k (Delimited-F.While at_while condition at_do items end) =
+    formed_flat k condition ∷ formed_block k at_do items ∷ []
+delimited_at k (Delimited-F.For at_for generator others at_do items end) =
+    source_form k generator ∷ (map (next_source k) others ++ formed_block k at_do items ∷ [])
+delimited_at k (Delimited-F.Case at_case subject of clauses otherwise end) =
+    formed_flat k subject
+    ∷ (flat_map (inside_case_clause k) clauses ++ inside_else_clause k otherwise)
+delimited_at k (Delimited-F.Typecase at_typecase name equals subject of clauses otherwise end) =
+    formed_flat k subject ∷ (map (type_clause_value k) clauses ++ inside_else_clause k otherwise)
+delimited_at k (Delimited-F.Try at_try items catch finally end) =
+    formed_block k at_try items ∷ (inside_catch k catch ++ inside_finally k finally)
 
--- The forms that stand in a part, in the order in which they lie on the stack, the first on the top. A flat expression has that of its grouping.
+-- The forms that stand in a part, in the order in which they lie on the stack, the first on the
+-- top. A flat expression has that of its grouping.
 abbrev pub inside : Source → Part → List Form
 inside k (a_part.Expr e) = expr_at k (out-Expr e.now)
 inside k (a_part.Flat f) = formed_flat k f.now ∷ []
@@ -193,12 +237,13 @@ inside k (a_part.Block word items) = map (item_value k) items.now
 
 -- ---- tasks
 
--- The tasks, the top first, lead from one stack of forms to another: to see a part puts its form on the top, and to build one takes the forms
--- that stand in it off first.
+-- The tasks, the top first, lead from one stack of forms to another: to see a part puts its form on
+-- the top, and to build one takes the forms that stand in it off first.
 abbrev pub Leads : Source → List Task → List Form → List Form → Type 0
 Leads k [] done goal = done ≡ goal
 Leads k (a_task.See part ∷ tasks) done goal = Leads k tasks (formed_part k part ∷ done) goal
-Leads k (a_task.Build part ∷ tasks) done goal = (rest : List Form) × (done ≡ inside k part ++ rest) × Leads k tasks (formed_part k part ∷ rest) goal
+Leads k (a_task.Build part ∷ tasks) done goal = (rest : List Form) × (done ≡ inside k part ++ rest)
+    × Leads k tasks (formed_part k part ∷ rest) goal
 
 -- Further tasks put these forms on the stack.
 pub record Sees (k : Source) (forms : List Form) (old new : List Task) : Type 0 where

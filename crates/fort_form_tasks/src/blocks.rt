@@ -18,7 +18,8 @@ use fort_tree::{
 
 /// What stands in a form that ends with `end`.
 pub fn see_in_form<'a>(form: &'a Delimited, tasks: &mut Stack<Task<'a>>) -> Result<(), Memory>
-    ensures { OnOk result ((k : Source) → Sees k (delimited_at k (out-Delimited form.now)) tasks.old tasks.new) }
+    ensures { OnOk result ((k : Source)
+        → Sees k (delimited_at k (out-Delimited form.now)) tasks.old tasks.new) }
 {
     match form {
         Delimited::Do {
@@ -100,7 +101,8 @@ pub fn see_in_form<'a>(form: &'a Delimited, tasks: &mut Stack<Task<'a>>) -> Resu
 
 /// The expression of each item of a block.
 pub fn see_items<'a>(items: &'a [BlockItem], tasks: &mut Stack<Task<'a>>) -> Result<(), Memory>
-    ensures { OnOk result ((k : Source) → Sees k (map (item_value k) items.now) tasks.old tasks.new) }
+    ensures { OnOk result ((k : Source)
+        → Sees k (map (item_value k) items.now) tasks.old tasks.new) }
 {
     for entry in items {
         see_item(entry, tasks)?;
@@ -110,7 +112,8 @@ pub fn see_items<'a>(items: &'a [BlockItem], tasks: &mut Stack<Task<'a>>) -> Res
 
 /// The expression of an item of a block.
 fn see_item<'a>(entry: &'a BlockItem, tasks: &mut Stack<Task<'a>>) -> Result<(), Memory>
-    ensures { OnOk result ((k : Source) → Sees k (item_value k entry.now ∷ []) tasks.old tasks.new) }
+    ensures { OnOk result ((k : Source)
+        → Sees k (item_value k entry.now ∷ []) tasks.old tasks.new) }
 {
     match &entry.item {
         Item::Variable(variable) => see(Part::Expr(&variable.get().value), tasks)?,
@@ -122,7 +125,8 @@ fn see_item<'a>(entry: &'a BlockItem, tasks: &mut Stack<Task<'a>>) -> Result<(),
 
 /// The further blocks of a `do`.
 fn see_alsos<'a>(others: &'a [Also], tasks: &mut Stack<Task<'a>>) -> Result<(), Memory>
-    ensures { OnOk result ((k : Source) → Sees k (map (formed_also k) others.now) tasks.old tasks.new) }
+    ensures { OnOk result ((k : Source)
+        → Sees k (map (formed_also k) others.now) tasks.old tasks.new) }
 {
     for also in others {
         see(Part::Block(also.do_, also.block.as_slice()), tasks)?;
@@ -132,7 +136,8 @@ fn see_alsos<'a>(others: &'a [Also], tasks: &mut Stack<Task<'a>>) -> Result<(), 
 
 /// The condition and the block of each `elif`.
 fn see_in_elifs<'a>(elifs: &'a [Elif], tasks: &mut Stack<Task<'a>>) -> Result<(), Memory>
-    ensures { OnOk result ((k : Source) → Sees k (flat_map (inside_elif k) elifs.now) tasks.old tasks.new) }
+    ensures { OnOk result ((k : Source)
+        → Sees k (flat_map (inside_elif k) elifs.now) tasks.old tasks.new) }
 {
     for elif in elifs {
         see_in_elif(elif, tasks)?;
@@ -154,7 +159,8 @@ fn see_else_block<'a>(
     otherwise: &'a Option<ElseBlock>,
     tasks: &mut Stack<Task<'a>>,
 ) -> Result<(), Memory>
-    ensures { OnOk result ((k : Source) → Sees k (inside_else_block k otherwise.now) tasks.old tasks.new) }
+    ensures { OnOk result ((k : Source)
+        → Sees k (inside_else_block k otherwise.now) tasks.old tasks.new) }
 {
     if let Some(otherwise) = otherwise {
         see(
@@ -170,7 +176,8 @@ fn see_in_case_clauses<'a>(
     clauses: &'a [CaseClause],
     tasks: &mut Stack<Task<'a>>,
 ) -> Result<(), Memory>
-    ensures { OnOk result ((k : Source) → Sees k (flat_map (inside_case_clause k) clauses.now) tasks.old tasks.new) }
+    ensures { OnOk result ((k : Source)
+        → Sees k (flat_map (inside_case_clause k) clauses.now) tasks.old tasks.new) }
 {
     for clause in clauses {
         see_in_case_clause(clause, tasks)?;
@@ -180,7 +187,8 @@ fn see_in_case_clauses<'a>(
 
 /// What a clause of a `case` compares with, and what it gives.
 fn see_in_case_clause<'a>(clause: &'a CaseClause, tasks: &mut Stack<Task<'a>>) -> Result<(), Memory>
-    ensures { OnOk result ((k : Source) → Sees k (inside_case_clause k clause.now) tasks.old tasks.new) }
+    ensures { OnOk result ((k : Source)
+        → Sees k (inside_case_clause k clause.now) tasks.old tasks.new) }
 {
     see(Part::Flat(&clause.subject), tasks)?;
     see(Part::Expr(&clause.value), tasks)?;
@@ -192,7 +200,8 @@ fn see_type_clauses<'a>(
     clauses: &'a [TypeClause],
     tasks: &mut Stack<Task<'a>>,
 ) -> Result<(), Memory>
-    ensures { OnOk result ((k : Source) → Sees k (map (type_clause_value k) clauses.now) tasks.old tasks.new) }
+    ensures { OnOk result ((k : Source)
+        → Sees k (map (type_clause_value k) clauses.now) tasks.old tasks.new) }
 {
     for clause in clauses {
         see(Part::Expr(&clause.value), tasks)?;
@@ -205,7 +214,8 @@ fn see_else_clause<'a>(
     otherwise: &'a Option<Boxed<ElseClause>>,
     tasks: &mut Stack<Task<'a>>,
 ) -> Result<(), Memory>
-    ensures { OnOk result ((k : Source) → Sees k (inside_else_clause k otherwise.now) tasks.old tasks.new) }
+    ensures { OnOk result ((k : Source)
+        → Sees k (inside_else_clause k otherwise.now) tasks.old tasks.new) }
 {
     if let Some(otherwise) = otherwise {
         see(Part::Expr(&otherwise.get().value), tasks)?;
@@ -225,7 +235,8 @@ fn see_in_catch<'a>(catch: &'a Option<Catch>, tasks: &mut Stack<Task<'a>>) -> Re
 
 /// The block of a `finally` that may be left out.
 fn see_finally<'a>(finally: &'a Option<Finally>, tasks: &mut Stack<Task<'a>>) -> Result<(), Memory>
-    ensures { OnOk result ((k : Source) → Sees k (inside_finally k finally.now) tasks.old tasks.new) }
+    ensures { OnOk result ((k : Source)
+        → Sees k (inside_finally k finally.now) tasks.old tasks.new) }
 {
     if let Some(finally) = finally {
         see(

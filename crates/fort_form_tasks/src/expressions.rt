@@ -12,7 +12,8 @@ use fort_tree::{Expr, Generator, Head, NextGenerator};
 
 /// What stands in an expression.
 pub fn see_in_expr<'a>(expr: &'a Expr, tasks: &mut Stack<Task<'a>>) -> Result<(), Memory>
-    ensures { OnOk result ((k : Source) → Sees k (expr_at k (out-Expr expr.now)) tasks.old tasks.new) }
+    ensures { OnOk result ((k : Source)
+        → Sees k (expr_at k (out-Expr expr.now)) tasks.old tasks.new) }
 {
     match expr {
         Expr::Flat(flat) => see(Part::Flat(flat), tasks)?,
@@ -49,7 +50,8 @@ fn see_in_maybe_head<'a>(
     head: &'a Option<Boxed<Head>>,
     tasks: &mut Stack<Task<'a>>,
 ) -> Result<(), Memory>
-    ensures { OnOk result ((k : Source) → Sees k (inside_maybe_head k head.now) tasks.old tasks.new) }
+    ensures { OnOk result ((k : Source)
+        → Sees k (inside_maybe_head k head.now) tasks.old tasks.new) }
 {
     if let Some(head) = head {
         see_in_head(head.get(), tasks)?;
@@ -73,7 +75,8 @@ fn see_in_head<'a>(head: &'a Head, tasks: &mut Stack<Task<'a>>) -> Result<(), Me
 
 /// The source of a generator.
 pub fn see_source<'a>(generator: &'a Generator, tasks: &mut Stack<Task<'a>>) -> Result<(), Memory>
-    ensures { OnOk result ((k : Source) → Sees k (source_form k generator.now ∷ []) tasks.old tasks.new) }
+    ensures { OnOk result ((k : Source)
+        → Sees k (source_form k generator.now ∷ []) tasks.old tasks.new) }
 {
     match generator {
         Generator::Parallel { source, .. } => see(Part::Flat(source), tasks)?,
@@ -87,7 +90,8 @@ pub fn see_sources<'a>(
     others: &'a [NextGenerator],
     tasks: &mut Stack<Task<'a>>,
 ) -> Result<(), Memory>
-    ensures { OnOk result ((k : Source) → Sees k (map (next_source k) others.now) tasks.old tasks.new) }
+    ensures { OnOk result ((k : Source)
+        → Sees k (map (next_source k) others.now) tasks.old tasks.new) }
 {
     for next in others {
         see_source(&next.generator, tasks)?;

@@ -9,7 +9,8 @@ use fort_stack::Stack;
 
 /// Puts the task on the stack that sees a part.
 pub fn see<'a>(part: Part<'a>, tasks: &mut Stack<Task<'a>>) -> Result<(), Memory>
-    ensures { OnOk result ((k : Source) → Sees k (formed_part k part.entry ∷ []) tasks.old tasks.new) }
+    ensures { OnOk result ((k : Source)
+        → Sees k (formed_part k part.entry ∷ []) tasks.old tasks.new) }
 {
     tasks.push(Task::See(part))?;
     Ok(())

@@ -1,4 +1,5 @@
-//! What the walk over a component's trees has still to do: the parts of a tree that have a form each, and the tasks that see them.
+//! What the walk over a component's trees has still to do: the parts of a tree that have a form
+//! each, and the tasks that see them.
 #![tactic(auto)]
 
 mod blocks;

@@ -19,7 +19,8 @@ pub fn see_in_group<'a>(
     grouped: &'a Grouped,
     tasks: &mut Stack<Task<'a>>,
 ) -> Result<(), Memory>
-    ensures { OnOk result ((k : Source) → Sees k (group_at k flat.now (out-Grouped grouped.now)) tasks.old tasks.new) }
+    ensures { OnOk result ((k : Source)
+        → Sees k (group_at k flat.now (out-Grouped grouped.now)) tasks.old tasks.new) }
 {
     match grouped {
         Grouped::Unit(number) => see_unit(flat, *number, tasks)?,
@@ -39,7 +40,8 @@ fn see_groups<'a>(
     parts: &'a [Grouped],
     tasks: &mut Stack<Task<'a>>,
 ) -> Result<(), Memory>
-    ensures { OnOk result ((k : Source) → Sees k (map (formed_group k flat.now) parts.now) tasks.old tasks.new) }
+    ensures { OnOk result ((k : Source)
+        → Sees k (map (formed_group k flat.now) parts.now) tasks.old tasks.new) }
 {
     for part in parts {
         see(Part::Group(flat, part), tasks)?;
@@ -49,7 +51,8 @@ fn see_groups<'a>(
 
 /// Units of a flat expression, by their numbers.
 fn see_units<'a>(flat: &'a Flat, units: &[usize], tasks: &mut Stack<Task<'a>>) -> Result<(), Memory>
-    ensures { OnOk result ((k : Source) → Sees k (map (formed_unit k flat.now) units.now) tasks.old tasks.new) }
+    ensures { OnOk result ((k : Source)
+        → Sees k (map (formed_unit k flat.now) units.now) tasks.old tasks.new) }
 {
     for unit in units {
         see_unit(flat, *unit, tasks)?;
@@ -59,13 +62,15 @@ fn see_units<'a>(flat: &'a Flat, units: &[usize], tasks: &mut Stack<Task<'a>>) -
 
 /// The unit of a number of a flat expression; the first one where it has no such number.
 fn see_unit<'a>(flat: &'a Flat, number: usize, tasks: &mut Stack<Task<'a>>) -> Result<(), Memory>
-    ensures { OnOk result ((k : Source) → Sees k (formed_unit k flat.now number ∷ []) tasks.old tasks.new) }
+    ensures { OnOk result ((k : Source)
+        → Sees k (formed_unit k flat.now number ∷ []) tasks.old tasks.new) }
 {
     see(unit(flat, number), tasks)?;
     Ok(())
 }
 
-/// The unit of a number of a flat expression, counted from 0; the first one where it has no such number.
+/// The unit of a number of a flat expression, counted from 0; the first one where it has no such
+/// number.
 fn unit<'a>(flat: &'a Flat, number: usize) -> Part<'a>
     ensures { (k : Source) → formed_part k result ≡ formed_unit k flat.now number }
 {
@@ -99,7 +104,8 @@ pub fn see_in_run<'a>(run: &'a Run, tasks: &mut Stack<Task<'a>>) -> Result<(), M
 
 /// Further elements of a run.
 fn see_run_parts<'a>(parts: &'a [RunPart], tasks: &mut Stack<Task<'a>>) -> Result<(), Memory>
-    ensures { OnOk result ((k : Source) → Sees k (map (formed_run_part k) parts.now) tasks.old tasks.new) }
+    ensures { OnOk result ((k : Source)
+        → Sees k (map (formed_run_part k) parts.now) tasks.old tasks.new) }
 {
     for part in parts {
         see_run_part(part, tasks)?;
@@ -109,7 +115,8 @@ fn see_run_parts<'a>(parts: &'a [RunPart], tasks: &mut Stack<Task<'a>>) -> Resul
 
 /// A further element of a run.
 fn see_run_part<'a>(part: &'a RunPart, tasks: &mut Stack<Task<'a>>) -> Result<(), Memory>
-    ensures { OnOk result ((k : Source) → Sees k (formed_run_part k part.now ∷ []) tasks.old tasks.new) }
+    ensures { OnOk result ((k : Source)
+        → Sees k (formed_run_part k part.now ∷ []) tasks.old tasks.new) }
 {
     match part {
         RunPart::Atom(atom) => see(Part::Atom(atom), tasks)?,
@@ -120,7 +127,8 @@ fn see_run_part<'a>(part: &'a RunPart, tasks: &mut Stack<Task<'a>>) -> Result<()
 
 /// What stands in an atom.
 pub fn see_in_atom<'a>(atom: &'a Atom, tasks: &mut Stack<Task<'a>>) -> Result<(), Memory>
-    ensures { OnOk result ((k : Source) → Sees k (atom_at k (out-Atom atom.now)) tasks.old tasks.new) }
+    ensures { OnOk result ((k : Source)
+        → Sees k (atom_at k (out-Atom atom.now)) tasks.old tasks.new) }
 {
     match atom {
         Atom::Name(_) => {}
@@ -141,7 +149,8 @@ pub fn see_in_atom<'a>(atom: &'a Atom, tasks: &mut Stack<Task<'a>>) -> Result<()
 
 /// What stands in a postfix.
 pub fn see_in_postfix<'a>(postfix: &'a Postfix, tasks: &mut Stack<Task<'a>>) -> Result<(), Memory>
-    ensures { OnOk result ((k : Source) → Sees k (postfix_at k (out-Postfix postfix.now)) tasks.old tasks.new) }
+    ensures { OnOk result ((k : Source)
+        → Sees k (postfix_at k (out-Postfix postfix.now)) tasks.old tasks.new) }
 {
     match postfix {
         Postfix::Subscript { index, .. } => see(Part::Expr(index.get()), tasks)?,
@@ -165,7 +174,8 @@ fn see_in_list<'a>(list: &'a Option<ExprList>, tasks: &mut Stack<Task<'a>>) -> R
 
 /// Further expressions of a list.
 fn see_next_exprs<'a>(exprs: &'a [NextExpr], tasks: &mut Stack<Task<'a>>) -> Result<(), Memory>
-    ensures { OnOk result ((k : Source) → Sees k (map (formed_next_expr k) exprs.now) tasks.old tasks.new) }
+    ensures { OnOk result ((k : Source)
+        → Sees k (map (formed_next_expr k) exprs.now) tasks.old tasks.new) }
 {
     for next in exprs {
         see(Part::Expr(&next.expr), tasks)?;

@@ -1,5 +1,5 @@
--- The chapter "Typing", forms: what one level of each tree becomes, from what its parts become. The code keeps a stack of what it has
--- still to do.
+-- The chapter "Typing", forms: what one level of each tree becomes, from what its parts become. The
+-- code keeps a stack of what it has still to do.
 use Rattle.std.specs.Prelude.{ℕ, zero, suc, Bool, true, false, ◌||◌, is_some, List, [], ◌∷◌, Option, Some, None, map, option_map, get_or}
 use Rattle.fort_base.specs.declared.ids.NameId.{NameId}
 use Rattle.fort_base.specs.declared.refusal.Place.{Place}
@@ -93,14 +93,16 @@ form_atom k (Atom-F.False s) = a_form.Truth s.place false
 form_atom k (Atom-F.Self_ s) = a_form.Receiver s.place
 form_atom k (Atom-F.Parens left contents right) = between left.place contents
 form_atom k (Atom-F.Delimited form) = form
-form_atom k (Atom-F.ArrayFill spots element size value) = a_form.Fill spots.array.place (k.written element) size value
+form_atom k (Atom-F.ArrayFill spots element size value) =
+    a_form.Fill spots.array.place (k.written element) size value
 
 -- A postfix stands at its first token.
 abbrev pub form_postfix : FormedPostfix → Form
 form_postfix (Postfix-F.Subscript left index right) = a_form.Subscript left.place index
 form_postfix (Postfix-F.Power power exponent) = a_form.Power power.place exponent
 form_postfix (Postfix-F.Field dot name) = a_form.Field dot.place name.spot.place name.id
-form_postfix (Postfix-F.Call dot name left arguments right) = a_form.Method dot.place name.spot.place name.id (arguments_of arguments)
+form_postfix (Postfix-F.Call dot name left arguments right) =
+    a_form.Method dot.place name.spot.place name.id (arguments_of arguments)
 
 -- what a further element of a run becomes
 abbrev pub form_run_part : FormedRunPart → Form
@@ -141,15 +143,18 @@ begins (part ∷ parts) = place_of part
 -- One node of a grouping, over the units of its flat expression.
 abbrev pub form_grouped : Form → List Form → Grouped-F Form → Form
 form_grouped first rest (Grouped-F.Unit n) = unit_at first rest n
-form_grouped first rest (Grouped-F.Binary op left right) = a_form.Operator (place_of left) op (left ∷ right ∷ [])
+form_grouped first rest (Grouped-F.Binary op left right) =
+    a_form.Operator (place_of left) op (left ∷ right ∷ [])
 form_grouped first rest (Grouped-F.Chain ops parts) = a_form.Chain (begins parts) ops parts
-form_grouped first rest (Grouped-F.Juxt units) = a_form.Beside (begins (map (unit_at first rest) units)) (map (unit_at first rest) units)
+form_grouped first rest (Grouped-F.Juxt units) =
+    a_form.Beside (begins (map (unit_at first rest) units)) (map (unit_at first rest) units)
 
 -- A grouping applied to the units of its flat expression.
 unfoldable pub grouped : Form → List Form → Grouped → Form
 grouped first rest = fold-Grouped Form (form_grouped first rest)
 
--- the units by their grouping; a component has one for each flat expression, and without one it is the first unit
+-- the units by their grouping; a component has one for each flat expression, and without one it is
+-- the first unit
 abbrev pub grouped_by : Form → List Form → Option Grouped → Form
 grouped_by first rest None = first
 grouped_by first rest (Some grouping) = grouped first rest grouping
@@ -175,7 +180,8 @@ abbrev pub opened : Option Opening → Form → Form
 opened None body = body
 opened (Some head) body = head body
 
--- An assignment has its head, where it has one, before its value; an open assignment has it before its target.
+-- An assignment has its head, where it has one, before its value; an open assignment has it before
+-- its target.
 abbrev pub form_expr : FormedExpr → Form
 form_expr (Expr-F.Flat flat) = flat
 form_expr (Expr-F.Assign target sign head value) = assignment target sign (opened head value)
@@ -206,12 +212,17 @@ form_head k (Head-F.Atomic s) body = a_form.Atomic s.place body
 form_head k (Head-F.Tryatomic s) body = a_form.Tryatomic s.place body
 form_head k (Head-F.Throw s) body = a_form.Throw s.place body
 form_head k (Head-F.Fn s left list right arrow) body = a_form.Fn s.place (parameters k list) body
-form_head k (Head-F.Big big left generator right) body = a_form.Reduce (big_place big) (reduction big) generator body
+form_head k (Head-F.Big big left generator right) body =
+    a_form.Reduce (big_place big) (reduction big) generator body
 
 -- A generator binds its name; with `seq` it is in order.
 abbrev pub form_generator : FormedGenerator → Generator
-form_generator (Generator-F.Parallel name arrow source) = roll-Generator (record { place = name.spot.place; name = name.id; sequential = false; source = source })
-form_generator (Generator-F.Sequential name arrow seq left source right) = roll-Generator (record { place = name.spot.place; name = name.id; sequential = true; source = source })
+form_generator (Generator-F.Parallel name arrow source) =
+    roll-Generator
+    (record { place = name.spot.place; name = name.id; sequential = false; source = source })
+form_generator (Generator-F.Sequential name arrow seq left source right) =
+    roll-Generator
+    (record { place = name.spot.place; name = name.id; sequential = true; source = source })
 
 -- what a further generator becomes
 abbrev pub form_next_generator : FormedNextGenerator → Generator
@@ -226,12 +237,22 @@ becomes (an_initial.Becomes s) = true
 
 -- A local variable is mutable with `var` or with `:=`.
 abbrev pub form_variable : Source → FormedVariable → Placed
-form_variable k v = record { place = (var_spot v.var v.name.spot).place; item = an_item.Local v.name.spot.place v.name.id (is_some v.var || becomes v.sign) (k.written v.ty) v.value }
+form_variable k v =
+    record {
+      place = (var_spot v.var v.name.spot).place;
+      item = an_item.Local v.name.spot.place v.name.id (is_some v.var
+          || becomes v.sign) (k.written v.ty) v.value;
+    }
 
 -- An item of a block stands at its first token.
 abbrev pub form_item : Source → FormedItem → Placed
 form_item k (Item-F.Variable variable) = variable
-form_item k (Item-F.Names left first others right colon ty equals value) = record { place = left.place; item = an_item.Locals left.place (binder first ∷ map (λ (next : NextName). binder next.name) others) (k.written ty) value }
+form_item k (Item-F.Names left first others right colon ty equals value) =
+    record {
+      place = left.place;
+      item = an_item.Locals left.place (binder first ∷ map (λ
+          (next : NextName). binder next.name) others) (k.written ty) value;
+    }
 form_item k (Item-F.Expr expr) = record { place = place_of expr; item = an_item.Expression expr }
 
 -- the same with its `;`
@@ -269,7 +290,9 @@ form_case_clause c = roll-Branch (record { test = c.subject; value = c.value })
 
 -- a clause of a `typecase` or a `catch` is its type, with the place of that, and what it gives
 abbrev pub form_type_clause : Source → FormedTypeClause → TypeBranch
-form_type_clause k c = roll-TypeBranch (record { place = (measured_type c.ty).spot.place; ty = k.written c.ty; value = c.value })
+form_type_clause k c =
+    roll-TypeBranch
+    (record { place = (measured_type c.ty).spot.place; ty = k.written c.ty; value = c.value })
 
 -- what an `else` gives
 abbrev pub form_else_clause : FormedElseClause → Form
@@ -286,10 +309,19 @@ caught (Some c) = c.clauses
 
 -- A form that ends with `end` is that of its word.
 abbrev pub form_delimited : FormedDelimited → Form
-form_delimited (Delimited-F.Do at_do items others end) = a_form.Do at_do.place (block at_do items ∷ others)
-form_delimited (Delimited-F.If at_if condition then items elifs otherwise end) = a_form.If at_if.place (roll-Branch (record { test = condition; value = block then items }) ∷ elifs) otherwise
-form_delimited (Delimited-F.While at_while condition at_do items end) = a_form.While at_while.place condition (block at_do items)
-form_delimited (Delimited-F.For at_for generator others at_do items end) = a_form.For at_for.place (generator ∷ others) (block at_do items)
-form_delimited (Delimited-F.Case at_case subject of clauses otherwise end) = a_form.Case at_case.place subject clauses otherwise
-form_delimited (Delimited-F.Typecase at_typecase name equals subject of clauses otherwise end) = a_form.Typecase at_typecase.place name.spot.place name.id subject clauses otherwise
-form_delimited (Delimited-F.Try at_try items catch finally end) = a_form.Try at_try.place (block at_try items) (option_map (λ (c : Catching). c.binder) catch) (caught catch) finally
+form_delimited (Delimited-F.Do at_do items others end) =
+    a_form.Do at_do.place (block at_do items ∷ others)
+form_delimited (Delimited-F.If at_if condition then items elifs otherwise end) =
+    a_form.If at_if.place
+    (roll-Branch (record { test = condition; value = block then items }) ∷ elifs) otherwise
+form_delimited (Delimited-F.While at_while condition at_do items end) =
+    a_form.While at_while.place condition (block at_do items)
+form_delimited (Delimited-F.For at_for generator others at_do items end) =
+    a_form.For at_for.place (generator ∷ others) (block at_do items)
+form_delimited (Delimited-F.Case at_case subject of clauses otherwise end) =
+    a_form.Case at_case.place subject clauses otherwise
+form_delimited (Delimited-F.Typecase at_typecase name equals subject of clauses otherwise end) =
+    a_form.Typecase at_typecase.place name.spot.place name.id subject clauses otherwise
+form_delimited (Delimited-F.Try at_try items catch finally end) =
+    a_form.Try at_try.place (block at_try items) (option_map (λ
+    (c : Catching). c.binder) catch) (caught catch) finally

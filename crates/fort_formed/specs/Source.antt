@@ -5,7 +5,8 @@ use Rattle.fort_base.specs.declared.ty.Ty.{Ty}
 use Rattle.fort_tree.specs.declared.grouped.Grouped.{Grouped}
 use Rattle.fort_tree.specs.declared.types.TypeTree.{TypeTree}
 
--- The type that a tree writes, and the grouping of the flat expression that begins at a place, where one does.
+-- The type that a tree writes, and the grouping of the flat expression that begins at a place,
+-- where one does.
 pub record Source : Type 0 where
   pub written : TypeTree → Ty
   pub grouping : Place → Option Grouped

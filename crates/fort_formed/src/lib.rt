@@ -1,4 +1,5 @@
-//! What a component's trees become as forms: the definitions, the form of each tree as one level of it, and what a walk looks up.
+//! What a component's trees become as forms: the definitions, the form of each tree as one level of
+//! it, and what a walk looks up.
 #![tactic(auto)]
 
 mod lookup;

@@ -55,7 +55,8 @@ fn add_parameters<L: Lookup>(
     others: &[NextParameter],
     made: &mut List<Parameter>,
 ) -> Result<(), Memory>
-    ensures { OnOk result (made.new ≡ made.old ++ map (next_parameter (L.source lookup.now)) others.now) }
+    ensures { OnOk result (made.new
+        ≡ made.old ++ map (next_parameter (L.source lookup.now)) others.now) }
 {
     for next in others {
         made.push(parameter(alloc, lookup, &next.parameter)?)?;

@@ -1,4 +1,5 @@
--- The chapter "Typing", declarations: the forms of a component. The code walks the declarations once.
+-- The chapter "Typing", declarations: the forms of a component. The code walks the declarations
+-- once.
 use Rattle.std.specs.Prelude.{List, [], ◌∷◌, ◌++◌, Option, Some, None}
 use Rattle.std.specs.List.{flat_map}
 use Rattle.fort_base.specs.declared.ids.TypeId.{TypeId}
@@ -37,7 +38,8 @@ use Rattle.fort_formed.specs.Forming.{parameter, parameters}
 use Rattle.fort_formed.specs.Formed.{formed_expr}
 use Rattle.fort_forms.specs.Groupings.{grouping_at}
 
--- What the forms hang on: the types' names and the component's tell which type is written, the groupings are found by their places.
+-- What the forms hang on: the types' names and the component's tell which type is written, the
+-- groupings are found by their places.
 pub record Tables : Type 0 where
   pub types : List Spelling
   pub names : List Spelling
@@ -106,7 +108,8 @@ next_named_parameter n next = named_parameter n next.parameter
 -- the parameters of a method that have names
 abbrev pub named_parameters : Tables → Option MethodParameters → List Parameter
 named_parameters n None = []
-named_parameters n (Some list) = named_parameter n list.first ++ flat_map (next_named_parameter n) list.others
+named_parameters n (Some list) =
+    named_parameter n list.first ++ flat_map (next_named_parameter n) list.others
 
 -- A method of a type has its parameters bound, `self` aside.
 abbrev pub method_body : Tables → TypeId → Method → MethodBody → BodyForm

@@ -4,4 +4,9 @@ use Rattle.fort_forms.specs.FormsOf.{Tables}
 use Rattle.fort_forms.specs.declared.tables.Tables.{Tables as TablesInCode}
 
 abbrev pub tables : TablesInCode → Tables
-tables t = record { types = all_types t.names.now t.heads.now; names = t.names.now; groups = t.groups.list.now }
+tables t =
+    record {
+      types = all_types t.names.now t.heads.now;
+      names = t.names.now;
+      groups = t.groups.list.now;
+    }

@@ -24,7 +24,8 @@ pub fn bodies(
     lookup: &Tables,
     declarations: &[Declared],
 ) -> Result<List<BodyForm>, Memory>
-    ensures { IfOk result (λ made. made ≡ flat_map (declared_bodies (tables lookup.now)) declarations.now) }
+    ensures { IfOk result (λ made. made
+        ≡ flat_map (declared_bodies (tables lookup.now)) declarations.now) }
 {
     let mut made = List::new(alloc);
     for declared in declarations {
@@ -78,7 +79,8 @@ fn add_trait_methods(
     members: &[TraitEntry],
     made: &mut List<BodyForm>,
 ) -> Result<(), Memory>
-    ensures { OnOk result (made.new ≡ made.old ++ flat_map (trait_body (tables lookup.now) id) members.now) }
+    ensures { OnOk result (made.new
+        ≡ made.old ++ flat_map (trait_body (tables lookup.now) id) members.now) }
 {
     for entry in members {
         add_of_trait(alloc, lookup, id, &entry.member, made)?;
@@ -94,7 +96,8 @@ fn add_of_trait(
     member: &TraitMember,
     made: &mut List<BodyForm>,
 ) -> Result<(), Memory>
-    ensures { OnOk result (made.new ≡ made.old ++ trait_member_body (tables lookup.now) id member.now) }
+    ensures { OnOk result (made.new
+        ≡ made.old ++ trait_member_body (tables lookup.now) id member.now) }
 {
     match member {
         TraitMember::Field { .. } => Ok(()),
@@ -110,7 +113,8 @@ fn add_object_methods(
     members: &[ObjectEntry],
     made: &mut List<BodyForm>,
 ) -> Result<(), Memory>
-    ensures { OnOk result (made.new ≡ made.old ++ flat_map (object_body (tables lookup.now) id) members.now) }
+    ensures { OnOk result (made.new
+        ≡ made.old ++ flat_map (object_body (tables lookup.now) id) members.now) }
 {
     for entry in members {
         add_of_object(alloc, lookup, id, &entry.member, made)?;
@@ -126,7 +130,8 @@ fn add_of_object(
     member: &ObjectMember,
     made: &mut List<BodyForm>,
 ) -> Result<(), Memory>
-    ensures { OnOk result (made.new ≡ made.old ++ object_member_body (tables lookup.now) id member.now) }
+    ensures { OnOk result (made.new
+        ≡ made.old ++ object_member_body (tables lookup.now) id member.now) }
 {
     match member {
         ObjectMember::Variable(_) => Ok(()),

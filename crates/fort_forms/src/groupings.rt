@@ -58,7 +58,8 @@ fn in_order(groups: &[FlatGrouping]) -> bool
 /// Whether a grouping stands before the next one, where there is one.
 fn goes_before(groups: &[FlatGrouping], at: usize) -> bool
     requires { at < length groups.now }
-    ensures { IsTrue result → (g : _) (next : _) → slice_get groups.now at ≡ Some g → slice_get groups.now (suc at) ≡ Some next → IsTrue (is_before g.place next.place) }
+    ensures { IsTrue result → (g : _) (next : _) → slice_get groups.now at ≡ Some g
+        → slice_get groups.now (suc at) ≡ Some next → IsTrue (is_before g.place next.place) }
 {
     match groups.get(at) {
         Some(group) => is_behind(groups, at + 1, group.place),
@@ -68,7 +69,8 @@ fn goes_before(groups: &[FlatGrouping], at: usize) -> bool
 
 /// Whether the grouping of a number, where there is one, stands behind a place.
 fn is_behind(groups: &[FlatGrouping], at: usize, place: Place) -> bool
-    ensures { IsTrue result → (next : _) → slice_get groups.now at ≡ Some next → IsTrue (is_before place next.place) }
+    ensures { IsTrue result → (next : _) → slice_get groups.now at ≡ Some next
+        → IsTrue (is_before place next.place) }
 {
     match groups.get(at) {
         Some(next) => place.is_before(next.place),

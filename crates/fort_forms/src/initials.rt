@@ -20,7 +20,8 @@ pub fn initials(
     lookup: &Tables,
     declarations: &[Declared],
 ) -> Result<List<InitialForm>, Memory>
-    ensures { IfOk result (λ made. made ≡ flat_map (declared_initials (tables lookup.now)) declarations.now) }
+    ensures { IfOk result (λ made. made
+        ≡ flat_map (declared_initials (tables lookup.now)) declarations.now) }
 {
     let mut made = List::new(alloc);
     for declared in declarations {
@@ -57,7 +58,8 @@ fn add_fields(
     members: &[ObjectEntry],
     made: &mut List<InitialForm>,
 ) -> Result<(), Memory>
-    ensures { OnOk result (made.new ≡ made.old ++ flat_map (entry_initial (tables lookup.now) id) members.now) }
+    ensures { OnOk result (made.new
+        ≡ made.old ++ flat_map (entry_initial (tables lookup.now) id) members.now) }
 {
     for entry in members {
         add_field(alloc, lookup, id, &entry.member, made)?;
@@ -73,7 +75,8 @@ fn add_field(
     member: &ObjectMember,
     made: &mut List<InitialForm>,
 ) -> Result<(), Memory>
-    ensures { OnOk result (made.new ≡ made.old ++ member_initial (tables lookup.now) id member.now) }
+    ensures { OnOk result (made.new
+        ≡ made.old ++ member_initial (tables lookup.now) id member.now) }
 {
     match member {
         ObjectMember::Variable(variable) => made.push(initial(alloc, lookup, Some(id), variable)?),

@@ -24,7 +24,8 @@ pub fn add_method(
     method: &Method,
     made: &mut List<BodyForm>,
 ) -> Result<(), Memory>
-    ensures { OnOk result (made.new ≡ made.old ++ method_bodies (tables lookup.now) id method.now method.now.body) }
+    ensures { OnOk result (made.new
+        ≡ made.old ++ method_bodies (tables lookup.now) id method.now method.now.body) }
 {
     match &method.body {
         None => Ok(()),
@@ -75,7 +76,8 @@ fn add_others(
     others: &[NextMethodParameter],
     made: &mut List<Parameter>,
 ) -> Result<(), Memory>
-    ensures { OnOk result (made.new ≡ made.old ++ flat_map (next_named_parameter (tables lookup.now)) others.now) }
+    ensures { OnOk result (made.new
+        ≡ made.old ++ flat_map (next_named_parameter (tables lookup.now)) others.now) }
 {
     for next in others {
         add_named(alloc, lookup, &next.parameter, made)?;

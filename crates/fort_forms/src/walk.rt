@@ -45,7 +45,9 @@ fn step<'a, L: Lookup>(
     tasks: &mut Stack<Task<'a>>,
     forms: &mut Stack<Form>,
 ) -> Result<(), Memory>
-    ensures { OnOk result ((goal : _) → Leads (L.source lookup.now) (task.entry ∷ tasks.old) forms.old goal → Leads (L.source lookup.now) tasks.new forms.new goal) }
+    ensures { OnOk result ((goal : _)
+        → Leads (L.source lookup.now) (task.entry ∷ tasks.old) forms.old goal
+        → Leads (L.source lookup.now) tasks.new forms.new goal) }
 {
     match task {
         Task::See(part) => open(lookup, part, tasks)?,
@@ -63,7 +65,9 @@ fn open<'a, L: Lookup>(
     part: Part<'a>,
     tasks: &mut Stack<Task<'a>>,
 ) -> Result<(), Memory>
-    ensures { OnOk result (Sees (L.source lookup.now) (formed_part (L.source lookup.now) part.entry ∷ []) tasks.old tasks.new) }
+    ensures { OnOk result
+        (Sees (L.source lookup.now) (formed_part (L.source lookup.now) part.entry ∷ []) tasks.old
+        tasks.new) }
 {
     tasks.push(Task::Build(part))?;
     see_in(lookup, part, tasks)?;
@@ -76,7 +80,8 @@ fn see_in<'a, L: Lookup>(
     part: Part<'a>,
     tasks: &mut Stack<Task<'a>>,
 ) -> Result<(), Memory>
-    ensures { OnOk result (Sees (L.source lookup.now) (inside (L.source lookup.now) part.entry) tasks.old tasks.new) }
+    ensures { OnOk result
+        (Sees (L.source lookup.now) (inside (L.source lookup.now) part.entry) tasks.old tasks.new) }
 {
     match part {
         Part::Expr(expr) => see_in_expr(expr, tasks)?,
@@ -98,7 +103,9 @@ fn see_in_flat<'a, L: Lookup>(
     flat: &'a Flat,
     tasks: &mut Stack<Task<'a>>,
 ) -> Result<(), Memory>
-    ensures { OnOk result (Sees (L.source lookup.now) (formed_flat (L.source lookup.now) flat.now ∷ []) tasks.old tasks.new) }
+    ensures { OnOk result
+        (Sees (L.source lookup.now) (formed_flat (L.source lookup.now) flat.now ∷ []) tasks.old
+        tasks.new) }
 {
     match lookup.grouping_at(unit_place(&flat.first)) {
         Some(grouped) => see(Part::Group(flat, grouped), tasks)?,
@@ -114,7 +121,9 @@ fn build<L: Lookup>(
     part: Part<'_>,
     forms: &mut Stack<Form>,
 ) -> Result<Form, Memory>
-    ensures { IfOk result (Gives (inside (L.source lookup.now) part.entry) (formed_part (L.source lookup.now) part.entry) forms.old forms.new) }
+    ensures { IfOk result
+        (Gives (inside (L.source lookup.now) part.entry)
+        (formed_part (L.source lookup.now) part.entry) forms.old forms.new) }
 {
     match part {
         Part::Expr(expr) => Ok(expression(alloc, lookup, expr, forms)?),

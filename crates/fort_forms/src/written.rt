@@ -11,7 +11,9 @@ use std::alloc::Global;
 
 /// The type that a tree writes, or want of memory.
 pub fn written_by(alloc: Global, tables: &Tables, tree: &TypeTree) -> Result<Ty, Memory>
-    ensures { IfOk result (λ ty. ty ≡ written (all_types tables.now.names.now tables.now.heads.now) tables.now.names.now tree.now) }
+    ensures { IfOk result (λ ty. ty
+        ≡ written (all_types tables.now.names.now tables.now.heads.now) tables.now.names.now
+        tree.now) }
 {
     let ty = written_type(alloc, tables.names, tables.numbers, tables.size, tree)?;
     Ok(ty)

@@ -1,4 +1,5 @@
--- Chapter "Terms and threads": what the code's stack of frames stands for: frames of the machine. The innermost frame is first in the code, the outermost one in the machine.
+-- Chapter "Terms and threads": what the code's stack of frames stands for: frames of the machine.
+-- The innermost frame is first in the code, the outermost one in the machine.
 use Rattle.std.specs.Prelude.{◌≡◌, ℕ, ◌+◌, ◌≤◌, Bool, true, false, ◌||◌, nat_lt, List, [], ◌∷◌, ◌++◌, take, drop, length}
 use Rattle.fort_core.specs.declared.term.Term.{Term}
 use Rattle.fort_machine.specs.Frames.{in_throw, in_operand, in_fill_size, in_fill_value, in_let, in_mutable, in_write, in_field, in_field_target, in_field_value, in_element, in_index, in_element_target, in_element_index, in_element_value, in_size, in_then, in_test, in_subject, in_source, in_reduced_source, in_try, in_stepped, plug, part_number, passed}
@@ -18,7 +19,8 @@ frame_of_node n = frame_at n.head (take n.«at» n.parts) (drop (n.«at» + 1) n
 abbrev pub frame_of : Frame → machine.Frame
 frame_of (frame.Node n) = frame_of_node n
 frame_of frame.Throw = in_throw
-frame_of (frame.Operand set values operands) = in_operand set values (drop (length values + 1) operands)
+frame_of (frame.Operand set values operands) =
+    in_operand set values (drop (length values + 1) operands)
 frame_of (frame.FillSize ty value) = in_fill_size ty value
 frame_of (frame.FillValue ty size) = in_fill_value ty size
 frame_of (frame.Let variables rest) = in_let variables rest
@@ -37,7 +39,8 @@ frame_of (frame.Then rest) = in_then rest
 frame_of (frame.Test first second) = in_test first second
 frame_of (frame.Subject variable clauses other) = in_subject variable clauses other
 frame_of (frame.Source order span variable body) = in_source order span variable body
-frame_of (frame.ReducedSource order span set empty variable body) = in_reduced_source order span set empty variable body
+frame_of (frame.ReducedSource order span set empty variable body) =
+    in_reduced_source order span set empty variable body
 frame_of (frame.Try variable clauses last) = in_try variable clauses last
 
 -- Whether a node's part has its mark, by the machine's clock.
@@ -82,10 +85,12 @@ abbrev pub IsSince : ℕ → Frame → Type 0
 IsSince clock (frame.Node n) = n.since ≤ clock
 IsSince clock f = Unit {0}
 
--- Frames lead to a part that may go on: none of the parts on the way is passed over, and the clock never went back.
+-- Frames lead to a part that may go on: none of the parts on the way is passed over, and the clock
+-- never went back.
 abbrev pub Reaches : ℕ → List Frame → Term → Type 0
 Reaches clock [] t = Unit {0}
-Reaches clock (f ∷ fs) t = (passed (frames_of clock f) t ≡ false) × IsSince clock f × Reaches clock fs (plug (frames_of clock f) t)
+Reaches clock (f ∷ fs) t = (passed (frames_of clock f) t ≡ false) × IsSince clock f
+    × Reaches clock fs (plug (frames_of clock f) t)
 
 -- A frame of a form that goes from left to right.
 abbrev pub IsInOrder : Frame → Type 0

@@ -1,4 +1,5 @@
--- Chapter "Terms and threads": the parallel forms by their heads, and the frame that each leaves round a part.
+-- Chapter "Terms and threads": the parallel forms by their heads, and the frame that each leaves
+-- round a part.
 use Rattle.std.specs.Prelude.{Bool, true, false, List, [], ◌∷◌}
 use Rattle.fort_core.specs.declared.term.Term.{Term, Call, Apply, ForHalves, ReduceHalves, Also}
 use Rattle.fort_core.specs.declared.term.Term as term
@@ -35,7 +36,8 @@ form_of head.ForHalves ts = of_two ForHalves ts
 form_of (head.ReduceHalves set) ts = of_two (ReduceHalves set) ts
 
 -- The frame round one of two parts.
-abbrev pub frame_of_two : (Term → machine.Frame) → (Term → machine.Frame) → List Term → List Term → machine.Frame
+abbrev pub frame_of_two : (Term → machine.Frame) → (Term → machine.Frame) → List Term → List Term
+    → machine.Frame
 frame_of_two f g [] (b ∷ []) = f b
 frame_of_two f g (a ∷ []) [] = g a
 frame_of_two f g before behind = in_throw
@@ -47,4 +49,5 @@ frame_at (head.Call set) before behind = in_call set before behind
 frame_at head.Apply before behind = frame_of_two in_function in_argument before behind
 frame_at head.Also before behind = in_block before behind
 frame_at head.ForHalves before behind = frame_of_two in_first_half in_second_half before behind
-frame_at (head.ReduceHalves set) before behind = frame_of_two (in_first_reduced set) (in_second_reduced set) before behind
+frame_at (head.ReduceHalves set) before behind =
+    frame_of_two (in_first_reduced set) (in_second_reduced set) before behind

@@ -13,16 +13,20 @@ SameTerm = (clock : ℕ) (fs : List Frame) (t : Term) → rebuilt clock fs t ≡
 
 -- A part to which frames lead isn't passed over.
 abbrev pub NotPassed : Type 0
-NotPassed = (clock : ℕ) (fs : List Frame) (t : Term) → Reaches clock fs t → passed (outward clock fs) t ≡ false
+NotPassed = (clock : ℕ) (fs : List Frame) (t : Term) → Reaches clock fs t
+    → passed (outward clock fs) t ≡ false
 
 -- So is the thread.
 abbrev pub SameThread : Type 0
 SameThread = (clock : ℕ) (fs : List Frame) → numbers fs ≡ road (outward clock fs)
 
--- A clock that rises puts on the marks of a step: on each part on the way, once; and what the part became may go on.
+-- A clock that rises puts on the marks of a step: on each part on the way, once; and what the part
+-- became may go on.
 abbrev pub ClockMarks : Type 0
-ClockMarks = (clock later : ℕ) (fs : List Frame) (t u : Term) → Reaches clock fs t → clock < later → (outward later fs ≡ trodden (outward clock fs)) × Reaches later fs u
+ClockMarks = (clock later : ℕ) (fs : List Frame) (t u : Term) → Reaches clock fs t → clock < later
+    → (outward later fs ≡ trodden (outward clock fs)) × Reaches later fs u
 
 -- A node with a part in its place is its form.
 abbrev pub NodeIsForm : Type 0
-NodeIsForm = (n : Node) (t : Term) → on (frame_of_node n) t ≡ form_of n.head (take n.«at» n.parts ++ t ∷ drop (n.«at» + 1) n.parts)
+NodeIsForm = (n : Node) (t : Term)
+    → on (frame_of_node n) t ≡ form_of n.head (take n.«at» n.parts ++ t ∷ drop (n.«at» + 1) n.parts)

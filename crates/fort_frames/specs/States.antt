@@ -15,7 +15,8 @@ term_at (at.Throw v) = throw_of v
 term_at (at.Form t) = t
 term_at (at.Left t) = t
 
--- A state stands for a term: with the frames round what stands inside them it is the term, and that may go on.
+-- A state stands for a term: with the frames round what stands inside them it is the term, and that
+-- may go on.
 pub record Stands (clock : ℕ) (t : Term) (s : State) : Type 0 where
   pub is_term : rebuilt clock (frames s.place.stack) (term_at s.«at») ≡ t
   pub reached : Reaches clock (frames s.place.stack) (term_at s.«at»)

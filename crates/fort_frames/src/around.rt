@@ -84,7 +84,9 @@ fn operator(
     part: Shared<Term>,
     operands: &List<Shared<Term>>,
 ) -> Result<Term, Memory>
-    ensures { IfOk result (λ form. form ≡ Term.Operator set (map Term.Value values.now ++ part ∷ drop (length values.now + 1) operands.now)) }
+    ensures { IfOk result (λ form. form
+        ≡ Term.Operator set
+        (map Term.Value values.now ++ part ∷ drop (length values.now + 1) operands.now)) }
 {
     let mut all = as_terms(alloc, values)?;
     all.push(part)?;

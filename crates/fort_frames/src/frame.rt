@@ -6,8 +6,8 @@ use fort_base::{List, Memory, NameId, SetId, Shared, Ty};
 use fort_core::{Order, Slot, Span, Term, Value};
 use std::alloc::Global;
 
-/// A form with one part left out: first the parallel forms, then those that go from left to right, whose parts before the
-/// one that is left out are values.
+/// A form with one part left out: first the parallel forms, then those that go from left to right,
+/// whose parts before the one that is left out are values.
 #[derive(Drop)]
 pub enum Frame {
     Node(Node),

@@ -16,8 +16,8 @@ pub fn same_thread()
     ensures { SameThread }
 {}
 
-/// Where the clock rises each part on the way has its mark, as after a step of the machine, and what the part became may
-/// go on.
+/// Where the clock rises each part on the way has its mark, as after a step of the machine, and
+/// what the part became may go on.
 pub fn clock_marks()
     ensures { ClockMarks }
 {}

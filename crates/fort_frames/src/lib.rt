@@ -1,5 +1,5 @@
-//! States: a term taken apart into what stands at its step and a shared stack of frames round it. The chapter "Terms and
-//! threads" of docs/MACHINE.md.
+//! States: a term taken apart into what stands at its step and a shared stack of frames round it.
+//! The chapter "Terms and threads" of docs/MACHINE.md.
 #![tactic(auto)]
 
 mod around;

@@ -7,10 +7,12 @@ use fort_base::{List, Memory, Shared};
 use fort_core::Term;
 use std::alloc::Global;
 
-/// A parallel form into one part of which is gone; what stands in the list at that part's number doesn't count.
+/// A parallel form into one part of which is gone; what stands in the list at that part's number
+/// doesn't count.
 ///
-/// The part has its mark where it had it when it was gone into, and else once a step was taken since then: `since` is
-/// what the machine's clock showed, and the clock rises at each step. So a step puts its marks on all frames at once.
+/// The part has its mark where it had it when it was gone into, and else once a step was taken
+/// since then: `since` is what the machine's clock showed, and the clock rises at each step. So a
+/// step puts its marks on all frames at once.
 #[derive(Drop)]
 pub struct Node {
     pub head: Head,

@@ -9,8 +9,8 @@ use fort_base::{List, Memory};
 use fort_core::Path;
 use std::alloc::Global;
 
-/// A place in a term: the frames round it, innermost first, and the path of the thread that they lead to, which is kept
-/// beside them and never made anew.
+/// A place in a term: the frames round it, innermost first, and the path of the thread that they
+/// lead to, which is kept beside them and never made anew.
 #[derive(Drop)]
 pub struct Place {
     pub stack: Stack,
@@ -47,10 +47,12 @@ impl Place {
         })
     }
 
-    /// The innermost frame and the place round it, or `None` at the whole term; it takes constant time, but for a frame that
-    /// another state shares, which is made anew.
+    /// The innermost frame and the place round it, or `None` at the whole term; it takes constant
+    /// time, but for a frame that another state shares, which is made anew.
     pub fn leave(self, alloc: Global) -> Result<Option<(Frame, Place)>, Memory>
-        ensures { IfOk result (λ left. MatchOption left (frames self.stack ≡ []) (λ pair. frames self.stack ≡ pair.0 ∷ frames pair.1.stack)) }
+        ensures { IfOk result
+            (λ left. MatchOption left (frames self.stack ≡ []) (λ pair. frames self.stack
+            ≡ pair.0 ∷ frames pair.1.stack)) }
     {
         let Place { stack, mut path } = self;
         match stack.pop(alloc)? {

@@ -36,10 +36,12 @@ impl Stack {
         Ok(Stack::Over(Shared::new(alloc, (frame, self))?))
     }
 
-    /// The innermost frame and the others, or `None` where there is none. Where the frame belongs to
-    /// another stack too, it is made anew; else this takes no memory.
+    /// The innermost frame and the others, or `None` where there is none. Where the frame belongs
+    /// to another stack too, it is made anew; else this takes no memory.
     pub fn pop(self, alloc: Global) -> Result<Option<(Frame, Stack)>, Memory>
-        ensures { IfOk result (λ popped. MatchOption popped (frames self ≡ []) (λ pair. frames self ≡ pair.0 ∷ frames pair.1)) }
+        ensures { IfOk result
+            (λ popped. MatchOption popped (frames self ≡ []) (λ pair. frames self
+            ≡ pair.0 ∷ frames pair.1)) }
     {
         match self {
             Stack::Empty => Ok(None),

@@ -14,7 +14,8 @@ HasSense sense ops = Any (λ op. sense_of op ≡ sense) ops
 
 -- not both rising and falling ones, and of two or more none that is unequal
 abbrev pub IsGoodChain : List Op → Type 0
-IsGoodChain ops = (HasSense Rising ops → HasSense Falling ops → ⊥) × (1 < length ops → HasSense Unequal ops → ⊥)
+IsGoodChain ops = (HasSense Rising ops → HasSense Falling ops → ⊥)
+    × (1 < length ops → HasSense Unequal ops → ⊥)
 
 -- a chain is good
 abbrev pub IsGoodNode : Grouped-F Grouped → Type 0

@@ -54,26 +54,31 @@ Continues (Grouped-F.Unit n) op = ⊥
 Continues (Grouped-F.Chain ops parts) op = ⊥
 Continues (Grouped-F.Juxt units) op = ⊥
 
--- what may be the left child of a binary node: also one with the same operator, or where both have + or -
+-- what may be the left child of a binary node: also one with the same operator, or where both have
+-- + or -
 abbrev pub FitsLeft : Grouped → Op → Type 0
 FitsLeft t op = Fits t (group_of op) ⊎ Continues (out-Grouped t) op
 
 -- two units or more, from i to j, side by side
 pub data IsJuxt (joints : List Joint) : ℕ → ℕ → List ℕ → Type 0 where
   two : {i : ℕ} → between joints i ≡ Some Juxt → IsJuxt joints i (i + 1) (i ∷ (i + 1) ∷ [])
-  one_more : {i k : ℕ} {units : List ℕ} → IsJuxt joints i k units → between joints k ≡ Some Juxt → IsJuxt joints i (k + 1) (units ++ (k + 1) ∷ [])
+  one_more : {i k : ℕ} {units : List ℕ} → IsJuxt joints i k units → between joints k ≡ Some Juxt
+      → IsJuxt joints i (k + 1) (units ++ (k + 1) ∷ [])
 
 mutual
   -- a grouping of the units from i to j
   pub data IsGrouping (joints : List Joint) : ℕ → ℕ → Grouped → Type 0 where
     unit : {i : ℕ} → IsGrouping joints i i (tree.Unit i)
-    juxt : {i j : ℕ} {units : List ℕ} → IsJuxt joints i j units → IsGrouping joints i j (tree.Juxt units)
+    juxt : {i j : ℕ} {units : List ℕ} → IsJuxt joints i j units
+        → IsGrouping joints i j (tree.Juxt units)
     binary :
         {i k j : ℕ} {op : Op} {left right : Grouped}
         → between joints k ≡ Some op → form_of op ≡ a_form.Binary
         → IsGrouping joints i k left → IsGrouping joints (k + 1) j right
-        → FitsLeft left op → Fits right (group_of op) → IsGrouping joints i j (tree.Binary op left right)
-    chain : {i j : ℕ} {ops : List Op} {parts : List Grouped} → IsChain joints i j ops parts → IsGrouping joints i j (tree.Chain ops parts)
+        → FitsLeft left op → Fits right (group_of op)
+        → IsGrouping joints i j (tree.Binary op left right)
+    chain : {i j : ℕ} {ops : List Op} {parts : List Grouped} → IsChain joints i j ops parts
+        → IsGrouping joints i j (tree.Chain ops parts)
 
   -- relational operators with groupings before, between and after them, over the units from i to j
   pub data IsChain (joints : List Joint) : ℕ → ℕ → List Op → List Grouped → Type 0 where
@@ -81,8 +86,10 @@ mutual
         {i k j : ℕ} {op : Op} {left right : Grouped}
         → between joints k ≡ Some op → form_of op ≡ a_form.Chain
         → IsGrouping joints i k left → IsGrouping joints (k + 1) j right
-        → Fits left Relation → Fits right Relation → IsChain joints i j (op ∷ []) (left ∷ right ∷ [])
+        → Fits left Relation → Fits right Relation
+        → IsChain joints i j (op ∷ []) (left ∷ right ∷ [])
     next :
         {i k j : ℕ} {ops : List Op} {parts : List Grouped} {op : Op} {right : Grouped}
         → IsChain joints i k ops parts → between joints k ≡ Some op → form_of op ≡ a_form.Chain
-        → IsGrouping joints (k + 1) j right → Fits right Relation → IsChain joints i j (ops ++ op ∷ []) (parts ++ right ∷ [])
+        → IsGrouping joints (k + 1) j right → Fits right Relation
+        → IsChain joints i j (ops ++ op ∷ []) (parts ++ right ∷ [])

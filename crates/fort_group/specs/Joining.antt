@@ -1,4 +1,5 @@
--- How the code divides a flat expression: at the last of its weakest operators. No definition of the chapter "Operators" stands here.
+-- How the code divides a flat expression: at the last of its weakest operators. No definition of
+-- the chapter "Operators" stands here.
 use Rattle.std.specs.Prelude.{◌≡◌, ℕ, ◌<◌, ◌≤◌, cond, List, [], ◌∷◌, ◌++◌, Option, Some, None, MatchOption}
 use Rattle.fort_ops.specs.declared.op.Op.{Op}
 use Rattle.fort_ops.specs.declared.precedence.Group.TheVariants.{Relation}
@@ -26,7 +27,8 @@ juxtaposed_at l (Grouped-F.Binary op a b) = None
 juxtaposed_at l (Grouped-F.Chain ops parts) = None
 juxtaposed_at l (Grouped-F.Juxt units) = None
 
--- the juxtaposition of two parts, where the right one is a unit and the left one a unit or a juxtaposition
+-- the juxtaposition of two parts, where the right one is a unit and the left one a unit or a
+-- juxtaposition
 abbrev pub juxtaposed : Grouped → Grouped → Option Grouped
 juxtaposed l r = juxtaposed_at (out-Grouped l) (out-Grouped r)
 
@@ -47,7 +49,8 @@ linked op l r = cond (fits (root r) Relation) (linked_at op (out-Grouped l) l r)
 
 -- the binary node of two parts, where both may stand in it
 abbrev pub Pairs : Op → Grouped → Grouped → Option Grouped → Type 0
-Pairs op l r o = MatchOption o (FitsLeft l op → Fits r (group_of op) → ⊥) (λ g. (g ≡ tree.Binary op l r) × FitsLeft l op × Fits r (group_of op))
+Pairs op l r o = MatchOption o (FitsLeft l op → Fits r (group_of op)
+    → ⊥) (λ g. (g ≡ tree.Binary op l r) × FitsLeft l op × Fits r (group_of op))
 
 -- the node of two parts by its form
 abbrev pub JoinsBy : Form → Op → Grouped → Grouped → Option Grouped → Type 0

@@ -1,4 +1,5 @@
--- The chapter "Operators": what stands between the units of a flat expression. The code reads the same list by index.
+-- The chapter "Operators": what stands between the units of a flat expression. The code reads the
+-- same list by index.
 use Rattle.std.specs.Prelude.{ℕ, List, slice_get, Option, Some, None}
 use Rattle.fort_ops.specs.declared.op.Op.{Op}
 use Rattle.fort_ops.specs.declared.op.Op.TheVariants.{Juxt}

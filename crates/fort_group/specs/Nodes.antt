@@ -10,7 +10,8 @@ pub data Has : Grouped → Grouped → Type 0 where
   itself : (t : Grouped) → Has t t
   in_left : (op : Op) (left right t : Grouped) → Has left t → Has (tree.Binary op left right) t
   in_right : (op : Op) (left right t : Grouped) → Has right t → Has (tree.Binary op left right) t
-  in_part : (ops : List Op) (parts : List Grouped) (part t : Grouped) → Contains parts part → Has part t → Has (tree.Chain ops parts) t
+  in_part : (ops : List Op) (parts : List Grouped) (part t : Grouped) → Contains parts part
+      → Has part t → Has (tree.Chain ops parts) t
 
 -- the fact holds of each node of the tree
 abbrev pub Everywhere : (Grouped-F Grouped → Type 0) → Grouped → Type 0

@@ -24,7 +24,8 @@ is_gap Line = true
 -- the place of an infix operator with a gap on one side only
 abbrev pub mixed_place : Joint → Option Place
 mixed_place Beside = None
-mixed_place (Behind sign after) = cond (differ (is_gap sign.spot.gap) (is_gap after)) (Some sign.spot.place) None
+mixed_place (Behind sign after) =
+    cond (differ (is_gap sign.spot.gap) (is_gap after)) (Some sign.spot.place) None
 
 -- a place that is there, or the other
 abbrev pub or_else : Option Place → Option Place → Option Place
@@ -86,11 +87,13 @@ is_loose joints t = loose_at joints (out-Grouped t)
 abbrev pub AgreesAt : List Joint → Grouped-F Grouped → Type 0
 AgreesAt joints (Grouped-F.Unit n) = Unit {0}
 AgreesAt joints (Grouped-F.Juxt units) = Unit {0}
-AgreesAt joints (Grouped-F.Binary op left right) = follows_loose joints right ≡ false → (is_loose joints left ≡ false) × (is_loose joints right ≡ false)
+AgreesAt joints (Grouped-F.Binary op left right) = follows_loose joints right ≡ false
+    → (is_loose joints left ≡ false) × (is_loose joints right ≡ false)
 AgreesAt joints (Grouped-F.Chain ops []) = Unit {0}
 AgreesAt joints (Grouped-F.Chain ops (part ∷ parts)) =
     All (λ p. follows_loose joints p ≡ true) parts
-    ⊎ (All (λ p. follows_loose joints p ≡ false) parts × All (λ p. is_loose joints p ≡ false) (part ∷ parts))
+    ⊎ (All (λ p. follows_loose joints p ≡ false) parts
+    × All (λ p. is_loose joints p ≡ false) (part ∷ parts))
 
 -- the spacing agrees with the grouping
 abbrev pub Agrees : List Joint → Grouped → Type 0

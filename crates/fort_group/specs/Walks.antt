@@ -1,4 +1,5 @@
--- What the code computes in its walks over a tree. The laws that tie it to the rules stand in proofs/Agreement.antt and proofs/Senses.antt.
+-- What the code computes in its walks over a tree. The laws that tie it to the rules stand in
+-- proofs/Agreement.antt and proofs/Senses.antt.
 use Rattle.std.specs.Prelude.{Bool, true, false, not, ◌&&◌, ◌||◌, nat_lt, List, [], ◌∷◌, length, map, slice_get}
 use Rattle.fort_ops.specs.declared.op.Op.{Op}
 use Rattle.fort_ops.specs.declared.op.Sense.{Sense}
@@ -38,19 +39,22 @@ abbrev pub some_tight : List Joint → List Spaced → Bool
 some_tight joints [] = false
 some_tight joints (p ∷ ps) = not (loose_before joints p.first) || some_tight joints ps
 
--- the operators stand before all parts but the first; where one is tight, none is loose, and no part
+-- the operators stand before all parts but the first; where one is tight, none is loose, and no
+-- part
 abbrev pub chain_spaced : List Joint → List Spaced → Spaced
 chain_spaced joints [] = record { first = 0; loose = false; good = true }
 chain_spaced joints (p ∷ ps) = record {
   first = p.first;
   loose = some_loose joints ps;
-  good = all_good (p ∷ ps) && (not (some_tight joints ps) || not (some_loose joints ps || some_loose_part (p ∷ ps)));
+  good = all_good (p ∷ ps)
+      && (not (some_tight joints ps) || not (some_loose joints ps || some_loose_part (p ∷ ps)));
 }
 
 -- a node from its children
 abbrev pub spaced_step : List Joint → Grouped-F Spaced → Spaced
 spaced_step joints (Grouped-F.Unit n) = record { first = n; loose = false; good = true }
-spaced_step joints (Grouped-F.Juxt units) = record { first = first_unit (slice_get units 0); loose = true; good = true }
+spaced_step joints (Grouped-F.Juxt units) =
+    record { first = first_unit (slice_get units 0); loose = true; good = true }
 spaced_step joints (Grouped-F.Binary op l r) = binary_spaced joints l r
 spaced_step joints (Grouped-F.Chain ops parts) = chain_spaced joints parts
 
@@ -78,7 +82,9 @@ has_sense s (op ∷ ops) = equal_senses (sense_of op) s || has_sense s ops
 
 -- not rising and falling, and none of two or more unequal
 abbrev pub good_chain : List Op → Bool
-good_chain ops = not (has_sense a_sense.Rising ops && has_sense a_sense.Falling ops) && not (nat_lt 1 (length ops) && has_sense a_sense.Unequal ops)
+good_chain ops =
+    not (has_sense a_sense.Rising ops && has_sense a_sense.Falling ops)
+    && not (nat_lt 1 (length ops) && has_sense a_sense.Unequal ops)
 
 -- all are true
 abbrev pub all_true : List Bool → Bool

@@ -28,4 +28,5 @@ counted i (suc n) = i ∷ counted (i + 1) n
 
 -- the units of a grouping from i to j are the n numbers from i on
 abbrev pub UnitsInOrder : Type 0
-UnitsInOrder = (joints : List Joint) (i j n : ℕ) (t : Grouped) → IsGrouping joints i j t → j + 1 ≡ i + n → units_of t ≡ counted i n
+UnitsInOrder = (joints : List Joint) (i j n : ℕ) (t : Grouped) → IsGrouping joints i j t
+    → j + 1 ≡ i + n → units_of t ≡ counted i n

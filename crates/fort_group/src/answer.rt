@@ -13,9 +13,9 @@ use std::alloc::Global;
 
 /// The one grouping of a flat expression; its numbers are places of units, counted from 0.
 ///
-/// It refuses the lowest rule that is broken: 301 at the first operator with a gap on one side only;
-/// 302 where there is no grouping, 303 where the spacing contradicts it, 304 where one of its chains
-/// mixes senses, all three at the flat expression's first token. The chapter "Operators".
+/// It refuses the lowest rule that is broken: 301 at the first operator with a gap on one side
+/// only; 302 where there is no grouping, 303 where the spacing contradicts it, 304 where one of its
+/// chains mixes senses, all three at the flat expression's first token. The chapter "Operators".
 pub fn group(alloc: Global, flat: &Flat) -> Result<Grouped, CheckFault>
     ensures { Answers (row_of flat.now) result }
 {
@@ -50,8 +50,8 @@ pub fn one_grouping_at_most()
     ensures { OneAtMost }
 {}
 
-/// A law of flat expressions: each has a grouping that breaks no rule, or breaks one, and none both; and the rule
-/// and the place are one.
+/// A law of flat expressions: each has a grouping that breaks no rule, or breaks one, and none
+/// both; and the rule and the place are one.
 pub fn one_answer()
     ensures some { EachAnswered }
     ensures apart { NeverBoth }

@@ -6,11 +6,11 @@ use fort_flats::rows;
 use fort_tree::{Component, FlatGrouping, Groups, Row};
 use std::alloc::Global;
 
-/// The grouping of each flat expression of a component, by the place of its first token, in the order of
-/// these.
+/// The grouping of each flat expression of a component, by the place of its first token, in the
+/// order of these.
 ///
-/// Of the flat expressions that break one of 301 to 304 it refuses the first in source order, by the lowest
-/// rule that it breaks, where `group` refuses it. The chapter "Operators".
+/// Of the flat expressions that break one of 301 to 304 it refuses the first in source order, by
+/// the lowest rule that it breaks, where `group` refuses it. The chapter "Operators".
 pub fn groups(alloc: Global, component: &Component) -> Result<Groups, CheckFault>
     ensures { AnswersAll component.now result }
 {

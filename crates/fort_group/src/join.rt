@@ -11,8 +11,8 @@ use fort_ops::{Op, over};
 use fort_tree::Grouped;
 use std::alloc::Global;
 
-/// Whether a tree may stand under an operator: it is a unit, or its own operator is over it. A chain
-/// counts by its `=`, since all relational operators are of one group.
+/// Whether a tree may stand under an operator: it is a unit, or its own operator is over it. A
+/// chain counts by its `=`, since all relational operators are of one group.
 fn fits(tree: &Grouped, parent: Op) -> bool
     ensures { result ≡ fits (root tree.now) (group_of parent) }
 {
@@ -41,8 +41,8 @@ fn fits_left(tree: &Grouped, op: Op) -> bool
     fits(tree, op) || continues(tree, op)
 }
 
-/// Units side by side with one more; none where the left part is no unit and no juxtaposition, or the
-/// right one no unit.
+/// Units side by side with one more; none where the left part is no unit and no juxtaposition, or
+/// the right one no unit.
 fn juxtapose(alloc: Global, left: Grouped, right: Grouped) -> Result<Option<Grouped>, Memory>
     ensures { IfOk result (λ o. o ≡ juxtaposed left right) }
 {

@@ -1,4 +1,5 @@
--- The chapter "Types", names at the top: the heads of a component's types. The code walks the declarations once.
+-- The chapter "Types", names at the top: the heads of a component's types. The code walks the
+-- declarations once.
 use Rattle.std.specs.Prelude.{ℕ, ◌+◌, List, [], ◌∷◌, ◌++◌, Option, Some, None, map}
 use Rattle.fort_base.specs.declared.refusal.Place.{Place}
 use Rattle.fort_types.specs.declared.hierarchy.TypeKind.TheVariants as a_kind
@@ -43,11 +44,28 @@ comprises_of (Some part) = names_of part.names
 
 -- The head of a trait that is the declaration of that number.
 abbrev pub trait_head : ℕ → Trait → TypeHead
-trait_head body t = record { name = t.name; kind = a_kind.Trait; body = body; extends = extends_of t.extends; excludes = excludes_of t.excludes; comprises = comprises_of t.comprises }
+trait_head body t =
+    record {
+      name = t.name;
+      kind = a_kind.Trait;
+      body = body;
+      extends = extends_of t.extends;
+      excludes = excludes_of t.excludes;
+      comprises = comprises_of t.comprises;
+    }
 
--- The head of an object that is the declaration of that number; it excludes nothing and has no list.
+-- The head of an object that is the declaration of that number; it excludes nothing and has no
+-- list.
 abbrev pub object_head : ℕ → Object → TypeHead
-object_head body o = record { name = o.name; kind = a_kind.Object; body = body; extends = extends_of o.extends; excludes = []; comprises = [] }
+object_head body o =
+    record {
+      name = o.name;
+      kind = a_kind.Object;
+      body = body;
+      extends = extends_of o.extends;
+      excludes = [];
+      comprises = [];
+    }
 
 -- The head of a declaration, where it declares a type.
 abbrev pub head_of : ℕ → Declaration → List TypeHead

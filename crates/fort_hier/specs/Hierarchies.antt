@@ -1,5 +1,6 @@
--- The chapter "Types", the rules of a hierarchy: which rule a component breaks, which one is reported, and what an accepted component has.
--- The code asks one rule after another and leaves at the first that is broken.
+-- The chapter "Types", the rules of a hierarchy: which rule a component breaks, which one is
+-- reported, and what an accepted component has. The code asks one rule after another and leaves at
+-- the first that is broken.
 use Rattle.std.specs.Prelude.{◌≡◌, ◌≤◌, ◌^◌, ◌++◌, ℕ, List, None, map, length, replicate}
 use Rattle.fort_base.specs.declared.rules.TheConstants.{DUPLICATE_NAME, UNKNOWN_TYPE, CYCLIC_EXTENDS}
 use Rattle.fort_base.specs.declared.refusal.CheckFault.{CheckFault}
@@ -30,12 +31,17 @@ places_of c = map head_place (heads_of c)
 
 -- A component in which these names stand as types breaks a rule at a place.
 pub data Broken (c : Component) (mentioned : List Name) (rule : ℕ) (place : Place) : Type 0 where
-  duplicate : rule ≡ DUPLICATE_NAME.0 → IsDuplicate (all_called c.names (tops_of c)) place → Broken c mentioned rule place
-  unknown : rule ≡ UNKNOWN_TYPE.0 → IsUnknown (all_types c.names (heads_of c)) c.names mentioned place → Broken c mentioned rule place
-  sentence : (s : Sentence) → rule ≡ rule_number s → BreaksAt s (declares c) (places_of c) place → Broken c mentioned rule place
+  duplicate : rule ≡ DUPLICATE_NAME.0 → IsDuplicate (all_called c.names (tops_of c)) place
+      → Broken c mentioned rule place
+  unknown : rule ≡ UNKNOWN_TYPE.0
+      → IsUnknown (all_types c.names (heads_of c)) c.names mentioned place
+      → Broken c mentioned rule place
+  sentence : (s : Sentence) → rule ≡ rule_number s → BreaksAt s (declares c) (places_of c) place
+      → Broken c mentioned rule place
 
 -- A component breaks a rule, there at the earliest, and no rule of a lower number.
-pub record IsReported (c : Component) (mentioned : List Name) (rule : ℕ) (place : Place) : Type 0 where
+pub record IsReported (c : Component) (mentioned : List Name) (rule : ℕ)
+    (place : Place) : Type 0 where
   pub earliest : IsEarliest (Broken c mentioned rule) place
   pub lowest : (other : ℕ) (at : Place) → Broken c mentioned other at → rule ≤ other
 
@@ -44,8 +50,8 @@ abbrev pub IsFault : Component → List Name → CheckFault → Type 0
 IsFault c mentioned (a_fault.Refused rule place) = IsReported c mentioned rule.0 place
 IsFault c mentioned a_fault.Memory = Unit {0}
 
--- What an accepted component has: it breaks no rule; the table has the rows of its declared types, whose names and declarations are
--- these; and there are at most as many as there are numbers.
+-- What an accepted component has: it breaks no rule; the table has the rows of its declared types,
+-- whose names and declarations are these; and there are at most as many as there are numbers.
 pub record IsHierarchy (c : Component) (mentioned : List Name) (h : Hierarchy) : Type 0 where
   pub kept : (rule : ℕ) (place : Place) → Broken c mentioned rule place → ⊥
   pub rows : HasRows (declares c) h.table
@@ -62,5 +68,6 @@ IsRefusal number Breaks a_fault.Memory = Unit {0}
 
 -- A refusal by the broken sentence of the lowest number, at its earliest place.
 abbrev pub IsSentenceRefusal : DeclaredTypes → List Place → CheckFault → Type 0
-IsSentenceRefusal h places (a_fault.Refused rule place) = (s : Sentence) × (rule.0 ≡ rule_number s) × IsLowest h places CYCLIC_EXTENDS.0 (record { sentence = s; place = place })
+IsSentenceRefusal h places (a_fault.Refused rule place) = (s : Sentence) × (rule.0 ≡ rule_number s)
+    × IsLowest h places CYCLIC_EXTENDS.0 (record { sentence = s; place = place })
 IsSentenceRefusal h places a_fault.Memory = Unit {0}

@@ -1,4 +1,5 @@
--- The chapter "Types", names at the top: the numbers of types, and the hierarchy that a component declares. The code looks names up in a map.
+-- The chapter "Types", names at the top: the numbers of types, and the hierarchy that a component
+-- declares. The code looks names up in a map.
 use Rattle.std.specs.Prelude.{◌≡◌, ◌<◌, ℕ, suc, List, [], ◌∷◌, ◌++◌, Option, Some, None, cond, map, length, slice_get, Contains}
 use Rattle.std.specs.Str.{bytes_eq}
 use Rattle.indexmap.specs.IndexMap.{get_by}
@@ -16,7 +17,8 @@ use Rattle.fort_hier.specs.Names.{Spelling, spelling}
 abbrev pub head_spelling : List Spelling → TypeHead → Spelling
 head_spelling names head = spelling names head.name
 
--- The names of the declared types, in the order of their numbers: built-in ones, then the component's.
+-- The names of the declared types, in the order of their numbers: built-in ones, then the
+-- component's.
 abbrev pub declared_types : List Spelling → List TypeHead → List Spelling
 declared_types names heads = declared_spellings ++ map (head_spelling names) heads
 
@@ -24,7 +26,8 @@ declared_types names heads = declared_spellings ++ map (head_spelling names) hea
 abbrev pub all_types : List Spelling → List TypeHead → List Spelling
 all_types names heads = declared_types names heads ++ any_spelling ∷ []
 
--- The number of a spelling in a list of names: the place of the first that is spelled so, or the place behind all.
+-- The number of a spelling in a list of names: the place of the first that is spelled so, or the
+-- place behind all.
 abbrev pub number_of : List Spelling → Spelling → ℕ
 number_of [] s = 0
 number_of (x ∷ list) s = cond (bytes_eq s x) 0 (suc (number_of list s))
@@ -49,11 +52,13 @@ declared_by list names head = record {
 
 -- The hierarchy that heads declare.
 abbrev pub hierarchy_of : List Spelling → List TypeHead → DeclaredTypes
-hierarchy_of names heads = built_in_declared ++ map (declared_by (all_types names heads) names) heads
+hierarchy_of names heads =
+    built_in_declared ++ map (declared_by (all_types names heads) names) heads
 
 -- A name that stands as a type is neither `Any` nor that of a declared type, and this is its place.
 abbrev pub IsUnknown : List Spelling → List Spelling → List Name → Place → Type 0
-IsUnknown list names mentioned place = (k : ℕ) × (name : Name) × (slice_get mentioned k ≡ Some name) × (Contains list (spelling names name) → ⊥) × (place ≡ name.spot.place)
+IsUnknown list names mentioned place = (k : ℕ) × (name : Name) × (slice_get mentioned k ≡ Some name)
+    × (Contains list (spelling names name) → ⊥) × (place ≡ name.spot.place)
 
 -- ---- the map of numbers
 

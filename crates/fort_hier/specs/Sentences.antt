@@ -1,4 +1,5 @@
--- The chapter "Types", the rules of a hierarchy: the sentences on one type's head. The code asks the rows.
+-- The chapter "Types", the rules of a hierarchy: the sentences on one type's head. The code asks
+-- the rows.
 use Rattle.std.specs.Prelude.{◌≡◌, ◌⊎◌, ◌+◌, ◌-◌, ℕ, List, length, slice_get, Some}
 use Rattle.fort_base.specs.declared.refusal.Place.{Place}
 use Rattle.fort_types.specs.Hierarchy.{DeclaredTypes, Extends, Path, Leaf, Excludes, Lists}
@@ -39,4 +40,5 @@ Breaks sentence.ComprisedNotBelow h a = ListsOther h a
 
 -- A type breaks a sentence, and this is its place; the places are those of the last types.
 abbrev pub BreaksAt : Sentence → DeclaredTypes → List Place → Place → Type 0
-BreaksAt s h places place = (k : ℕ) × (slice_get places k ≡ Some place) × Breaks s h (length h - length places + k)
+BreaksAt s h places place = (k : ℕ) × (slice_get places k ≡ Some place)
+    × Breaks s h (length h - length places + k)

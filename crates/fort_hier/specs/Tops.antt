@@ -1,4 +1,5 @@
--- The chapter "Types", names at the top: the names at the top of a component. The code walks the declarations once.
+-- The chapter "Types", names at the top: the names at the top of a component. The code walks the
+-- declarations once.
 use Rattle.std.specs.Prelude.{Bool, true, false, ◌||◌, cond, List, [], ◌∷◌, ◌++◌, Option, Some, None}
 use Rattle.std.specs.List.{flat_map}
 use Rattle.fort_tree.specs.declared.declarations.Component.{Component}
@@ -66,7 +67,8 @@ object_member_top (object_member.Method method) = method_top method
 abbrev pub object_top : ObjectEntry → List Top
 object_top entry = object_member_top entry.member
 
--- The names at the top that a declaration has: its own, and behind a type's those of its functional methods.
+-- The names at the top that a declaration has: its own, and behind a type's those of its functional
+-- methods.
 abbrev pub top_of : Declaration → List Top
 top_of (declaration.Variable v) = named_top v.name
 top_of (declaration.Function f) = function_top f.name

@@ -1,4 +1,5 @@
--- The chapter "Types", the rules of a hierarchy: what the code's walks over the lists of a head find.
+-- The chapter "Types", the rules of a hierarchy: what the code's walks over the lists of a head
+-- find.
 use Rattle.std.specs.Prelude.{◌≡◌, ◌≢◌, ◌⊎◌, ◌<◌, ℕ, Bool, IsTrue, List, [], length, slice_get, slice_index, Some, Contains}
 use Rattle.fort_types.specs.declared.hierarchy.DeclaredType.{DeclaredType}
 use Rattle.fort_types.specs.Hierarchy.{DeclaredTypes, Leaf}
@@ -23,7 +24,8 @@ SomeLeaf h list = SomeOf (LeafAt h) list
 
 -- The number is that of a type with a list that hasn't another number.
 abbrev pub UnlistedAt : DeclaredTypes → ℕ → ℕ → Type 0
-UnlistedAt h b a = (d : DeclaredType) × (slice_get h b ≡ Some d) × (d.comprises ≢ []) × (Contains d.comprises a → ⊥)
+UnlistedAt h b a = (d : DeclaredType) × (slice_get h b ≡ Some d) × (d.comprises ≢ [])
+    × (Contains d.comprises a → ⊥)
 
 abbrev pub SomeUnlisted : DeclaredTypes → List ℕ → ℕ → Type 0
 SomeUnlisted h list a = SomeOf (λ b. UnlistedAt h b a) list
@@ -34,4 +36,5 @@ ExcludesAbove rows list a top = SomeOf (λ n. (n ≡ top) ⊎ IsTrue (is_set row
 
 -- A row has the place of a type set that excludes one of these.
 abbrev pub SomeExcluding : DeclaredTypes → List (List Bool) → ℕ → Type 0
-SomeExcluding h rows a = (t : ℕ) × (d : DeclaredType) × (slice_get h t ≡ Some d) × IsTrue (is_set rows a t) × ExcludesAbove rows d.excludes a (length h)
+SomeExcluding h rows a = (t : ℕ) × (d : DeclaredType) × (slice_get h t ≡ Some d)
+    × IsTrue (is_set rows a t) × ExcludesAbove rows d.excludes a (length h)

@@ -45,7 +45,8 @@ pub fn names_in(alloc: Global, names: &[Bytes], heads: &[TypeHead]) -> Result<Li
 
 /// The declarations of the declared types, by their numbers.
 pub fn bodies_in(alloc: Global, heads: &[TypeHead]) -> Result<List<Option<u32>>, Memory>
-    ensures { IfOk result (λ bodies. bodies ≡ replicate TYPE_COUNT None ++ map head_body heads.now) }
+    ensures { IfOk result (λ bodies. bodies
+        ≡ replicate TYPE_COUNT None ++ map head_body heads.now) }
 {
     let mut bodies = built_in_bodies(alloc)?;
     for i in 0..heads.len() {

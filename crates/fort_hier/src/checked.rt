@@ -17,10 +17,11 @@ const MOST_TYPES: usize = 0x4000_0000;
 
 /// The declared types of a component, or the rule of 401 to 407 that it breaks.
 ///
-/// It answers `Refused` exactly where one of these rules is broken: the one of the lowest number, at the earliest
-/// place where it is. Else the table's rows are below and apart of the component's declared types, with their names
-/// and declarations. It answers `Memory` where memory is wanting, where the component has more than 2^30 types, and
-/// where one of them is a declaration whose number has more than 32 bits. The chapter is "Types".
+/// It answers `Refused` exactly where one of these rules is broken: the one of the lowest number,
+/// at the earliest place where it is. Else the table's rows are below and apart of the component's
+/// declared types, with their names and declarations. It answers `Memory` where memory is wanting,
+/// where the component has more than 2^30 types, and where one of them is a declaration whose
+/// number has more than 32 bits. The chapter is "Types".
 pub fn hierarchy(alloc: Global, component: &Component) -> Result<Hierarchy, CheckFault>
     ensures ok { IfOk result (IsHierarchy component.now (type_names component.now)) }
     ensures err { IfErr result (IsFault component.now (type_names component.now)) }
@@ -29,8 +30,8 @@ pub fn hierarchy(alloc: Global, component: &Component) -> Result<Hierarchy, Chec
     checked(alloc, component, mentioned.as_slice())
 }
 
-/// The hierarchy of a component in which these names stand as types, or the broken rule of 401 to 407 with the
-/// lowest number, at its earliest place.
+/// The hierarchy of a component in which these names stand as types, or the broken rule of 401 to
+/// 407 with the lowest number, at its earliest place.
 fn checked(
     alloc: Global,
     component: &Component,

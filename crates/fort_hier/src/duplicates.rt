@@ -12,7 +12,8 @@ use fort_base::{Bytes, Memory, Place, earlier};
 use fort_builtin::{FUNCTION_COUNT, TYPE_NAME_COUNT, function_name, type_name};
 use std::alloc::Global;
 
-/// The earliest place of a name at the top that clashes with one before it, or `None` where none does.
+/// The earliest place of a name at the top that clashes with one before it, or `None` where none
+/// does.
 pub fn first_duplicate(
     alloc: Global,
     names: &[Bytes],

@@ -6,7 +6,8 @@ pub fn accepted_is_sound()
     ensures { AcceptedIsSound }
 {}
 
-/// A law: in an accepted component no solid type is below two types that are apart, so no value has both.
+/// A law: in an accepted component no solid type is below two types that are apart, so no value has
+/// both.
 pub fn no_type_below_two()
     ensures { NeverBelowTwo }
 {}

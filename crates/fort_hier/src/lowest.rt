@@ -15,7 +15,8 @@ pub struct BrokenSentence {
     pub place: Place,
 }
 
-/// The broken sentence of the lowest number with its earliest place, or `None` where none is broken.
+/// The broken sentence of the lowest number with its earliest place, or `None` where none is
+/// broken.
 ///
 /// The places are those of the last types of the hierarchy, in its order.
 pub fn lowest_broken(

@@ -52,7 +52,8 @@ fn add_heads<'a>(
 ) -> Result<(), Memory>
     requires few { length heads.now < 2 ^ 31 }
     requires built_in { HoldsNumbers declared_spellings numbers.old }
-    ensures { OnOk result (HoldsNumbers (declared_spellings ++ map (head_spelling names.now) heads.now) numbers.new) }
+    ensures { OnOk result
+        (HoldsNumbers (declared_spellings ++ map (head_spelling names.now) heads.now) numbers.new) }
 {
     for i in 0..heads.len() {
         numbers.add(spelled(names, heads[i].name), TYPE_COUNT + i)?;
@@ -72,7 +73,8 @@ impl<'a> Numbers<'a> {
 
     /// Gives a spelling the next number, where it has none yet.
     fn add(&mut self, spelling: &'a [u8], number: usize) -> Result<(), Memory>
-        ensures { OnOk result ((list : Seq Spelling) → HoldsNumbers list self.old → length list ≡ number
+        ensures { OnOk result ((list : Seq Spelling) → HoldsNumbers list self.old
+            → length list ≡ number
             → HoldsNumbers (list ++ spelling.now ∷ []) self.new) }
     {
         match self.known.get(spelling) {
@@ -86,7 +88,8 @@ impl<'a> Numbers<'a> {
 
     /// The number of a spelling, or none where it is no type's.
     pub fn get(&self, spelling: &[u8]) -> Option<usize>
-        ensures { (list : Seq Spelling) → HoldsNumbers list self.now → NumberIs list spelling.now result }
+        ensures { (list : Seq Spelling) → HoldsNumbers list self.now
+            → NumberIs list spelling.now result }
     {
         match self.known.get(spelling) {
             Some(number) => Some(*number),
@@ -96,7 +99,8 @@ impl<'a> Numbers<'a> {
 
     /// The number of a spelling, or the number behind all where it is no type's.
     pub fn number(&self, spelling: &[u8], size: usize) -> usize
-        ensures { (list : Seq Spelling) → HoldsNumbers list self.now → length list ≡ size → result ≡ number_of list spelling.now }
+        ensures { (list : Seq Spelling) → HoldsNumbers list self.now → length list ≡ size
+            → result ≡ number_of list spelling.now }
     {
         match self.get(spelling) {
             Some(number) => number,

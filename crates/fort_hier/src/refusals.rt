@@ -27,8 +27,11 @@ use std::alloc::Global;
 
 /// Refuses a component with a name at the top that clashes with an earlier one (401).
 pub fn refuse_duplicate(alloc: Global, component: &Component) -> Result<(), CheckFault>
-    ensures ok { OnOk result (IsFirst (IsDuplicate (all_called component.now.names (tops_of component.now))) None) }
-    ensures err { IfErr result (IsRefusal DUPLICATE_NAME.0 (IsDuplicate (all_called component.now.names (tops_of component.now)))) }
+    ensures ok { OnOk result
+        (IsFirst (IsDuplicate (all_called component.now.names (tops_of component.now))) None) }
+    ensures err { IfErr result
+        (IsRefusal DUPLICATE_NAME.0
+        (IsDuplicate (all_called component.now.names (tops_of component.now)))) }
 {
     let tops = tops_in(alloc, component)?;
     let first = first_duplicate(alloc, component.names.as_slice(), tops.as_slice())?;
@@ -38,7 +41,8 @@ pub fn refuse_duplicate(alloc: Global, component: &Component) -> Result<(), Chec
     }
 }
 
-/// The declared types of these heads, or a refusal where some name that stands as a type is none's (402).
+/// The declared types of these heads, or a refusal where some name that stands as a type is none's
+/// (402).
 pub fn known_types(
     alloc: Global,
     names: &[Bytes],
@@ -47,8 +51,11 @@ pub fn known_types(
 ) -> Result<List<DeclaredType>, CheckFault>
     requires few { length heads.now < 2 ^ 31 }
     ensures types { IfOk result (λ types. types ≡ hierarchy_of names.now heads.now) }
-    ensures ok { OnOk result (IsFirst (IsUnknown (all_types names.now heads.now) names.now mentioned.now) None) }
-    ensures err { IfErr result (IsRefusal UNKNOWN_TYPE.0 (IsUnknown (all_types names.now heads.now) names.now mentioned.now)) }
+    ensures ok { OnOk result
+        (IsFirst (IsUnknown (all_types names.now heads.now) names.now mentioned.now) None) }
+    ensures err { IfErr result
+        (IsRefusal UNKNOWN_TYPE.0
+        (IsUnknown (all_types names.now heads.now) names.now mentioned.now)) }
 {
     let numbers = numbers_in(alloc, names, heads)?;
     if let Some(place) = first_unknown(names, &numbers, mentioned) {
@@ -68,7 +75,8 @@ pub fn refuse_broken(
 ) -> Result<(), CheckFault>
     requires rows { HasRows types.now table.now }
     requires fewer { length heads.now ≤ length types.now }
-    ensures ok { OnOk result (IsLowestFrom types.now (map head_place heads.now) CYCLIC_EXTENDS.0 None) }
+    ensures ok { OnOk result
+        (IsLowestFrom types.now (map head_place heads.now) CYCLIC_EXTENDS.0 None) }
     ensures err { IfErr result (IsSentenceRefusal types.now (map head_place heads.now)) }
 {
     let places = places_in(alloc, heads)?;

@@ -28,7 +28,8 @@ impl<'a> Seen<'a> {
         ensures clash { IfOk result (λ clash. (before : Seq Called) → HoldsSeen before self.old
             → IsTrue clash ↔ ClashesWith before spelling.now is_function) }
         ensures held { OnOk result ((before : Seq Called) (x : Called) → HoldsSeen before self.old
-            → x.spelling ≡ spelling.now → x.is_function ≡ is_function → HoldsSeen (before ++ x ∷ []) self.new) }
+            → x.spelling ≡ spelling.now → x.is_function ≡ is_function
+            → HoldsSeen (before ++ x ∷ []) self.new) }
     {
         match self.known.get(spelling) {
             Some(functions) => {

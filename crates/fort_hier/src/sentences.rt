@@ -42,7 +42,8 @@ impl Sentence {
     }
 }
 
-/// The earliest place among those of the types that break a sentence, or `None` where no type breaks it.
+/// The earliest place among those of the types that break a sentence, or `None` where no type
+/// breaks it.
 ///
 /// The places are those of the last types of the hierarchy, in its order.
 pub fn first_broken(
@@ -81,7 +82,8 @@ fn breaks(types: &[DeclaredType], table: &TypeTable, sentence: Sentence, a: usiz
     }
 }
 
-/// Whether a type is above itself by one or more `extends`: whether a type that it extends is below it.
+/// Whether a type is above itself by one or more `extends`: whether a type that it extends is below
+/// it.
 #[tactic(auto, using(crate::proofs::ByRows::cycle_told))]
 fn is_on_cycle(types: &[DeclaredType], table: &TypeTable, a: usize) -> bool
     requires rows { HasRows types.now table.now }

@@ -13,7 +13,8 @@ use fort_tree::Name;
 use fort_types::DeclaredType;
 use std::alloc::Global;
 
-/// The declared types that heads declare, built-in ones first; the size is that of the list of numbered names.
+/// The declared types that heads declare, built-in ones first; the size is that of the list of
+/// numbered names.
 pub fn types_in(
     alloc: Global,
     names: &[Bytes],
@@ -21,7 +22,8 @@ pub fn types_in(
     size: usize,
     heads: &[TypeHead],
 ) -> Result<List<DeclaredType>, Memory>
-    ensures { IfOk result (λ types. (list : Seq Spelling) → HoldsNumbers list numbers.now → length list ≡ size
+    ensures { IfOk result (λ types. (list : Seq Spelling) → HoldsNumbers list numbers.now
+        → length list ≡ size
         → types ≡ built_in_declared ++ map (declared_by list names.now) heads.now) }
 {
     let mut types = declared_types(alloc)?;
@@ -39,7 +41,8 @@ fn declared(
     size: usize,
     head: &TypeHead,
 ) -> Result<DeclaredType, Memory>
-    ensures { IfOk result (λ declared. (list : Seq Spelling) → HoldsNumbers list numbers.now → length list ≡ size
+    ensures { IfOk result (λ declared. (list : Seq Spelling) → HoldsNumbers list numbers.now
+        → length list ≡ size
         → declared ≡ declared_by list names.now head.now) }
 {
     let extends = extended(alloc, names, numbers, size, &head.extends)?;
@@ -61,7 +64,8 @@ fn extended(
     size: usize,
     extends: &Option<List<Name>>,
 ) -> Result<List<usize>, Memory>
-    ensures { IfOk result (λ found. (list : Seq Spelling) → HoldsNumbers list numbers.now → length list ≡ size
+    ensures { IfOk result (λ found. (list : Seq Spelling) → HoldsNumbers list numbers.now
+        → length list ≡ size
         → found ≡ extends_numbers list names.now extends.now) }
 {
     match extends {
@@ -78,7 +82,8 @@ fn numbered(
     size: usize,
     written: &[Name],
 ) -> Result<List<usize>, Memory>
-    ensures { IfOk result (λ found. (list : Seq Spelling) → HoldsNumbers list numbers.now → length list ≡ size
+    ensures { IfOk result (λ found. (list : Seq Spelling) → HoldsNumbers list numbers.now
+        → length list ≡ size
         → found ≡ map (number list names.now) written.now) }
 {
     let mut found = List::new(alloc);

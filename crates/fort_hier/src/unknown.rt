@@ -11,7 +11,8 @@ use fort_tree::Name;
 
 /// The earliest place of a name that is no type's, or `None` where each is a type's.
 pub fn first_unknown(names: &[Bytes], numbers: &Numbers, mentioned: &[Name]) -> Option<Place>
-    ensures { (list : Seq Spelling) → HoldsNumbers list numbers.now → IsFirst (IsUnknown list names.now mentioned.now) result }
+    ensures { (list : Seq Spelling) → HoldsNumbers list numbers.now
+        → IsFirst (IsUnknown list names.now mentioned.now) result }
 {
     let mut best = None;
     for name in mentioned {
@@ -25,7 +26,8 @@ pub fn first_unknown(names: &[Bytes], numbers: &Numbers, mentioned: &[Name]) -> 
 
 /// Whether a name is a type's.
 fn is_known(names: &[Bytes], numbers: &Numbers, name: Name) -> bool
-    ensures { (list : Seq Spelling) → HoldsNumbers list numbers.now → IsTrue result ↔ Contains list (spelling names.now name) }
+    ensures { (list : Seq Spelling) → HoldsNumbers list numbers.now → IsTrue result
+        ↔ Contains list (spelling names.now name) }
 {
     match numbers.get(spelled(names, name)) {
         Some(_) => true,

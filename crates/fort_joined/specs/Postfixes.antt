@@ -1,4 +1,5 @@
--- The chapter "Typing", runs: a postfix behind a value, told one kind after another, as the code does.
+-- The chapter "Typing", runs: a postfix behind a value, told one kind after another, as the code
+-- does.
 use Rattle.std.specs.Prelude.{[], ◌∷◌}
 use Rattle.fort_base.specs.declared.refusal.Place.{Place}
 use Rattle.fort_base.specs.declared.ty.Ty.{out-Ty}
@@ -17,7 +18,8 @@ use Rattle.fort_judge.specs.Joining.{operation, read, method_called}
 
 -- a method, and else nothing
 abbrev pub by_method : Facts → Place → TypedForm → Meaning → Made
-by_method k place u (a_meaning.Method at name ts) = method_called k place u at name ts (is_size k u name ts) (is_method k name)
+by_method k place u (a_meaning.Method at name ts) =
+    method_called k place u at name ts (is_size k u name ts) (is_method k name)
 by_method k place u _ = a_made.Stops
 
 -- a field, and else as above
@@ -27,5 +29,6 @@ by_name k place u m = by_method k place u m
 
 -- an exponent, and else as above
 abbrev pub by_exponent : Facts → Place → TypedForm → Meaning → Made
-by_exponent k place u (a_meaning.Exponent e) = operation k (operator_set k an_op.Power 2) (u ∷ e ∷ []) place
+by_exponent k place u (a_meaning.Exponent e) =
+    operation k (operator_set k an_op.Power 2) (u ∷ e ∷ []) place
 by_exponent k place u m = by_name k place u m

@@ -20,7 +20,8 @@ use Rattle.fort_joined.specs.declared.runs.Turned.TheVariants as a_turn
 
 -- two elements from a number on, where there are two
 abbrev pub two_of : ℕ → Option Pair → Option Around
-two_of n (Some p) = Some (record { before = take n p.rest; one = p.one; other = p.other; after = drop n p.rest })
+two_of n (Some p) =
+    Some (record { before = take n p.rest; one = p.one; other = p.other; after = drop n p.rest })
 two_of n None = None
 
 -- what an element is, of which this has come
@@ -45,7 +46,8 @@ fault_of _ = None
 
 -- a broken rule takes the place of two elements, where there is one
 abbrev pub replaced_else : List Part → Place → List Part → Option Fault → Option Fault → Further
-replaced_else before place after (Some x) found = replaced before place after (a_made.Breaks x) found
+replaced_else before place after (Some x) found =
+    replaced before place after (a_made.Breaks x) found
 replaced_else before place after None found = stop found
 
 -- a run that has ended, of one element or of none
@@ -60,4 +62,5 @@ after_turn next (a_turn.Goes ps found) = next found ps
 
 -- The turn is that of a run of these elements, whatever the rest of it comes to.
 abbrev pub IsTurn : Facts → List Part → Option Fault → Turned → Type 0
-IsTurn k ps found turned = (next : Option Fault → List Part → Outcome) → run_at next k found ps ≡ after_turn next turned
+IsTurn k ps found turned = (next : Option Fault → List Part → Outcome)
+    → run_at next k found ps ≡ after_turn next turned

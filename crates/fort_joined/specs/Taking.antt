@@ -1,5 +1,6 @@
--- The chapter "Typing", juxtapositions: what comes of a grouping whose elements are taken off one after another. It is what the judge says of the
--- grouping, as each element stands in it once and in its order.
+-- The chapter "Typing", juxtapositions: what comes of a grouping whose elements are taken off one
+-- after another. It is what the judge says of the grouping, as each element stands in it once and
+-- in its order.
 use Rattle.std.specs.Prelude.{Bool, false, List, [], ◌∷◌, Option}
 use Rattle.fort_juxt.specs.declared.elements.Grouping.{Grouping, fold-Grouping}
 use Rattle.fort_juxt.specs.declared.elements.Grouping.TheOpen.{Grouping-F}
@@ -42,7 +43,8 @@ abbrev pub Takes : Type 0
 Takes = List Part → Option Fault → Taken
 
 abbrev pub takes_one : Takes
-takes_one [] found = record { grown = an_unknown (record { line = 0; column = 0 }) found; rest = [] }
+takes_one [] found =
+    record { grown = an_unknown (record { line = 0; column = 0 }) found; rest = [] }
 takes_one (p ∷ ps) found = record { grown = record { part = p; found = found }; rest = ps }
 
 abbrev pub takes_both : (Part → Part → Made) → Grown → Taken → Taken

@@ -1,4 +1,5 @@
--- The chapter "Typing", runs and juxtapositions: two elements, put together in one of the three ways.
+-- The chapter "Typing", runs and juxtapositions: two elements, put together in one of the three
+-- ways.
 use Rattle.fort_known.specs.Known.{Facts}
 use Rattle.fort_typing_rules.specs.declared.part.Part.{Part}
 use Rattle.fort_judge.specs.declared.frame.Made.{Made}

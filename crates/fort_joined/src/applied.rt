@@ -25,7 +25,8 @@ fn value_applied(
     function: Boxed<TypedForm>,
     argument: Boxed<TypedForm>,
 ) -> Result<Made, Memory>
-    ensures { IfOk result (λ made. made ≡ applied_value (facts known.now) place function argument (out-Ty (type_in function))) }
+    ensures { IfOk result (λ made. made
+        ≡ applied_value (facts known.now) place function argument (out-Ty (type_in function))) }
 {
     match type_of(function.get()) {
         Ty::Arrow(domain, gives) => {

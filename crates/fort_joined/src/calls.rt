@@ -86,7 +86,9 @@ pub fn binary(
     right: Boxed<TypedForm>,
     place: Place,
 ) -> Result<Made, Memory>
-    ensures { IfOk result (λ made. made ≡ called_operation (facts known.now) (set_of_operator (facts known.now) op 2) (left ∷ right ∷ []) place) }
+    ensures { IfOk result (λ made. made
+        ≡ called_operation (facts known.now) (set_of_operator (facts known.now) op 2)
+        (left ∷ right ∷ []) place) }
 {
     let set = operator_set(known, op, 2)?;
     let mut operands = List::new(alloc);

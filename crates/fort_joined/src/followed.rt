@@ -64,7 +64,9 @@ fn read(
     object: Boxed<TypedForm>,
     name: NameId,
 ) -> Result<Made, Memory>
-    ensures { IfOk result (λ made. made ≡ read_by at object name (field_in_type (facts known.now) (out-Ty (type_in object)) name)) }
+    ensures { IfOk result (λ made. made
+        ≡ read_by at object name
+        (field_in_type (facts known.now) (out-Ty (type_in object)) name)) }
 {
     match field_at(known, type_of(object.get()), name) {
         Some(field) => {
@@ -122,7 +124,10 @@ fn method_called(
     name: NameId,
     arguments: List<TypedForm>,
 ) -> Result<Made, Memory>
-    ensures { IfOk result (λ made. made ≡ called_method (facts known.now) place object at name arguments (is_size_call (facts known.now) object name arguments) (has_method (facts known.now) name)) }
+    ensures { IfOk result (λ made. made
+        ≡ called_method (facts known.now) place object at name arguments
+        (is_size_call (facts known.now) object name arguments)
+        (has_method (facts known.now) name)) }
 {
     if is_size(known, object.get(), name, arguments.as_slice()) {
         return Ok(Made::Gives(TypedForm::Size(Ty::Named(ZZ32), object)));
@@ -159,7 +164,9 @@ fn raised(
     base: Boxed<TypedForm>,
     exponent: TypedForm,
 ) -> Result<Made, Memory>
-    ensures { IfOk result (λ made. made ≡ called_operation (facts known.now) (set_of_operator (facts known.now) an_op.Power 2) (base ∷ exponent ∷ []) place) }
+    ensures { IfOk result (λ made. made
+        ≡ called_operation (facts known.now) (set_of_operator (facts known.now) an_op.Power 2)
+        (base ∷ exponent ∷ []) place) }
 {
     let exponent = Boxed::new(alloc, exponent)?;
     binary(alloc, known, Op::Power, base, exponent, place)
@@ -223,7 +230,8 @@ fn followed_value(
     object: Boxed<TypedForm>,
     postfix: Meaning,
 ) -> Result<Made, Memory>
-    ensures { IfOk result (λ made. made ≡ followed_by (facts known.now) place (a_meaning.Value object) postfix) }
+    ensures { IfOk result (λ made. made
+        ≡ followed_by (facts known.now) place (a_meaning.Value object) postfix) }
 {
     match postfix {
         Meaning::Index(index) => at_index(alloc, place, object, index),

@@ -49,7 +49,8 @@ fn grouped(
     parts: List<Part>,
     found: Option<Fault>,
 ) -> Result<Outcome, Memory>
-    ensures { IfOk result (λ o. o ≡ grown_outcome (taking (facts known.now) grouping.now parts found).grown) }
+    ensures { IfOk result (λ o. o
+        ≡ grown_outcome (taking (facts known.now) grouping.now parts found).grown) }
 {
     let mut rest = stacked(alloc, parts)?;
     let Growth { part, found } = taken(alloc, known, grouping, &mut rest, found)?;

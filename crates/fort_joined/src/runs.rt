@@ -26,7 +26,8 @@ fn replaced(
     at: usize,
     found: Option<Fault>,
 ) -> Result<Step, Memory>
-    ensures { IfOk result (λ step. further_of step ≡ replaced_in (put_together (facts known.now) way) (around at parts) found) }
+    ensures { IfOk result (λ step. further_of step
+        ≡ replaced_in (put_together (facts known.now) way) (around at parts) found) }
 {
     let Some(pair) = two(alloc, parts, at)? else {
         return Ok(Step::Stop(found));

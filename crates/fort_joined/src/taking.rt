@@ -34,7 +34,8 @@ fn grown_from(
     meaning: Meaning,
     found: Option<Fault>,
 ) -> Result<Growth, Memory>
-    ensures { IfOk result (λ it. grown_of it ≡ record { part = made_of place meaning; found = found }) }
+    ensures { IfOk result (λ it. grown_of it
+        ≡ record { part = made_of place meaning; found = found }) }
 {
     let part = Boxed::new(alloc, made(place, meaning))?;
     Ok(Growth { part, found })
@@ -117,7 +118,8 @@ fn grows(
     one: Growth,
     other: Growth,
 ) -> Result<Growth, Memory>
-    ensures { IfOk result (λ it. grown_of it ≡ grows_by (put_together (facts known.now) way) (grown_of one) (grown_of other)) }
+    ensures { IfOk result (λ it. grown_of it
+        ≡ grows_by (put_together (facts known.now) way) (grown_of one) (grown_of other)) }
 {
     let Growth { part: first, .. } = one;
     let Growth {
@@ -153,8 +155,10 @@ pub fn taken(
     rest: &mut Stack<Part>,
     found: Option<Fault>,
 ) -> Result<Growth, Memory>
-    ensures grown { IfOk result (λ it. grown_of it ≡ (taking (facts known.now) grouping.now rest.old found).grown) }
-    ensures rest { OnOk result (rest.new ≡ (taking (facts known.now) grouping.now rest.old found).rest) }
+    ensures grown { IfOk result (λ it. grown_of it
+        ≡ (taking (facts known.now) grouping.now rest.old found).grown) }
+    ensures rest { OnOk result (rest.new
+        ≡ (taking (facts known.now) grouping.now rest.old found).rest) }
 {
     match grouping {
         Grouping::One(_) => next(alloc, rest, found),

@@ -101,7 +101,8 @@ fn put_typed(
     found: Option<Fault>,
 ) -> Result<Step, Memory>
     requires { at ≤ length rest }
-    ensures { IfOk result (λ step. further_of step ≡ replaced (take at rest) place (drop at rest) (a_made.Gives typed) found) }
+    ensures { IfOk result (λ step. further_of step
+        ≡ replaced (take at rest) place (drop at rest) (a_made.Gives typed) found) }
 {
     let want = if rest.len() == 0 {
         Want::Value
@@ -122,7 +123,8 @@ fn put_broken(
     found: Option<Fault>,
 ) -> Result<Step, Memory>
     requires { at ≤ length rest }
-    ensures { IfOk result (λ step. further_of step ≡ replaced (take at rest) place (drop at rest) (a_made.Breaks fault) found) }
+    ensures { IfOk result (λ step. further_of step
+        ≡ replaced (take at rest) place (drop at rest) (a_made.Breaks fault) found) }
 {
     let parts = with_part(rest, at, place, Meaning::Unknown)?;
     Ok(Step::On(parts, breaks(fault.rule, fault.place, found)))
@@ -137,7 +139,8 @@ fn put_else(
     found: Option<Fault>,
 ) -> Result<Step, Memory>
     requires { at ≤ length rest }
-    ensures { IfOk result (λ step. further_of step ≡ replaced_else (take at rest) place (drop at rest) fault found) }
+    ensures { IfOk result (λ step. further_of step
+        ≡ replaced_else (take at rest) place (drop at rest) fault found) }
 {
     match fault {
         Some(fault) => put_broken(rest, at, place, fault, found),
@@ -177,7 +180,8 @@ pub fn put(
     found: Option<Fault>,
 ) -> Result<Step, Memory>
     requires { at ≤ length rest }
-    ensures { IfOk result (λ step. further_of step ≡ replaced (take at rest) place (drop at rest) new found) }
+    ensures { IfOk result (λ step. further_of step
+        ≡ replaced (take at rest) place (drop at rest) new found) }
 {
     let fault = fault_in(&new);
     match typed_in(new) {

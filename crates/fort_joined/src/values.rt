@@ -50,7 +50,8 @@ fn tuple_parts(alloc: Global, typed: TypedForm) -> Result<List<TypedForm>, Memor
 
 /// The parts of a list in parentheses, and else one.
 fn parts_of(alloc: Global, listed: bool, typed: TypedForm) -> Result<List<TypedForm>, Memory>
-    ensures { IfOk result (λ list. list ≡ cond listed (parts_at typed (out-TypedForm typed)) (typed ∷ [])) }
+    ensures { IfOk result (λ list. list
+        ≡ cond listed (parts_at typed (out-TypedForm typed)) (typed ∷ [])) }
 {
     if listed {
         return tuple_parts(alloc, typed);

@@ -1,4 +1,5 @@
--- The chapter "Typing", runs and juxtapositions: what comes of elements, as it is computed. The chapter's own sentences are in fort_typing_rules.
+-- The chapter "Typing", runs and juxtapositions: what comes of elements, as it is computed. The
+-- chapter's own sentences are in fort_typing_rules.
 use Rattle.std.specs.Prelude.{ℕ, zero, suc, Bool, true, false, cond, not, ◌&&◌, ◌||◌, List, [], ◌∷◌, ◌++◌, length, slice_get, Option, Some, None, Result, Ok, Err}
 use Rattle.fort_base.specs.declared.ids.NameId.{NameId}
 use Rattle.fort_base.specs.declared.ids.SetId.{SetId}
@@ -40,7 +41,8 @@ use Rattle.fort_judge.specs.Juxtaposing.{next_rewriting, grouping_of}
 -- ---- calls
 
 abbrev pub call_by : SetId → List TypedForm → Place → Called → Made
-call_by set ts place (a_call.Result result widened) = a_made.Gives (a_typed.Call result (chosen set widened) ts)
+call_by set ts place (a_call.Result result widened) =
+    a_made.Gives (a_typed.Call result (chosen set widened) ts)
 call_by set ts place (a_call.Refused rule) = a_made.Breaks (fault rule place)
 
 -- a call of a function, a constructor or a method
@@ -48,7 +50,8 @@ unfoldable pub call : Facts → SetId → List TypedForm → Place → Made
 call k set ts place = call_by set ts place (called k set (types_of ts))
 
 abbrev pub operation_by : SetId → List TypedForm → Place → Called → Made
-operation_by set ts place (a_call.Result result widened) = a_made.Gives (a_typed.Operation result (chosen set widened) ts)
+operation_by set ts place (a_call.Result result widened) =
+    a_made.Gives (a_typed.Operation result (chosen set widened) ts)
 operation_by set ts place (a_call.Refused rule) = a_made.Breaks (fault rule place)
 
 -- a call of an operator
@@ -58,12 +61,16 @@ operation k set ts place = operation_by set ts place (called k set (types_of ts)
 -- ---- two elements
 
 abbrev pub value_applied : Facts → Place → TypedForm → TypedForm → Ty-F Ty → Made
-value_applied k place g u (Ty-F.Arrow domain result) = cond (is_below k (type_of u) domain) (a_made.Gives (a_typed.Apply result g u)) (a_made.Breaks (fault MISMATCH place))
+value_applied k place g u (Ty-F.Arrow domain result) =
+    cond (is_below k (type_of u) domain) (a_made.Gives (a_typed.Apply result g u))
+    (a_made.Breaks (fault MISMATCH place))
 value_applied k place g u _ = a_made.Stops
 
 abbrev pub applied_to : Facts → Part → Part → Meaning → Meaning → Made
-applied_to k f a (a_meaning.Functions name) (a_meaning.Value u) = call k (function_set k name (length (arguments a u))) (arguments a u) f.place
-applied_to k f a (a_meaning.Value g) (a_meaning.Value u) = value_applied k a.place g u (out-Ty (type_of g))
+applied_to k f a (a_meaning.Functions name) (a_meaning.Value u) =
+    call k (function_set k name (length (arguments a u))) (arguments a u) f.place
+applied_to k f a (a_meaning.Value g) (a_meaning.Value u) =
+    value_applied k a.place g u (out-Ty (type_of g))
 applied_to k f a _ _ = a_made.Stops
 
 -- a function applied to an argument
@@ -71,7 +78,8 @@ unfoldable pub applied : Facts → Part → Part → Made
 applied k f a = applied_to k f a f.meaning a.meaning
 
 abbrev pub joined_by : Facts → Place → Meaning → Meaning → Made
-joined_by k place (a_meaning.Value u) (a_meaning.Value v) = operation k (operator_set k an_op.Juxt 2) (u ∷ v ∷ []) place
+joined_by k place (a_meaning.Value u) (a_meaning.Value v) =
+    operation k (operator_set k an_op.Juxt 2) (u ∷ v ∷ []) place
 joined_by k place _ _ = a_made.Stops
 
 -- two elements joined
@@ -86,16 +94,21 @@ abbrev pub read : Place → TypedForm → NameId → Option Field → Made
 read at u name (Some f) = a_made.Gives (a_typed.ReadField f.ty u name)
 read at u name None = a_made.Breaks (fault UNKNOWN_NAME at)
 
-abbrev pub method_called : Facts → Place → TypedForm → Place → NameId → List TypedForm → Bool → Bool → Made
+abbrev pub method_called : Facts → Place → TypedForm → Place → NameId → List TypedForm → Bool → Bool
+    → Made
 method_called k place u at name ts true has = a_made.Gives (a_typed.Size zz32 u)
-method_called k place u at name ts false true = call k (method_set k name (suc (length ts))) (u ∷ ts) place
+method_called k place u at name ts false true =
+    call k (method_set k name (suc (length ts))) (u ∷ ts) place
 method_called k place u at name ts false false = a_made.Breaks (fault UNKNOWN_NAME at)
 
 abbrev pub followed_by : Facts → Place → Meaning → Meaning → Made
 followed_by k place (a_meaning.Value u) (a_meaning.Index i) = indexed place u i (out-Ty (type_of u))
-followed_by k place (a_meaning.Value u) (a_meaning.Exponent e) = operation k (operator_set k an_op.Power 2) (u ∷ e ∷ []) place
-followed_by k place (a_meaning.Value u) (a_meaning.Field at name) = read at u name (field_at k (out-Ty (type_of u)) name)
-followed_by k place (a_meaning.Value u) (a_meaning.Method at name ts) = method_called k place u at name ts (is_size k u name ts) (is_method k name)
+followed_by k place (a_meaning.Value u) (a_meaning.Exponent e) =
+    operation k (operator_set k an_op.Power 2) (u ∷ e ∷ []) place
+followed_by k place (a_meaning.Value u) (a_meaning.Field at name) =
+    read at u name (field_at k (out-Ty (type_of u)) name)
+followed_by k place (a_meaning.Value u) (a_meaning.Method at name ts) =
+    method_called k place u at name ts (is_size k u name ts) (is_method k name)
 followed_by k place _ _ = a_made.Stops
 
 -- a postfix behind an element
@@ -112,7 +125,8 @@ pub record Around : Type 0 where
   pub after : List Part
 
 abbrev pub more_before : Part → Option Around → Option Around
-more_before p (Some a) = Some (record { before = p ∷ a.before; one = a.one; other = a.other; after = a.after })
+more_before p (Some a) =
+    Some (record { before = p ∷ a.before; one = a.one; other = a.other; after = a.after })
 more_before p None = None
 
 abbrev pub around : ℕ → List Part → Option Around
@@ -126,12 +140,15 @@ pub data Further : Type 0 where
   on : List Part → Option Fault → Further
   stop : Option Fault → Further
 
--- what comes of two elements takes their place; where it is `Nothing` and isn't the whole it breaks 603
+-- what comes of two elements takes their place; where it is `Nothing` and isn't the whole it breaks
+-- 603
 abbrev pub replaced : List Part → Place → List Part → Made → Option Fault → Further
-replaced before place after (a_made.Gives t) found = cond (is_whole before after || not (is_nothing (type_of t)))
+replaced before place after (a_made.Gives t) found =
+    cond (is_whole before after || not (is_nothing (type_of t)))
     (on (before ++ made place (a_meaning.Value t) ∷ after) found)
     (on (before ++ made place a_meaning.Unknown ∷ after) (breaks MISMATCH place found))
-replaced before place after (a_made.Breaks x) found = on (before ++ made place a_meaning.Unknown ∷ after) (breaks x.rule x.place found)
+replaced before place after (a_made.Breaks x) found =
+    on (before ++ made place a_meaning.Unknown ∷ after) (breaks x.rule x.place found)
 replaced before place after a_made.Stops found = stop found
 
 abbrev pub replaced_in : (Part → Part → Made) → Option Around → Option Fault → Further
@@ -141,7 +158,8 @@ replaced_in way None found = stop found
 -- the next rewriting is done
 abbrev pub rewritten_by : Facts → List Part → Result Tight CheckFault → Option Fault → Further
 rewritten_by k ps (Ok (a_rewriting.Apply n)) found = replaced_in (applied k) (around n ps) found
-rewritten_by k ps (Ok (a_rewriting.Postfix (suc n))) found = replaced_in (followed k) (around n ps) found
+rewritten_by k ps (Ok (a_rewriting.Postfix (suc n))) found =
+    replaced_in (followed k) (around n ps) found
 rewritten_by k ps (Ok (a_rewriting.Postfix zero)) found = stop found
 rewritten_by k ps (Ok a_rewriting.Left) found = replaced_in (joined k) (around zero ps) found
 rewritten_by k ps (Ok a_rewriting.Whole) found = stop found
@@ -157,7 +175,8 @@ further next (on qs new) = next new qs
 further next (stop new) = untyped new
 
 -- a run of one element is that; else it goes on, with as many rewritings left
-abbrev pub run_at : (Option Fault → List Part → Outcome) → Facts → Option Fault → List Part → Outcome
+abbrev pub run_at : (Option Fault → List Part → Outcome) → Facts → Option Fault → List Part
+    → Outcome
 run_at next k found [] = untyped found
 run_at next k found (p ∷ []) = record { seen = p.meaning; found = found }
 run_at next k found (p ∷ q ∷ ps) = further next (rewritten k (p ∷ q ∷ ps) found)
@@ -186,7 +205,8 @@ grown place (a_made.Breaks x) found = an_unknown place (breaks x.rule x.place fo
 grown place a_made.Stops found = an_unknown place found
 
 abbrev pub barred_found : Part → Meaning → Option Fault → Option Fault
-barred_found p (a_meaning.Value t) found = cond (is_nothing (type_of t)) (breaks MISMATCH p.place found) found
+barred_found p (a_meaning.Value t) found =
+    cond (is_nothing (type_of t)) (breaks MISMATCH p.place found) found
 barred_found p _ found = found
 
 -- a part of a grouping that is `Nothing` breaks 603

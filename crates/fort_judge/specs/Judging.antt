@@ -1,4 +1,5 @@
--- The chapter "Typing": what each form answers: its parts are asked in their order, and then the form is closed.
+-- The chapter "Typing": what each form answers: its parts are asked in their order, and then the
+-- form is closed.
 use Rattle.std.specs.Prelude.{◌≡◌, Bool, true, false, cond, ◌&&◌, List, [], ◌∷◌, map, Option, Some, None}
 use Rattle.fort_base.specs.declared.refusal.Place.{Place}
 use Rattle.fort_ops.specs.declared.op.Op.{Op}
@@ -75,29 +76,47 @@ inside k (Form-F.Fill p ty n v) s = ask_below k ty v (ask k a_slot.Head a_want.S
 inside k (Form-F.Block p is) s = items k is s
 inside k (Form-F.Do p blocks) s = done_parts k blocks s
 inside k (Form-F.If p as_ other) s = if_parts k as_ other s
-inside k (Form-F.While p c b) s = ask k a_slot.Last a_want.Unit b (ask k a_slot.Head a_want.Truth c s)
+inside k (Form-F.While p c b) s =
+    ask k a_slot.Last a_want.Unit b (ask k a_slot.Head a_want.Truth c s)
 inside k (Form-F.For p gs b) s = unless_lost (ask k a_slot.Last a_want.Unit b) (sources k gs s)
-inside k (Form-F.Case p s as_ other) t = ask_if k a_slot.Last a_want.Value other (clauses k as_ (take_subject k s.place (said s t)))
-inside k (Form-F.Typecase p at name s cs other) t = unless_lost (λ t. else_with k (Some (at, name)) other (cases k (Some (at, name)) cs t))
+inside k (Form-F.Case p s as_ other) t =
+    ask_if k a_slot.Last a_want.Value other (clauses k as_ (take_subject k s.place (said s t)))
+inside k (Form-F.Typecase p at name s cs other) t =
+    unless_lost (λ t. else_with k (Some (at, name)) other (cases k (Some (at, name)) cs t))
     (lost_if_broken (ask k a_slot.Head a_want.Value s (watch k (Some (at, name)) t)))
-inside k (Form-F.Try p b name cs last) s = ask_if k a_slot.Last a_want.Unit last (unless_lost (cases k name cs) (catches k cs (watch k name (ask k a_slot.Head a_want.Value b s))))
+inside k (Form-F.Try p b name cs last) s =
+    ask_if k a_slot.Last a_want.Unit last
+    (unless_lost (cases k name cs)
+    (catches k cs (watch k name (ask k a_slot.Head a_want.Value b s))))
 inside k (Form-F.Atomic p e) s = ask k a_slot.Head a_want.Value e s
 inside k (Form-F.Tryatomic p e) s = ask k a_slot.Head a_want.Value e s
 inside k (Form-F.Throw p e) s = ask k a_slot.Head a_want.Exception e s
-inside k (Form-F.Fn p ps e) s = unless_lost (ask k a_slot.Head a_want.Value e) (bind_all k (map parameter_binding ps) s)
-inside k (Form-F.Reduce p r g e) s = unless_lost (ask k a_slot.Last (reduction_want r) e) (sources k (g ∷ []) s)
-inside k (Form-F.Assign p t sign e) s = assigned_part k (update_operator sign) e (take_target k t (said t s))
+inside k (Form-F.Fn p ps e) s =
+    unless_lost (ask k a_slot.Head a_want.Value e) (bind_all k (map parameter_binding ps) s)
+inside k (Form-F.Reduce p r g e) s =
+    unless_lost (ask k a_slot.Last (reduction_want r) e) (sources k (g ∷ []) s)
+inside k (Form-F.Assign p t sign e) s =
+    assigned_part k (update_operator sign) e (take_target k t (said t s))
 
 -- ---- one level
 
 abbrev pub closed : Facts → Form-F Judge Piece Arm Giving Clause → List Binding → State → Outcome
 closed k form bs s = close_at k form s.frame bs s.found
 
-abbrev pub answer_at : Facts → Form-F Judge Piece Arm Giving Clause → List Binding → Option Fault → Outcome
+abbrev pub answer_at : Facts → Form-F Judge Piece Arm Giving Clause → List Binding → Option Fault
+    → Outcome
 answer_at k form bs found = closed k form bs (inside k form (begin bs found))
 
 abbrev pub judge_form : Facts → Form-F Judge Piece Arm Giving Clause → Judge
-judge_form k form = record { place = place_at form; parens = parens_at form; listed = listed_at form; postfix = postfix_at form; target = target_at form; answer = answer_at k form }
+judge_form k form =
+    record {
+      place = place_at form;
+      parens = parens_at form;
+      listed = listed_at form;
+      postfix = postfix_at form;
+      target = target_at form;
+      answer = answer_at k form;
+    }
 
 abbrev pub judge_item : Item-F Judge Piece Arm Giving Clause → Piece
 judge_item (Item-F.Local place name mutable ty e) = local place name mutable ty e
@@ -108,28 +127,41 @@ abbrev pub judge_branch : Branch-F Judge Piece Arm Giving Clause → Arm
 judge_branch b = record { test = b.test; value = b.value }
 
 abbrev pub judge_generator : Generator-F Judge Piece Arm Giving Clause → Giving
-judge_generator g = record { place = g.place; name = g.name; sequential = g.sequential; source = g.source }
+judge_generator g =
+    record { place = g.place; name = g.name; sequential = g.sequential; source = g.source }
 
 abbrev pub judge_clause : TypeBranch-F Judge Piece Arm Giving Clause → Clause
 judge_clause b = record { place = b.place; ty = b.ty; value = b.value }
 
 -- what a form answers
 unfoldable pub judged : Facts → Form → Judge
-judged k = fold-Form Judge Piece Arm Giving Clause (judge_form k) judge_item judge_branch judge_generator judge_clause
+judged k =
+    fold-Form Judge Piece Arm Giving Clause (judge_form k) judge_item judge_branch judge_generator
+    judge_clause
 
 -- what an item is, a clause, a generator
 unfoldable pub judged_item : Facts → Item → Piece
-judged_item k = fold-Item Judge Piece Arm Giving Clause (judge_form k) judge_item judge_branch judge_generator judge_clause
+judged_item k =
+    fold-Item Judge Piece Arm Giving Clause (judge_form k) judge_item judge_branch judge_generator
+    judge_clause
 
 unfoldable pub judged_branch : Facts → Branch → Arm
-judged_branch k = fold-Branch Judge Piece Arm Giving Clause (judge_form k) judge_item judge_branch judge_generator judge_clause
+judged_branch k =
+    fold-Branch Judge Piece Arm Giving Clause (judge_form k) judge_item judge_branch judge_generator
+    judge_clause
 
 unfoldable pub judged_generator : Facts → Generator → Giving
-judged_generator k = fold-Generator Judge Piece Arm Giving Clause (judge_form k) judge_item judge_branch judge_generator judge_clause
+judged_generator k =
+    fold-Generator Judge Piece Arm Giving Clause (judge_form k) judge_item judge_branch
+    judge_generator judge_clause
 
 unfoldable pub judged_clause : Facts → TypeBranch → Clause
-judged_clause k = fold-TypeBranch Judge Piece Arm Giving Clause (judge_form k) judge_item judge_branch judge_generator judge_clause
+judged_clause k =
+    fold-TypeBranch Judge Piece Arm Giving Clause (judge_form k) judge_item judge_branch
+    judge_generator judge_clause
 
 -- the level of a form, with what its parts answer
 unfoldable pub level : Facts → Form → Form-F Judge Piece Arm Giving Clause
-level k f = map-Form Form Item Branch Generator TypeBranch Judge Piece Arm Giving Clause (judged k) (judged_item k) (judged_branch k) (judged_generator k) (judged_clause k) (out-Form f)
+level k f =
+    map-Form Form Item Branch Generator TypeBranch Judge Piece Arm Giving Clause (judged k)
+    (judged_item k) (judged_branch k) (judged_generator k) (judged_clause k) (out-Form f)

@@ -1,5 +1,5 @@
--- The chapter "Juxtaposition": the next rewriting of a run, and the grouping of elements, as they are computed. The chapter's own sentences are in
--- fort_juxt.
+-- The chapter "Juxtaposition": the next rewriting of a run, and the grouping of elements, as they
+-- are computed. The chapter's own sentences are in fort_juxt.
 use Rattle.std.specs.Prelude.{ℕ, zero, suc, ◌+◌, Bool, true, false, cond, not, ◌&&◌, List, [], ◌∷◌, length, Option, Some, None, Result, Ok, Err}
 use Rattle.fort_base.specs.declared.rules.TheConstants.{FUNCTION_AS_VALUE, TIGHT_ARGUMENT}
 use Rattle.fort_base.specs.declared.refusal.CheckFault.{CheckFault}
@@ -24,11 +24,15 @@ element_at (e ∷ es) zero = Some e
 element_at (e ∷ es) (suc n) = element_at es n
 
 abbrev pub joining : List Element → Result Tight CheckFault
-joining (x ∷ y ∷ after) = cond x.named (Err (a_fault.Refused FUNCTION_AS_VALUE x.place)) (cond y.named (Err (a_fault.Refused FUNCTION_AS_VALUE y.place)) (Ok a_rewriting.Left))
+joining (x ∷ y ∷ after) =
+    cond x.named (Err (a_fault.Refused FUNCTION_AS_VALUE x.place))
+    (cond y.named (Err (a_fault.Refused FUNCTION_AS_VALUE y.place)) (Ok a_rewriting.Left))
 joining _ = Ok a_rewriting.Whole
 
 abbrev pub fixing_at : ℕ → Option Element → Result Tight CheckFault
-fixing_at n (Some x) = cond x.named (Err (a_fault.Refused FUNCTION_AS_VALUE x.place)) (Ok (a_rewriting.Postfix (suc n)))
+fixing_at n (Some x) =
+    cond x.named (Err (a_fault.Refused FUNCTION_AS_VALUE x.place))
+    (Ok (a_rewriting.Postfix (suc n)))
 fixing_at n None = Ok a_rewriting.Whole
 
 abbrev pub fixing : List Element → Option (ℕ × List Element) → Result Tight CheckFault
@@ -37,7 +41,9 @@ fixing es (Some (zero, after)) = Ok a_rewriting.Whole
 fixing es None = joining es
 
 abbrev pub applying : List Element → Option (ℕ × List Element) → Result Tight CheckFault
-applying es (Some (n, f ∷ a ∷ after)) = cond (is_argument a after) (Ok (a_rewriting.Apply n)) (Err (a_fault.Refused TIGHT_ARGUMENT a.place))
+applying es (Some (n, f ∷ a ∷ after)) =
+    cond (is_argument a after) (Ok (a_rewriting.Apply n))
+    (Err (a_fault.Refused TIGHT_ARGUMENT a.place))
 applying es (Some (n, _)) = Ok a_rewriting.Whole
 applying es None = fixing es (first_place postfix_first zero es)
 

@@ -82,8 +82,11 @@ valued place _ found = no_node found
 
 abbrev pub as_wanted : Facts → Want → Place → Option TypedForm → Option Fault → Valued
 as_wanted k want place None found = no_node found
-as_wanted k want place (Some t) found = cond (suits k want (type_of t)) (record { node = Some t; found = found }) (no_node (breaks (rule_of want) place found))
+as_wanted k want place (Some t) found =
+    cond (suits k want (type_of t)) (record { node = Some t; found = found })
+    (no_node (breaks (rule_of want) place found))
 
 -- a part as wanted
 unfoldable pub taken : Facts → Want → Place → Meaning → Option Fault → Valued
-taken k want place seen found = let v = valued place seen found in as_wanted k want place v.node v.found
+taken k want place seen found =
+    let v = valued place seen found in as_wanted k want place v.node v.found

@@ -1,4 +1,5 @@
--- The chapter "Juxtaposition": the first place of a list where a test is met by what stands from there on.
+-- The chapter "Juxtaposition": the first place of a list where a test is met by what stands from
+-- there on.
 use Rattle.std.specs.Prelude.{◌≡◌, ◌≤◌, Bool, true, false, List, ◌++◌, length}
 use Rattle.fort_juxt.specs.declared.elements.Element.{Element}
 

@@ -1,4 +1,5 @@
--- The chapter "Juxtaposition", loose: chunks, and their grouping. The code walks from chunk to chunk.
+-- The chapter "Juxtaposition", loose: chunks, and their grouping. The code walks from chunk to
+-- chunk.
 use Rattle.std.specs.Prelude.{◌≡◌, ◌≢◌, ℕ, zero, suc, ◌+◌, Bool, true, false, not, ◌&&◌, List, [], ◌∷◌, ◌++◌, length, Result, Ok, Err}
 use Rattle.fort_base.specs.declared.rules.TheConstants.{FUNCTION_AS_VALUE}
 use Rattle.fort_base.specs.declared.refusal.CheckFault.{CheckFault}
@@ -13,7 +14,8 @@ abbrev pub AreAtoms : List Element → Type 0
 AreAtoms [] = Unit {0}
 AreAtoms (e ∷ es) = (e.postfix ≡ false) × AreAtoms es
 
--- an element stands first that ends its chunk: the last one, or no function with a function behind it
+-- an element stands first that ends its chunk: the last one, or no function with a function behind
+-- it
 abbrev pub ends_chunk : List Element → Bool
 ends_chunk [] = false
 ends_chunk (e ∷ []) = true
@@ -56,7 +58,8 @@ abbrev pub AreChunks : List Chunk → Type 0
 AreChunks [] = Unit {0}
 AreChunks (c ∷ cs) = IsChunk c × AreChunks cs
 
--- Of two chunks side by side the first ends with a non-function, and the second begins with a function.
+-- Of two chunks side by side the first ends with a non-function, and the second begins with a
+-- function.
 abbrev pub AreApart : List Chunk → Type 0
 AreApart [] = Unit {0}
 AreApart (c ∷ []) = Unit {0}
@@ -95,9 +98,12 @@ abbrev pub applied : List Grouping → List Grouping
 applied [] = []
 applied (g ∷ gs) = applied_to g gs ∷ []
 
--- A chunk from number i on: its non-functions are joined to the left, and then it is grouped to the right as applications.
+-- A chunk from number i on: its non-functions are joined to the left, and then it is grouped to the
+-- right as applications.
 abbrev pub chunk_group : ℕ → Chunk → List Grouping
-chunk_group i c = applied (units i (length c.functions) ++ joined (units (i + length c.functions) (length c.others)))
+chunk_group i c =
+    applied (units i (length c.functions)
+    ++ joined (units (i + length c.functions) (length c.others)))
 
 -- the groupings of chunks from number i on
 abbrev pub chunk_groups : ℕ → List Chunk → List Grouping
@@ -111,9 +117,11 @@ IsGroupingOf chunks g = joined (chunk_groups 0 chunks) ≡ g ∷ []
 -- The grouping of a list, or its refusal.
 pub data Groups (es : List Element) (r : Result Grouping CheckFault) : Type 0 where
   -- A function set's name with nothing behind it in its chunk: 606.
-  name_alone : (before after : List Element) (x : Element) → IsFirst name_ends es before (x ∷ after) → r ≡ Err (Refused FUNCTION_AS_VALUE x.place) → Groups es r
+  name_alone : (before after : List Element) (x : Element) → IsFirst name_ends es before (x ∷ after)
+      → r ≡ Err (Refused FUNCTION_AS_VALUE x.place) → Groups es r
   -- Else the grouping of the list's chunks.
-  grouped : IsNowhere name_ends es → (chunks : List Chunk) → IsDivision es chunks → (g : Grouping) → IsGroupingOf chunks g → r ≡ Ok g → Groups es r
+  grouped : IsNowhere name_ends es → (chunks : List Chunk) → IsDivision es chunks → (g : Grouping)
+      → IsGroupingOf chunks g → r ≡ Ok g → Groups es r
 
 -- The grouping or the refusal; want of memory needs no cause.
 abbrev pub Answers : List Element → Result Grouping CheckFault → Type 0
@@ -123,4 +131,5 @@ Answers es (Err Memory) = Unit {0}
 
 -- A list has at most one grouping or refusal.
 abbrev pub OneGrouping : Type 0
-OneGrouping = (es : List Element) (r s : Result Grouping CheckFault) → Groups es r → Groups es s → r ≡ s
+OneGrouping = (es : List Element) (r s : Result Grouping CheckFault) → Groups es r → Groups es s
+    → r ≡ s

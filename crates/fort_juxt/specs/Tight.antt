@@ -1,4 +1,5 @@
--- The chapter "Juxtaposition", tight: the next rewriting of a run. The code looks for the places first, and then at what stands there.
+-- The chapter "Juxtaposition", tight: the next rewriting of a run. The code looks for the places
+-- first, and then at what stands there.
 use Rattle.std.specs.Prelude.{◌≡◌, Bool, true, false, not, ◌&&◌, List, [], ◌∷◌, ◌++◌, length, Result, Ok, Err}
 use Rattle.fort_base.specs.declared.rules.TheConstants.{FUNCTION_AS_VALUE, TIGHT_ARGUMENT}
 use Rattle.fort_base.specs.declared.refusal.CheckFault.{CheckFault}
@@ -26,28 +27,37 @@ is_argument a after = a.parens && not (postfix_first after)
 -- The next rewriting of a run, or its refusal.
 pub data Rewrites (es : List Element) (r : Result Tight CheckFault) : Type 0 where
   -- The leftmost function that is directly followed by an atom takes it as argument.
-  applies : (before after : List Element) (f a : Element) → IsFirst takes es before (f ∷ a ∷ after) → is_argument a after ≡ true
+  applies : (before after : List Element) (f a : Element) → IsFirst takes es before (f ∷ a ∷ after)
+      → is_argument a after ≡ true
       → r ≡ Ok (a_rewriting.Apply (length before)) → Rewrites es r
   -- The atom is in parentheses and no postfix directly follows it, else 607.
-  no_argument : (before after : List Element) (f a : Element) → IsFirst takes es before (f ∷ a ∷ after) → is_argument a after ≡ false
+  no_argument : (before after : List Element) (f a : Element)
+      → IsFirst takes es before (f ∷ a ∷ after) → is_argument a after ≡ false
       → r ≡ Err (a_fault.Refused TIGHT_ARGUMENT a.place) → Rewrites es r
   -- Else the leftmost postfix applies to the element before it.
-  applies_postfix : IsNowhere takes es → (before after : List Element) (x p : Element) → IsFirst postfix_first es (before ++ x ∷ []) (p ∷ after) → x.named ≡ false
+  applies_postfix : IsNowhere takes es → (before after : List Element) (x p : Element)
+      → IsFirst postfix_first es (before ++ x ∷ []) (p ∷ after) → x.named ≡ false
       → r ≡ Ok (a_rewriting.Postfix (length (before ++ x ∷ []))) → Rewrites es r
   -- If that is a function set's name: 606.
-  postfix_of_name : IsNowhere takes es → (before after : List Element) (x p : Element) → IsFirst postfix_first es (before ++ x ∷ []) (p ∷ after) → x.named ≡ true
+  postfix_of_name : IsNowhere takes es → (before after : List Element) (x p : Element)
+      → IsFirst postfix_first es (before ++ x ∷ []) (p ∷ after) → x.named ≡ true
       → r ≡ Err (a_fault.Refused FUNCTION_AS_VALUE x.place) → Rewrites es r
   -- Else the first two elements are joined.
-  joins : IsNowhere takes es → IsNowhere postfix_first es → (x y : Element) (after : List Element) → es ≡ x ∷ y ∷ after → x.named ≡ false → y.named ≡ false
+  joins : IsNowhere takes es → IsNowhere postfix_first es → (x y : Element) (after : List Element)
+      → es ≡ x ∷ y ∷ after → x.named ≡ false → y.named ≡ false
       → r ≡ Ok a_rewriting.Left → Rewrites es r
   -- If one is a function set's name: 606.
-  first_is_name : IsNowhere takes es → IsNowhere postfix_first es → (x y : Element) (after : List Element) → es ≡ x ∷ y ∷ after → x.named ≡ true
+  first_is_name : IsNowhere takes es → IsNowhere postfix_first es
+      → (x y : Element) (after : List Element) → es ≡ x ∷ y ∷ after → x.named ≡ true
       → r ≡ Err (a_fault.Refused FUNCTION_AS_VALUE x.place) → Rewrites es r
-  second_is_name : IsNowhere takes es → IsNowhere postfix_first es → (x y : Element) (after : List Element) → es ≡ x ∷ y ∷ after → x.named ≡ false → y.named ≡ true
+  second_is_name : IsNowhere takes es → IsNowhere postfix_first es
+      → (x y : Element) (after : List Element) → es ≡ x ∷ y ∷ after → x.named ≡ false
+      → y.named ≡ true
       → r ≡ Err (a_fault.Refused FUNCTION_AS_VALUE y.place) → Rewrites es r
   -- Nothing rewrites where one element is left.
   whole : (x : Element) → es ≡ x ∷ [] → r ≡ Ok a_rewriting.Whole → Rewrites es r
 
 -- A run has at most one next rewriting or refusal.
 abbrev pub OneRewriting : Type 0
-OneRewriting = (es : List Element) (r s : Result Tight CheckFault) → Rewrites es r → Rewrites es s → r ≡ s
+OneRewriting = (es : List Element) (r s : Result Tight CheckFault) → Rewrites es r → Rewrites es s
+    → r ≡ s

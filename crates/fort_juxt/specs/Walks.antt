@@ -1,4 +1,5 @@
--- The chapter "Juxtaposition": what the code knows on its walks. The laws that tie it to the rules stand in proofs/.
+-- The chapter "Juxtaposition": what the code knows on its walks. The laws that tie it to the rules
+-- stand in proofs/.
 use Rattle.std.specs.Prelude.{◌≡◌, ◌≢◌, ◌≤◌, ◌<◌, ℕ, ◌-◌, Bool, true, false, cond, List, [], ◌∷◌, length, take, drop, Option, Some, None}
 use Rattle.fort_juxt.specs.declared.elements.Element.{Element}
 use Rattle.fort_juxt.specs.declared.elements.Grouping.{Grouping}
@@ -33,17 +34,22 @@ pub record IsRun (es : List Element) (from to : ℕ) (function : Bool) : Type 0 
 
 -- a chunk of one element
 abbrev pub alone : Element → Chunk
-alone e = cond e.function (record { functions = e ∷ []; others = [] }) (record { functions = []; others = e ∷ [] })
+alone e =
+    cond e.function (record { functions = e ∷ []; others = [] })
+    (record { functions = []; others = e ∷ [] })
 
 -- one non-function more before a chunk of these functions and others, and before chunks behind that
 abbrev pub with_other : Element → List Element → List Element → List Chunk → List Chunk
 with_other e [] others cs = record { functions = []; others = e ∷ others } ∷ cs
-with_other e (f ∷ fs) others cs = record { functions = []; others = e ∷ [] } ∷ record { functions = f ∷ fs; others = others } ∷ cs
+with_other e (f ∷ fs) others cs =
+    record { functions = []; others = e ∷ [] } ∷ record { functions = f ∷ fs; others = others } ∷ cs
 
 -- one element more before chunks
 abbrev pub with_element : Element → List Chunk → List Chunk
 with_element e [] = alone e ∷ []
-with_element e (c ∷ cs) = cond e.function (record { functions = e ∷ c.functions; others = c.others } ∷ cs) (with_other e c.functions c.others cs)
+with_element e (c ∷ cs) =
+    cond e.function (record { functions = e ∷ c.functions; others = c.others } ∷ cs)
+    (with_other e c.functions c.others cs)
 
 -- the chunks of a list
 abbrev pub chunks_of : List Element → List Chunk

@@ -36,7 +36,8 @@ fn next_chunk(alloc: Global, elements: &[Element], from: usize) -> Result<Chunk,
     requires { from < length elements.now }
     ensures behind { IfOk result (λ chunk. from < chunk.end) }
     ensures within { IfOk result (λ chunk. chunk.end ≤ length elements.now) }
-    ensures grouped { IfOk result (λ chunk. groups_from elements.now from ≡ chunk.grouping ∷ groups_from elements.now chunk.end) }
+    ensures grouped { IfOk result (λ chunk. groups_from elements.now from
+        ≡ chunk.grouping ∷ groups_from elements.now chunk.end) }
 {
     let middle = run_end(elements, from, true);
     let end = run_end(elements, middle, false);

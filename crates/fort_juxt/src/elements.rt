@@ -1,7 +1,8 @@
 //! What is grouped, and what it is grouped to.
 use fort_base::{Boxed, Place};
 
-/// What grouping asks about a part: an atom or a postfix of a run, or a unit of a flat expression. The chapter "Juxtaposition".
+/// What grouping asks about a part: an atom or a postfix of a run, or a unit of a flat expression.
+/// The chapter "Juxtaposition".
 #[derive(Clone, Copy, Debug, PartialEq, Eq)]
 pub struct Element {
     /// Where it begins.

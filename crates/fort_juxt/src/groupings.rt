@@ -35,7 +35,8 @@ pub fn joined(alloc: Global, from: usize, to: usize) -> Result<Grouping, Memory>
     Ok(grouping)
 }
 
-/// The elements from one place up to another one, each applied to what stands behind it, the last one to an argument.
+/// The elements from one place up to another one, each applied to what stands behind it, the last
+/// one to an argument.
 pub fn applied(
     alloc: Global,
     from: usize,

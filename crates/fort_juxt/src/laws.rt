@@ -7,7 +7,8 @@ pub fn one_rewriting()
     ensures { OneRewriting }
 {}
 
-/// A law: elements that stand side by side have at most one grouping, or one refusal, and never both.
+/// A law: elements that stand side by side have at most one grouping, or one refusal, and never
+/// both.
 pub fn one_grouping()
     ensures { OneGrouping }
 {}

@@ -9,11 +9,13 @@ use crate::places::{begins_with_postfix, first_postfix, first_taking};
 use fort_base::CheckFault;
 use fort_base::rules::{FUNCTION_AS_VALUE, TIGHT_ARGUMENT};
 
-/// The next rewriting of a run's atoms and postfixes, of which there is at least one, and the first is no postfix.
+/// The next rewriting of a run's atoms and postfixes, of which there is at least one, and the first
+/// is no postfix.
 ///
-/// It refuses 607 at the argument of the leftmost function that an atom directly follows, where that atom isn't in parentheses or a
-/// postfix directly follows it; and 606 at a function set's name that a postfix applies to, or that is joined to another element. It
-/// takes no memory, and its fault is never `Memory`. The chapter "Juxtaposition".
+/// It refuses 607 at the argument of the leftmost function that an atom directly follows, where
+/// that atom isn't in parentheses or a postfix directly follows it; and 606 at a function set's
+/// name that a postfix applies to, or that is joined to another element. It takes no memory, and
+/// its fault is never `Memory`. The chapter "Juxtaposition".
 pub fn tight(elements: &[Element]) -> Result<Tight, CheckFault>
     requires some { 0 < length elements.now }
     requires atom_first { postfix_first elements.now ≡ false }

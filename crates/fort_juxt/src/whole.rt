@@ -11,8 +11,9 @@ use std::alloc::Global;
 
 /// The grouping of elements that stand side by side, at least one and none a postfix.
 ///
-/// It refuses 606 at the first function set's name that ends its chunk, so that nothing stands behind it there to be its argument. It
-/// answers `Memory` where memory is wanting. The chapter "Juxtaposition".
+/// It refuses 606 at the first function set's name that ends its chunk, so that nothing stands
+/// behind it there to be its argument. It answers `Memory` where memory is wanting. The chapter
+/// "Juxtaposition".
 pub fn loose(alloc: Global, elements: &[Element]) -> Result<Grouping, CheckFault>
     requires some { 0 < length elements.now }
     requires atoms { AreAtoms elements.now }

@@ -18,7 +18,8 @@ pub record Facts : Type 0 where
   -- the type in whose declaration the expressions stand, where they stand in one
   pub owner : Option TypeId
 
--- What is known of a component where its expressions are typed: its declared types, and what is looked up.
+-- What is known of a component where its expressions are typed: its declared types, and what is
+-- looked up.
 pub record Knows : Type 0 where
   pub declared : DeclaredTypes
   pub facts : Facts

@@ -1,4 +1,5 @@
--- The chapter "Typing", names: what a name in an expression stands for, and which names can't be bound. The code keeps it by the names' numbers.
+-- The chapter "Typing", names: what a name in an expression stands for, and which names can't be
+-- bound. The code keeps it by the names' numbers.
 use Rattle.std.specs.Prelude.{ℕ, suc, nat_eq, nat_le, Bool, true, false, cond, not, ◌&&◌, ◌||◌, List, [], ◌∷◌, Option, Some, None, codes, slice_get}
 use Rattle.std.specs.Str.{bytes_eq}
 use Rattle.fort_base.specs.declared.ids.NameId.{NameId}
@@ -61,7 +62,8 @@ variable k name = field_in k.members.variables name
 abbrev pub is_leaf_number : ℕ → Bool
 is_leaf_number n = nat_le ZZ32.0 n && nat_le n RANGE.0
 
--- the number of the type that is spelled so, where these are the types' names; past the last one where none is
+-- the number of the type that is spelled so, where these are the types' names; past the last one
+-- where none is
 abbrev pub type_number : List Spelling → Spelling → ℕ
 type_number [] s = 0
 type_number (t ∷ ts) s = cond (bytes_eq t s) 0 (suc (type_number ts s))
@@ -83,7 +85,8 @@ single k name = cond (is_function k name) None (object_of k (type_number k.types
 
 -- ---- what a name stands for
 
--- What a name stands for: a binding, a field of the enclosing type, a variable at the top with its number, a single object, a function set, or nothing.
+-- What a name stands for: a binding, a field of the enclosing type, a variable at the top with its
+-- number, a single object, a function set, or nothing.
 pub data Standing : Type 0 where
   a_binding : Binding → Standing
   a_field : TypeId → Field → Standing
@@ -138,9 +141,13 @@ any_declared (m ∷ ms) = cond (elim m.place [ Some p ↦ true | None ↦ false 
 
 -- a set of functions of this name can be seen: the built-in operator of juxtaposition can't
 abbrev pub shows : Spelling → MemberSet → Bool
-shows s set = has_name s false set && (not (bytes_eq (codes "juxtaposition") s) || any_declared set.members)
+shows s set =
+    has_name s false set && (not (bytes_eq (codes "juxtaposition") s) || any_declared set.members)
 
--- A name is visible, so that it can't be bound: as a binding, a field of the enclosing type, or a name at the top.
+-- A name is visible, so that it can't be bound: as a binding, a field of the enclosing type, or a
+-- name at the top.
 unfoldable pub is_visible : Facts → List Binding → NameId → Bool
-is_visible k bs name = is_some_binding (bound bs name) || is_some_field (own_field k name) || is_some_field (variable k name)
+is_visible k bs name =
+    is_some_binding (bound bs name) || is_some_field (own_field k name)
+    || is_some_field (variable k name)
     || is_type k.types (spelled k name) || any_set (shows (spelled k name)) k.members.sets

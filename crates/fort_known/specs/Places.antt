@@ -1,4 +1,5 @@
--- Index of sets and types by name: where a spelling stands in a list. The code keeps it in a map, and for each set the next one of its spelling.
+-- Index of sets and types by name: where a spelling stands in a list. The code keeps it in a map,
+-- and for each set the next one of its spelling.
 use Rattle.std.specs.Prelude.{◌≡◌, ℕ, suc, List, [], ◌∷◌, Option, Some, None, cond, drop, slice_get}
 use Rattle.std.specs.Str.{bytes_eq}
 use Rattle.indexmap.specs.IndexMap.{get_by}
@@ -25,4 +26,5 @@ set_name set = set.name
 
 -- Each set of a list has the place of the next one that is spelled as it is.
 abbrev pub IsChain : List MemberSet → List (Option ℕ) → Type 0
-IsChain sets nexts = (k : ℕ) (set : MemberSet) → slice_get sets k ≡ Some set → slice_get nexts k ≡ Some (place_by set_name (suc k) (drop (suc k) sets) set.name)
+IsChain sets nexts = (k : ℕ) (set : MemberSet) → slice_get sets k ≡ Some set
+    → slice_get nexts k ≡ Some (place_by set_name (suc k) (drop (suc k) sets) set.name)

@@ -7,7 +7,14 @@ use Rattle.fort_known.specs.Names as names
 
 -- what the code knows
 abbrev pub facts : Known → Facts
-facts k = record { table = k.table.now; types = k.index.now.types.now; names = k.names.now; members = k.index.now.members.now; owner = k.owner }
+facts k =
+    record {
+      table = k.table.now;
+      types = k.index.now.types.now;
+      names = k.names.now;
+      members = k.index.now.members.now;
+      owner = k.owner;
+    }
 
 -- what the code's `Standing` says
 abbrev pub standing_of : Standing → names.Standing

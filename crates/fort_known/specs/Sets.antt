@@ -1,4 +1,5 @@
--- The chapter "Typing": which set a call is of. Sets are told by name, kind and number of parameters; the code keeps their numbers by name.
+-- The chapter "Typing": which set a call is of. Sets are told by name, kind and number of
+-- parameters; the code keeps their numbers by name.
 use Rattle.std.specs.Prelude.{ℕ, suc, nat_eq, Bool, true, false, cond, ◌&&◌, ◌||◌, List, [], ◌∷◌, get_or, length}
 use Rattle.std.specs.Bool.{beq}
 use Rattle.std.specs.Str.{bytes_eq}
@@ -37,7 +38,8 @@ first_set test (s ∷ ss) = cond (test s) 0 (suc (first_set test ss))
 abbrev pub spelled : Facts → NameId → Spelling
 spelled k name = get_or k.names name.0 []
 
--- The number of the set of a name, a kind and a number of parameters; that of no set where there is none.
+-- The number of the set of a name, a kind and a number of parameters; that of no set where there is
+-- none.
 unfoldable pub set_of : Facts → Spelling → Bool → ℕ → SetId
 set_of k name dotted width = record { 0 = first_set (is_set_of name dotted width) k.members.sets }
 

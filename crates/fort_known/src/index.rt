@@ -32,7 +32,8 @@ pub struct Index<'a> {
 
 /// The number of the first type of each spelling.
 fn numbers_of<'a>(alloc: Global, types: &'a [Bytes]) -> Result<Places<'a>, Memory>
-    ensures { IfOk result (λ numbers. (s : Spelling) → placed_as numbers s ≡ place_by is_itself 0 types.now s) }
+    ensures { IfOk result (λ numbers. (s : Spelling)
+        → placed_as numbers s ≡ place_by is_itself 0 types.now s) }
 {
     let mut numbers = Places::new(alloc);
     let mut number = types.len();
@@ -49,7 +50,8 @@ fn firsts_of<'a>(
     alloc: Global,
     sets: &'a [MemberSet],
 ) -> Result<(Places<'a>, Vec<Option<usize>>), Memory>
-    ensures firsts { IfOk result (λ made. (s : Spelling) → placed_as made.0 s ≡ place_by set_name 0 sets.now s) }
+    ensures firsts { IfOk result (λ made. (s : Spelling)
+        → placed_as made.0 s ≡ place_by set_name 0 sets.now s) }
     ensures nexts { IfOk result (λ made. IsChain sets.now made.1.items) }
 {
     let mut firsts = Places::new(alloc);
@@ -100,7 +102,8 @@ impl<'a> Index<'a> {
     /// The number of the next set that is spelled as the one of a number is.
     pub fn set_behind(&self, number: usize) -> Option<usize>
         ensures { (set : MemberSet) → slice_get self.now.members.now.sets number ≡ Some set
-            → result ≡ place_by set_name (suc number) (drop (suc number) self.now.members.now.sets) set.name }
+            → result ≡ place_by set_name (suc number) (drop (suc number) self.now.members.now.sets)
+            set.name }
     {
         match self.nexts.get(number) {
             Some(next) => *next,

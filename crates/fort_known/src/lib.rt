@@ -1,4 +1,5 @@
-//! What typing knows of a component: what a name stands for, the fields, the sets by name and number, and what a call has.
+//! What typing knows of a component: what a name stands for, the fields, the sets by name and
+//! number, and what a call has.
 #![tactic(auto)]
 
 mod below;

@@ -27,7 +27,9 @@ impl<'a> Places<'a> {
     /// Gives a spelling a place, and answers the one that it had; or want of memory.
     pub fn put(&mut self, spelling: &'a [u8], place: usize) -> Result<Option<usize>, Memory>
         ensures had { IfOk result (λ had. had ≡ placed_as self.old spelling.now) }
-        ensures has { OnOk result ((s : Spelling) → placed_as self.new s ≡ cond (bytes_eq spelling.now s) (Some place) (placed_as self.old s)) }
+        ensures has { OnOk result ((s : Spelling)
+            → placed_as self.new s
+            ≡ cond (bytes_eq spelling.now s) (Some place) (placed_as self.old s)) }
     {
         Ok(self.known.insert(spelling, place)?)
     }

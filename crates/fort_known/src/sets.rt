@@ -57,7 +57,8 @@ fn any_named(index: &Index, name: &[u8], dotted: bool) -> bool
     false
 }
 
-/// Where the first set of this name, this kind and this number of parameters stands; past the last one where there is none.
+/// Where the first set of this name, this kind and this number of parameters stands; past the last
+/// one where there is none.
 fn first_set(index: &Index, name: &[u8], dotted: bool, width: usize) -> usize
     ensures { result ≡ first_set (is_set_of name.now dotted width) index.now.members.now.sets }
 {
@@ -110,8 +111,8 @@ pub fn is_function(known: &Known, name: NameId) -> bool
     any_named(known.index, spelled(known, name), false)
 }
 
-/// The number of the set of a name, a kind and a number of parameters; that of no set where there is none. It answers `Memory` where
-/// there are more sets than numbers.
+/// The number of the set of a name, a kind and a number of parameters; that of no set where there
+/// is none. It answers `Memory` where there are more sets than numbers.
 #[tactic(auto, unfolding(crate::specs::Sets::set_of))]
 pub fn set_of(known: &Known, name: &[u8], dotted: bool, width: usize) -> Result<SetId, Memory>
     ensures { IfOk result (λ set. set ≡ set_of (facts known.now) name.now dotted width) }
@@ -127,7 +128,8 @@ pub fn set_among(
     dotted: bool,
     width: usize,
 ) -> Result<SetId, Memory>
-    ensures { IfOk result (λ set. set ≡ record { 0 = first_set (is_set_of name.now dotted width) sets.now }) }
+    ensures { IfOk result (λ set. set
+        ≡ record { 0 = first_set (is_set_of name.now dotted width) sets.now }) }
 {
     numbered(first_among(sets, name, dotted, width))
 }

@@ -38,7 +38,8 @@ fn is_leaf_number(number: usize) -> bool
     ZZ32.0 as usize <= number && number <= RANGE.0 as usize
 }
 
-/// Whether the type of a number is an object: of the objects and leaves one that is no built-in leaf.
+/// Whether the type of a number is an object: of the objects and leaves one that is no built-in
+/// leaf.
 fn is_object(known: &Known, number: usize) -> bool
     ensures { result ≡ is_object (facts known.now) number }
 {
@@ -50,7 +51,8 @@ fn is_object(known: &Known, number: usize) -> bool
 
 /// What a name stands for that is no variable at the top.
 fn but_for_variables<'a>(known: &Known<'a>, name: NameId) -> Result<Standing<'a>, Memory>
-    ensures { IfOk result (λ it. standing_of it ≡ standing_single (facts known.now) name (single (facts known.now) name)) }
+    ensures { IfOk result (λ it. standing_of it
+        ≡ standing_single (facts known.now) name (single (facts known.now) name)) }
 {
     if is_function(known, name) {
         return Ok(Standing::Functions);
@@ -67,7 +69,8 @@ fn but_for_variables<'a>(known: &Known<'a>, name: NameId) -> Result<Standing<'a>
 
 /// What a name at the top stands for.
 fn at_the_top<'a>(known: &Known<'a>, name: NameId) -> Result<Standing<'a>, Memory>
-    ensures { IfOk result (λ it. standing_of it ≡ standing_top (facts known.now) name (variable (facts known.now) name)) }
+    ensures { IfOk result (λ it. standing_of it
+        ≡ standing_top (facts known.now) name (variable (facts known.now) name)) }
 {
     let variables = known.index.members.variables.as_slice();
     if let Some(found) = field_in(variables, name) {
@@ -116,7 +119,8 @@ fn any_declared(members: &[Member]) -> bool
     false
 }
 
-/// Whether a set of functions of this name can be seen: the built-in operator of juxtaposition can't.
+/// Whether a set of functions of this name can be seen: the built-in operator of juxtaposition
+/// can't.
 fn shows(spelling: &[u8], set: &MemberSet) -> bool
     ensures { result ≡ shows spelling.now set.now }
 {

@@ -1,4 +1,5 @@
--- The chapter "Tokens", no definition of it: what the builder of a token list holds on the way. No public clause cites it.
+-- The chapter "Tokens", no definition of it: what the builder of a token list holds on the way. No
+-- public clause cites it.
 use Rattle.std.specs.Prelude.{◌≡◌, ◌⊎◌, ℕ, Bool, false, cond, List, [], ◌∷◌, ◌++◌, map, length, Option, None, Some, Result, Ok, Err, encode_utf8_all}
 use Rattle.fort_base.specs.declared.refusal.CheckFault.{CheckFault}
 use Rattle.fort_base.specs.declared.refusal.CheckFault.TheVariants as a_fault
@@ -43,7 +44,8 @@ KindAt n a_meaning.Name k = k ≡ kind.Name (record { 0 = n })
 abbrev pub known_kind : NameTable → List ℕ → Option Kind
 known_kind n w = get_by (λ key. bytes_eq w key.now) n.known
 
--- The names are these words, and the map has the kind of each of them, and no wrong kind of any word.
+-- The names are these words, and the map has the kind of each of them, and no wrong kind of any
+-- word.
 pub record HoldsNames (words : List (List ℕ)) (n : NameTable) : Type 0 where
   pub names : n.names ≡ map encode_utf8_all words
   pub sound : (w : List ℕ) (k : Kind) → known_kind n w ≡ Some k → KindFor words w (meaning_of w) k
@@ -63,8 +65,10 @@ pub record Holds (pieces : List Piece) (b : Builder) : Type 0 where
 
 -- The kind is what the word stands for, and the names and texts have gained what it adds.
 pub record AddsWord (old new : Builder) (w : List ℕ) (k : Kind) : Type 0 where
-  pub means : (words : List (List ℕ)) → HoldsNames words old.names → Means (with_word words w (has_number w)) (length old.texts) w k
-  pub names : (words : List (List ℕ)) → HoldsNames words old.names → HoldsNames (with_word words w (has_number w)) new.names
+  pub means : (words : List (List ℕ)) → HoldsNames words old.names
+      → Means (with_word words w (has_number w)) (length old.texts) w k
+  pub names : (words : List (List ℕ)) → HoldsNames words old.names
+      → HoldsNames (with_word words w (has_number w)) new.names
   pub texts : new.texts ≡ old.texts ++ cond (is_text_word w) (encode_utf8_all (said w) ∷ []) []
   pub list : new.list ≡ old.list
   pub place : new.place ≡ old.place

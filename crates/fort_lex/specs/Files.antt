@@ -1,4 +1,5 @@
--- The chapter "Tokens", whole: the tokens of a file, or the rule that it breaks. The code scans the file once.
+-- The chapter "Tokens", whole: the tokens of a file, or the rule that it breaks. The code scans the
+-- file once.
 use Rattle.std.specs.Prelude.{◌≡◌, ℕ, ◌+◌, cond, List, [], ◌∷◌, ◌++◌, map, take, Result, Ok, Err, encode_utf8_all, ◌<◌, length, All}
 use Rattle.std.specs.Str.{chars, IsUtf8, IsValidUpTo}
 use Rattle.fort_base.specs.declared.rules.TheConstants.{NOT_UTF8, TOO_MANY_TOKENS}
@@ -40,14 +41,16 @@ names_of pieces = once (numbered_in pieces)
 -- what the texts say, in order, as UTF-8
 abbrev pub texts_of : List Piece → List (List ℕ)
 texts_of [] = []
-texts_of (p ∷ ps) = cond (is_text_word p.word) (encode_utf8_all (said p.word) ∷ texts_of ps) (texts_of ps)
+texts_of (p ∷ ps) =
+    cond (is_text_word p.word) (encode_utf8_all (said p.word) ∷ texts_of ps) (texts_of ps)
 
 -- the number of texts up to and with a word
 abbrev pub texts_after : ℕ → List ℕ → ℕ
 texts_after texts w = cond (is_text_word w) (texts + 1) texts
 
 -- The token is what the piece stands for, where its gap begins at the place.
-pub record IsTokenOf (words : List (List ℕ)) (place : Place) (texts : ℕ) (p : Piece) (t : Token) : Type 0 where
+pub record IsTokenOf (words : List (List ℕ)) (place : Place) (texts : ℕ) (p : Piece)
+    (t : Token) : Type 0 where
   pub kind : Means words texts p.word t.kind
   pub gap : t.gap ≡ gap_kind p.gap
   pub place_is : t.place ≡ place_after place p.gap
@@ -55,7 +58,8 @@ pub record IsTokenOf (words : List (List ℕ)) (place : Place) (texts : ℕ) (p 
 -- The tokens are what the pieces stand for, one after another, from the place on.
 abbrev pub AreTokens : List (List ℕ) → Place → ℕ → List Piece → List Token → Type 0
 AreTokens words place texts [] ts = ts ≡ []
-AreTokens words place texts (p ∷ ps) ts = (t : Token) × (rest : List Token) × (ts ≡ t ∷ rest) × IsTokenOf words place texts p t
+AreTokens words place texts (p ∷ ps) ts = (t : Token) × (rest : List Token) × (ts ≡ t ∷ rest)
+    × IsTokenOf words place texts p t
     × AreTokens words (place_after place (p.gap ++ p.word)) (texts_after texts p.word) ps rest
 
 -- The tokens, names and texts are what these pieces stand for.
@@ -100,7 +104,8 @@ pub data BreaksRule (bytes : List ℕ) (r : Rule) (place : Place) : Type 0 where
   -- 101
   not_utf8 : r ≡ NOT_UTF8 → IsNotUtf8 bytes place → BreaksRule bytes r place
   -- 107
-  too_many : r ≡ TOO_MANY_TOKENS → IsUtf8 bytes → IsMany (chars bytes) place → BreaksRule bytes r place
+  too_many : r ≡ TOO_MANY_TOKENS → IsUtf8 bytes → IsMany (chars bytes) place
+      → BreaksRule bytes r place
   -- 102 to 106
   fault : IsUtf8 bytes → IsFault (chars bytes) r place → BreaksRule bytes r place
 

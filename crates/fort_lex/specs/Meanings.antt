@@ -11,7 +11,8 @@ use Rattle.fort_token.specs.declared.token.Kind.{Kind}
 use Rattle.fort_token.specs.declared.token.Kind.TheVariants as kind
 use Rattle.fort_lex.specs.Spellings.{reserved_named, mark_named, operator_named, has_operator_form}
 
--- a reserved word, another symbol or an operator by its table; else an operator word by its form; else a name
+-- a reserved word, another symbol or an operator by its table; else an operator word by its form;
+-- else a name
 unfoldable pub meaning_of : List ℕ → Meaning
 meaning_of w =
     option_map_or (λ r. a_meaning.Word r) (reserved_named w)
@@ -47,13 +48,16 @@ is_text_shape shape.Symbol = false
 abbrev pub is_text_word : List ℕ → Bool
 is_text_word w = is_text_shape (shape_of w)
 
--- the kind of a word with that meaning; a name's number is its place among the words that have numbers
+-- the kind of a word with that meaning; a name's number is its place among the words that have
+-- numbers
 abbrev pub KindFor : List (List ℕ) → List ℕ → Meaning → Kind → Type 0
 KindFor words w (a_meaning.Word r) k = k ≡ kind.Word r
 KindFor words w (a_meaning.Mark m) k = k ≡ kind.Mark m
 KindFor words w (a_meaning.Op op) k = k ≡ kind.Op op
-KindFor words w a_meaning.OperatorWord k = (n : ℕ) × (slice_get words n ≡ Some w) × (k ≡ kind.Op (an_op.Word n))
-KindFor words w a_meaning.Name k = (n : ℕ) × (slice_get words n ≡ Some w) × (k ≡ kind.Name (record { 0 = n }))
+KindFor words w a_meaning.OperatorWord k = (n : ℕ) × (slice_get words n ≡ Some w)
+    × (k ≡ kind.Op (an_op.Word n))
+KindFor words w a_meaning.Name k = (n : ℕ) × (slice_get words n ≡ Some w)
+    × (k ≡ kind.Name (record { 0 = n }))
 
 abbrev pub MeansShape : List (List ℕ) → ℕ → List ℕ → Shape → Kind → Type 0
 MeansShape words texts w (shape.Number n) k = k ≡ kind.Number n
@@ -61,7 +65,8 @@ MeansShape words texts w shape.Text k = k ≡ kind.Text texts
 MeansShape words texts w shape.Name k = KindFor words w (meaning_of w) k
 MeansShape words texts w shape.Symbol k = KindFor words w (meaning_of w) k
 
--- The kind is what the spelling stands for, where these words have numbers and so many texts stand before it.
+-- The kind is what the spelling stands for, where these words have numbers and so many texts stand
+-- before it.
 abbrev pub Means : List (List ℕ) → ℕ → List ℕ → Kind → Type 0
 Means words texts w k = MeansShape words texts w (shape_of w) k
 
@@ -73,7 +78,8 @@ escaped_char c = cond (c == 110) 10 (cond (c == 116) 9 c)
 abbrev pub said_behind : Bool → List ℕ → List ℕ
 said_behind escaped [] = []
 said_behind true (c ∷ cs) = escaped_char c ∷ said_behind false cs
-said_behind false (c ∷ cs) = cond (c == 34) [] (cond (c == 92) (said_behind true cs) (c ∷ said_behind false cs))
+said_behind false (c ∷ cs) =
+    cond (c == 34) [] (cond (c == 92) (said_behind true cs) (c ∷ said_behind false cs))
 
 -- what a text says
 abbrev pub said : List ℕ → List ℕ

@@ -1,5 +1,5 @@
--- The chapter "Tokens", reserved words and other symbols by their spellings, and operators by the table of `fort_ops`.
--- The code compares a word with one spelling after another.
+-- The chapter "Tokens", reserved words and other symbols by their spellings, and operators by the
+-- table of `fort_ops`. The code compares a word with one spelling after another.
 use Rattle.std.specs.Prelude.{ℕ, ◌-◌, Bool, false, cond, not, ◌&&◌, ◌||◌, ◌==◌, List, [], ◌∷◌, Option, None, Some, codes, nat_le, get_or, length}
 use Rattle.fort_ops.specs.declared.op.Op.{Op}
 use Rattle.fort_ops.specs.Spellings.{spellings}
@@ -147,4 +147,5 @@ has_other c (d ∷ ds) = (is_capital d && not (d == c)) || has_other c ds
 abbrev pub has_operator_form : List ℕ → Bool
 has_operator_form w =
     every is_capital_or_bar w
-    && (is_capital (get_or w 0 0) && (is_capital (get_or w (length w - 1) 0) && has_other (get_or w 0 0) w))
+    && (is_capital (get_or w 0 0)
+    && (is_capital (get_or w (length w - 1) 0) && has_other (get_or w 0 0) w))

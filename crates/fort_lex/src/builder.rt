@@ -74,7 +74,8 @@ impl<'a> Builder<'a> {
         word: &'a [char],
         shape: Shape,
     ) -> Result<(), Memory>
-        requires room { self.old.place.line + self.old.place.column + length gap.now + length word.now < 2 ^ 32 }
+        requires room { self.old.place.line + self.old.place.column + length gap.now
+            + length word.now < 2 ^ 32 }
         requires begun { 0 < self.old.place.column }
         requires few { (length self.old.texts < 2 ^ 31) × (length self.old.names.names < 2 ^ 31) }
         requires some { 0 < length word.now }

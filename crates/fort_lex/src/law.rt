@@ -10,7 +10,8 @@ ghost use Rattle.fort_lex.specs.Files.{HasTokens, BreaksRule};
 pub fn one_answer(_source: &[u8])
     ensures some { ((ts : Tokens) × HasTokens _source.now ts)
         ⊎ ((r : Rule) × (place : Place) × BreaksRule _source.now r place) }
-    ensures once { (ts us : Tokens) → HasTokens _source.now ts → HasTokens _source.now us → ts ≡ us }
+    ensures once { (ts us : Tokens) → HasTokens _source.now ts → HasTokens _source.now us
+        → ts ≡ us }
     ensures apart { (ts : Tokens) (r : Rule) (place : Place) → HasTokens _source.now ts
         → BreaksRule _source.now r place → ⊥ }
 {}

@@ -1,4 +1,5 @@
--- The chapter "Grammar", limits: the earliest of some places. The code keeps one place while it walks a tree.
+-- The chapter "Grammar", limits: the earliest of some places. The code keeps one place while it
+-- walks a tree.
 use Rattle.std.specs.Prelude.{Bool, cond, nat_lt, nat_eq, ◌&&◌, ◌||◌, List, [], ◌∷◌, Option, Some, None}
 use Rattle.fort_base.specs.declared.refusal.Place.{Place}
 use Rattle.fort_base.specs.Places.{is_before}

@@ -27,7 +27,8 @@ const MOST_ITEMS: usize = 4096;
 impl Walk {
     #[cycle(tree)]
     pub(crate) fn delimited(&mut self, form: &Delimited)
-        ensures { self.new.earliest ≡ earliest self.old.earliest (measured_delimited form.now).crowded }
+        ensures { self.new.earliest
+            ≡ earliest self.old.earliest (measured_delimited form.now).crowded }
     {
         match form {
             Delimited::Do {
@@ -113,7 +114,9 @@ impl Walk {
 
     #[cycle(tree)]
     fn block(&mut self, block: &Block)
-        ensures { self.new.earliest ≡ earliest self.old.earliest (all_crowded (block_measured (map measured_block_item block.now))) }
+        ensures { self.new.earliest
+            ≡ earliest self.old.earliest
+            (all_crowded (block_measured (map measured_block_item block.now))) }
     {
         match block.get(0) {
             Some(first) => {
@@ -127,7 +130,8 @@ impl Walk {
 
     #[cycle(tree)]
     fn items(&mut self, block: &Block)
-        ensures { self.new.earliest ≡ earliest self.old.earliest (all_crowded (map measured_block_item block.now)) }
+        ensures { self.new.earliest
+            ≡ earliest self.old.earliest (all_crowded (map measured_block_item block.now)) }
     {
         for entry in block.as_slice() {
             self.item(&entry.item);
@@ -151,7 +155,8 @@ impl Walk {
     /// Walks over a declaration of a variable.
     #[cycle(tree)]
     pub(crate) fn variable(&mut self, variable: &Variable)
-        ensures { self.new.earliest ≡ earliest self.old.earliest (measured_variable variable.now).crowded }
+        ensures { self.new.earliest
+            ≡ earliest self.old.earliest (measured_variable variable.now).crowded }
     {
         self.type_tree(&variable.ty);
         self.expr(&variable.value);
@@ -159,7 +164,8 @@ impl Walk {
 
     #[cycle(tree)]
     fn alsos(&mut self, others: &List<Also>)
-        ensures { self.new.earliest ≡ earliest self.old.earliest (all_crowded (map measured_also others.now)) }
+        ensures { self.new.earliest
+            ≡ earliest self.old.earliest (all_crowded (map measured_also others.now)) }
     {
         for also in others.as_slice() {
             self.block(&also.block);
@@ -168,7 +174,8 @@ impl Walk {
 
     #[cycle(tree)]
     fn elifs(&mut self, elifs: &List<Elif>)
-        ensures { self.new.earliest ≡ earliest self.old.earliest (all_crowded (map measured_elif elifs.now)) }
+        ensures { self.new.earliest
+            ≡ earliest self.old.earliest (all_crowded (map measured_elif elifs.now)) }
     {
         for elif in elifs.as_slice() {
             self.elif(elif);
@@ -185,7 +192,9 @@ impl Walk {
 
     #[cycle(tree)]
     fn else_block(&mut self, otherwise: &Option<ElseBlock>)
-        ensures { self.new.earliest ≡ earliest self.old.earliest (all_crowded (maybe_measured (option_map measured_else_block otherwise.now))) }
+        ensures { self.new.earliest
+            ≡ earliest self.old.earliest
+            (all_crowded (maybe_measured (option_map measured_else_block otherwise.now))) }
     {
         match otherwise {
             Some(otherwise) => {
@@ -197,7 +206,8 @@ impl Walk {
 
     #[cycle(tree)]
     fn next_generators(&mut self, others: &List<NextGenerator>)
-        ensures { self.new.earliest ≡ earliest self.old.earliest (all_crowded (map measured_next_generator others.now)) }
+        ensures { self.new.earliest
+            ≡ earliest self.old.earliest (all_crowded (map measured_next_generator others.now)) }
     {
         for next in others.as_slice() {
             self.generator(&next.generator);
@@ -206,7 +216,8 @@ impl Walk {
 
     #[cycle(tree)]
     fn case_clauses(&mut self, clauses: &List<CaseClause>)
-        ensures { self.new.earliest ≡ earliest self.old.earliest (all_crowded (map measured_case_clause clauses.now)) }
+        ensures { self.new.earliest
+            ≡ earliest self.old.earliest (all_crowded (map measured_case_clause clauses.now)) }
     {
         for clause in clauses.as_slice() {
             self.case_clause(clause);
@@ -215,7 +226,8 @@ impl Walk {
 
     #[cycle(tree)]
     fn case_clause(&mut self, clause: &CaseClause)
-        ensures { self.new.earliest ≡ earliest self.old.earliest (measured_case_clause clause.now).crowded }
+        ensures { self.new.earliest
+            ≡ earliest self.old.earliest (measured_case_clause clause.now).crowded }
     {
         self.flat(&clause.subject);
         self.expr(&clause.value);
@@ -223,7 +235,8 @@ impl Walk {
 
     #[cycle(tree)]
     fn type_clauses(&mut self, clauses: &List<TypeClause>)
-        ensures { self.new.earliest ≡ earliest self.old.earliest (all_crowded (map measured_type_clause clauses.now)) }
+        ensures { self.new.earliest
+            ≡ earliest self.old.earliest (all_crowded (map measured_type_clause clauses.now)) }
     {
         for clause in clauses.as_slice() {
             self.type_clause(clause);
@@ -232,7 +245,8 @@ impl Walk {
 
     #[cycle(tree)]
     fn type_clause(&mut self, clause: &TypeClause)
-        ensures { self.new.earliest ≡ earliest self.old.earliest (measured_type_clause clause.now).crowded }
+        ensures { self.new.earliest
+            ≡ earliest self.old.earliest (measured_type_clause clause.now).crowded }
     {
         self.type_tree(&clause.ty);
         self.expr(&clause.value);
@@ -240,7 +254,9 @@ impl Walk {
 
     #[cycle(tree)]
     fn else_clause(&mut self, otherwise: &Option<Boxed<ElseClause>>)
-        ensures { self.new.earliest ≡ earliest self.old.earliest (all_crowded (maybe_measured (option_map measured_else_clause otherwise.now))) }
+        ensures { self.new.earliest
+            ≡ earliest self.old.earliest
+            (all_crowded (maybe_measured (option_map measured_else_clause otherwise.now))) }
     {
         match otherwise {
             Some(otherwise) => {
@@ -252,7 +268,9 @@ impl Walk {
 
     #[cycle(tree)]
     fn catch(&mut self, catch: &Option<Catch>)
-        ensures { self.new.earliest ≡ earliest self.old.earliest (all_crowded (listed_parts (option_map measured_catch catch.now))) }
+        ensures { self.new.earliest
+            ≡ earliest self.old.earliest
+            (all_crowded (listed_parts (option_map measured_catch catch.now))) }
     {
         match catch {
             Some(catch) => {
@@ -264,7 +282,9 @@ impl Walk {
 
     #[cycle(tree)]
     fn finally(&mut self, finally: &Option<Finally>)
-        ensures { self.new.earliest ≡ earliest self.old.earliest (all_crowded (maybe_measured (option_map measured_finally finally.now))) }
+        ensures { self.new.earliest
+            ≡ earliest self.old.earliest
+            (all_crowded (maybe_measured (option_map measured_finally finally.now))) }
     {
         match finally {
             Some(finally) => {

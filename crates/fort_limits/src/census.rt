@@ -52,7 +52,9 @@ impl Count {
     }
 
     fn trait_members(&mut self, members: &List<TraitEntry>)
-        ensures { self.new ≡ counted self.old (map (λ e. (measured_trait_member e.member).spot.place) members.now) }
+        ensures { self.new
+            ≡ counted self.old
+            (map (λ e. (measured_trait_member e.member).spot.place) members.now) }
     {
         for entry in members.as_slice() {
             self.see(place_of_trait_member(&entry.member));
@@ -60,7 +62,9 @@ impl Count {
     }
 
     fn object_members(&mut self, members: &List<ObjectEntry>)
-        ensures { self.new ≡ counted self.old (map (λ e. (measured_object_member e.member).spot.place) members.now) }
+        ensures { self.new
+            ≡ counted self.old
+            (map (λ e. (measured_object_member e.member).spot.place) members.now) }
     {
         for entry in members.as_slice() {
             self.see(place_of_object_member(&entry.member));
@@ -69,7 +73,8 @@ impl Count {
 
     /// Counts traits and objects.
     pub(crate) fn types(&mut self, declarations: &List<Declared>)
-        ensures { self.new ≡ counted self.old (flat_map (λ d. type_places d.declaration) declarations.now) }
+        ensures { self.new
+            ≡ counted self.old (flat_map (λ d. type_places d.declaration) declarations.now) }
     {
         for declared in declarations.as_slice() {
             self.type_(&declared.declaration);

@@ -13,7 +13,8 @@ const MOST_DECLARATIONS: usize = 4096;
 /// How many traits and objects a component may have.
 const MOST_TYPES: usize = 1024;
 
-/// The earliest place of what passes a limit in a component, or `None` where nothing does; it takes no memory.
+/// The earliest place of what passes a limit in a component, or `None` where nothing does; it takes
+/// no memory.
 ///
 /// It is what rule 203 of the chapter "Limits, and 203" refuses.
 pub fn first_crowded(component: &Component) -> Option<Place>

@@ -24,7 +24,9 @@ const MOST_NAMES: usize = 32;
 impl Walk {
     /// Walks over declarations.
     pub(crate) fn declarations(&mut self, declarations: &List<Declared>)
-        ensures { self.new.earliest ≡ earliest self.old.earliest (all_crowded (map (λ d. measured_declaration d.declaration) declarations.now)) }
+        ensures { self.new.earliest
+            ≡ earliest self.old.earliest
+            (all_crowded (map (λ d. measured_declaration d.declaration) declarations.now)) }
     {
         for declared in declarations.as_slice() {
             self.declaration(&declared.declaration);
@@ -32,7 +34,8 @@ impl Walk {
     }
 
     fn declaration(&mut self, declaration: &Declaration)
-        ensures { self.new.earliest ≡ earliest self.old.earliest (measured_declaration declaration.now).crowded }
+        ensures { self.new.earliest
+            ≡ earliest self.old.earliest (measured_declaration declaration.now).crowded }
     {
         match declaration {
             Declaration::Variable(variable) => self.variable(variable),
@@ -43,7 +46,8 @@ impl Walk {
     }
 
     fn function(&mut self, function: &Function)
-        ensures { self.new.earliest ≡ earliest self.old.earliest (measured_function function.now).crowded }
+        ensures { self.new.earliest
+            ≡ earliest self.old.earliest (measured_function function.now).crowded }
     {
         let place = place_of_function(function.name);
         self.count(
@@ -57,7 +61,8 @@ impl Walk {
     }
 
     fn method(&mut self, method: &Method)
-        ensures { self.new.earliest ≡ earliest self.old.earliest (measured_method method.now).crowded }
+        ensures { self.new.earliest
+            ≡ earliest self.old.earliest (measured_method method.now).crowded }
     {
         let place = place_of_function(method.name);
         self.count(
@@ -71,7 +76,8 @@ impl Walk {
     }
 
     fn method_parameters(&mut self, parameters: &Option<MethodParameters>)
-        ensures { self.new.earliest ≡ earliest self.old.earliest (all_crowded (measured_method_parameters parameters.now)) }
+        ensures { self.new.earliest
+            ≡ earliest self.old.earliest (all_crowded (measured_method_parameters parameters.now)) }
     {
         match parameters {
             Some(list) => {
@@ -83,7 +89,8 @@ impl Walk {
     }
 
     fn method_parameter(&mut self, parameter: &MethodParameter)
-        ensures { self.new.earliest ≡ earliest self.old.earliest (all_crowded (measured_method_parameter parameter.now)) }
+        ensures { self.new.earliest
+            ≡ earliest self.old.earliest (all_crowded (measured_method_parameter parameter.now)) }
     {
         match parameter {
             MethodParameter::Parameter(parameter) => self.type_tree(&parameter.ty),
@@ -92,7 +99,10 @@ impl Walk {
     }
 
     fn next_method_parameters(&mut self, parameters: &List<NextMethodParameter>)
-        ensures { self.new.earliest ≡ earliest self.old.earliest (all_crowded (flat_map (λ next. measured_method_parameter next.parameter) parameters.now)) }
+        ensures { self.new.earliest
+            ≡ earliest self.old.earliest
+            (all_crowded
+            (flat_map (λ next. measured_method_parameter next.parameter) parameters.now)) }
     {
         for next in parameters.as_slice() {
             self.method_parameter(&next.parameter);
@@ -100,7 +110,8 @@ impl Walk {
     }
 
     fn method_body(&mut self, body: &Option<MethodBody>)
-        ensures { self.new.earliest ≡ earliest self.old.earliest (all_crowded (measured_body body.now)) }
+        ensures { self.new.earliest
+            ≡ earliest self.old.earliest (all_crowded (measured_body body.now)) }
     {
         match body {
             Some(body) => {
@@ -121,7 +132,9 @@ impl Walk {
     }
 
     fn trait_members(&mut self, members: &List<TraitEntry>)
-        ensures { self.new.earliest ≡ earliest self.old.earliest (all_crowded (map (λ e. measured_trait_member e.member) members.now)) }
+        ensures { self.new.earliest
+            ≡ earliest self.old.earliest
+            (all_crowded (map (λ e. measured_trait_member e.member) members.now)) }
     {
         for entry in members.as_slice() {
             self.trait_member(&entry.member);
@@ -129,7 +142,8 @@ impl Walk {
     }
 
     fn trait_member(&mut self, member: &TraitMember)
-        ensures { self.new.earliest ≡ earliest self.old.earliest (measured_trait_member member.now).crowded }
+        ensures { self.new.earliest
+            ≡ earliest self.old.earliest (measured_trait_member member.now).crowded }
     {
         match member {
             TraitMember::Field { ty, .. } => self.type_tree(ty),
@@ -138,7 +152,8 @@ impl Walk {
     }
 
     fn object(&mut self, object: &Object)
-        ensures { self.new.earliest ≡ earliest self.old.earliest (measured_object object.now).crowded }
+        ensures { self.new.earliest
+            ≡ earliest self.old.earliest (measured_object object.now).crowded }
     {
         let place = object.object.place;
         let parameters = object_parameter_count(&object.parameters);
@@ -149,7 +164,8 @@ impl Walk {
     }
 
     fn object_parameters(&mut self, parameters: &Option<ObjectParameters>)
-        ensures { self.new.earliest ≡ earliest self.old.earliest (all_crowded (measured_object_parameters parameters.now)) }
+        ensures { self.new.earliest
+            ≡ earliest self.old.earliest (all_crowded (measured_object_parameters parameters.now)) }
     {
         match parameters {
             Some(parameters) => {
@@ -160,7 +176,8 @@ impl Walk {
     }
 
     fn object_parameter_list(&mut self, list: &Option<ObjectParameterList>)
-        ensures { self.new.earliest ≡ earliest self.old.earliest (all_crowded (measured_object_parameter_list list.now)) }
+        ensures { self.new.earliest
+            ≡ earliest self.old.earliest (all_crowded (measured_object_parameter_list list.now)) }
     {
         match list {
             Some(list) => {
@@ -172,7 +189,9 @@ impl Walk {
     }
 
     fn next_object_parameters(&mut self, parameters: &List<NextObjectParameter>)
-        ensures { self.new.earliest ≡ earliest self.old.earliest (all_crowded (map (λ next. measured_type next.parameter.ty) parameters.now)) }
+        ensures { self.new.earliest
+            ≡ earliest self.old.earliest
+            (all_crowded (map (λ next. measured_type next.parameter.ty) parameters.now)) }
     {
         for next in parameters.as_slice() {
             self.type_tree(&next.parameter.ty);
@@ -180,7 +199,9 @@ impl Walk {
     }
 
     fn object_members(&mut self, members: &List<ObjectEntry>)
-        ensures { self.new.earliest ≡ earliest self.old.earliest (all_crowded (map (λ e. measured_object_member e.member) members.now)) }
+        ensures { self.new.earliest
+            ≡ earliest self.old.earliest
+            (all_crowded (map (λ e. measured_object_member e.member) members.now)) }
     {
         for entry in members.as_slice() {
             self.object_member(&entry.member);
@@ -188,7 +209,8 @@ impl Walk {
     }
 
     fn object_member(&mut self, member: &ObjectMember)
-        ensures { self.new.earliest ≡ earliest self.old.earliest (measured_object_member member.now).crowded }
+        ensures { self.new.earliest
+            ≡ earliest self.old.earliest (measured_object_member member.now).crowded }
     {
         match member {
             ObjectMember::Variable(variable) => self.variable(variable),

@@ -56,7 +56,9 @@ impl Walk {
 
     #[cycle(tree)]
     fn maybe_head(&mut self, head: &Option<Boxed<Head>>)
-        ensures { self.new.earliest ≡ earliest self.old.earliest (all_crowded (maybe_measured (option_map measured_head head.now))) }
+        ensures { self.new.earliest
+            ≡ earliest self.old.earliest
+            (all_crowded (maybe_measured (option_map measured_head head.now))) }
     {
         match head {
             Some(head) => {
@@ -89,7 +91,8 @@ impl Walk {
     /// Walks over a generator.
     #[cycle(tree)]
     pub(crate) fn generator(&mut self, generator: &Generator)
-        ensures { self.new.earliest ≡ earliest self.old.earliest (measured_generator generator.now).crowded }
+        ensures { self.new.earliest
+            ≡ earliest self.old.earliest (measured_generator generator.now).crowded }
     {
         match generator {
             Generator::Parallel { source, .. } => self.flat(source),
@@ -110,7 +113,9 @@ impl Walk {
 
     #[cycle(tree)]
     fn flat_parts(&mut self, parts: &List<FlatPart>)
-        ensures { self.new.earliest ≡ earliest self.old.earliest (all_crowded (map (λ part. (measured_flat_part part).unit) parts.now)) }
+        ensures { self.new.earliest
+            ≡ earliest self.old.earliest
+            (all_crowded (map (λ part. (measured_flat_part part).unit) parts.now)) }
     {
         for part in parts.as_slice() {
             self.flat_part(part);
@@ -119,7 +124,8 @@ impl Walk {
 
     #[cycle(tree)]
     fn flat_part(&mut self, part: &FlatPart)
-        ensures { self.new.earliest ≡ earliest self.old.earliest (measured_flat_part part.now).unit.crowded }
+        ensures { self.new.earliest
+            ≡ earliest self.old.earliest (measured_flat_part part.now).unit.crowded }
     {
         match part {
             FlatPart::Run(run) => self.run(run),
@@ -129,7 +135,8 @@ impl Walk {
 
     #[cycle(tree)]
     fn operand(&mut self, operand: &Operand)
-        ensures { self.new.earliest ≡ earliest self.old.earliest (measured_operand operand.now).crowded }
+        ensures { self.new.earliest
+            ≡ earliest self.old.earliest (measured_operand operand.now).crowded }
     {
         self.run(&operand.run);
     }
@@ -146,7 +153,8 @@ impl Walk {
 
     #[cycle(tree)]
     fn run_parts(&mut self, parts: &List<RunPart>)
-        ensures { self.new.earliest ≡ earliest self.old.earliest (all_crowded (map measured_run_part parts.now)) }
+        ensures { self.new.earliest
+            ≡ earliest self.old.earliest (all_crowded (map measured_run_part parts.now)) }
     {
         for part in parts.as_slice() {
             self.run_part(part);
@@ -155,7 +163,8 @@ impl Walk {
 
     #[cycle(tree)]
     fn run_part(&mut self, part: &RunPart)
-        ensures { self.new.earliest ≡ earliest self.old.earliest (measured_run_part part.now).crowded }
+        ensures { self.new.earliest
+            ≡ earliest self.old.earliest (measured_run_part part.now).crowded }
     {
         match part {
             RunPart::Atom(atom) => self.atom(atom),
@@ -165,7 +174,8 @@ impl Walk {
 
     #[cycle(tree)]
     fn postfix(&mut self, postfix: &Postfix)
-        ensures { self.new.earliest ≡ earliest self.old.earliest (measured_postfix postfix.now).crowded }
+        ensures { self.new.earliest
+            ≡ earliest self.old.earliest (measured_postfix postfix.now).crowded }
     {
         match postfix {
             Postfix::Subscript { index, .. } => self.expr(index.get()),
@@ -203,7 +213,11 @@ impl Walk {
 
     #[cycle(tree)]
     fn parens(&mut self, left: Spot, contents: &Option<ExprList>)
-        ensures { self.new.earliest ≡ earliest self.old.earliest (over most_tuple_parts (length (listed_parts (option_map measured_expr_list contents.now))) left.place ++ all_crowded (listed_parts (option_map measured_expr_list contents.now))) }
+        ensures { self.new.earliest
+            ≡ earliest self.old.earliest
+            (over most_tuple_parts
+            (length (listed_parts (option_map measured_expr_list contents.now))) left.place
+            ++ all_crowded (listed_parts (option_map measured_expr_list contents.now))) }
     {
         self.count(MOST_TUPLE_PARTS, expr_count(contents), left.place);
         self.expr_list(contents);
@@ -211,7 +225,9 @@ impl Walk {
 
     #[cycle(tree)]
     fn expr_list(&mut self, list: &Option<ExprList>)
-        ensures { self.new.earliest ≡ earliest self.old.earliest (all_crowded (listed_parts (option_map measured_expr_list list.now))) }
+        ensures { self.new.earliest
+            ≡ earliest self.old.earliest
+            (all_crowded (listed_parts (option_map measured_expr_list list.now))) }
     {
         match list {
             Some(list) => {
@@ -224,7 +240,8 @@ impl Walk {
 
     #[cycle(tree)]
     fn next_exprs(&mut self, exprs: &List<NextExpr>)
-        ensures { self.new.earliest ≡ earliest self.old.earliest (all_crowded (map measured_next_expr exprs.now)) }
+        ensures { self.new.earliest
+            ≡ earliest self.old.earliest (all_crowded (map measured_next_expr exprs.now)) }
     {
         for next in exprs.as_slice() {
             self.expr(&next.expr);

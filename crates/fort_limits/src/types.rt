@@ -32,7 +32,8 @@ impl Walk {
 
     #[cycle(types)]
     fn simple_type(&mut self, simple: &SimpleType)
-        ensures { self.new.earliest ≡ earliest self.old.earliest (measured_simple_type simple.now).crowded }
+        ensures { self.new.earliest
+            ≡ earliest self.old.earliest (measured_simple_type simple.now).crowded }
     {
         match simple {
             SimpleType::Named(_) => {}
@@ -43,7 +44,11 @@ impl Walk {
 
     #[cycle(types)]
     fn type_parts(&mut self, left: Spot, parts: &Option<TypeList>)
-        ensures { self.new.earliest ≡ earliest self.old.earliest (over most_tuple_parts (length (listed_parts (option_map measured_type_list parts.now))) left.place ++ all_crowded (listed_parts (option_map measured_type_list parts.now))) }
+        ensures { self.new.earliest
+            ≡ earliest self.old.earliest
+            (over most_tuple_parts (length (listed_parts (option_map measured_type_list parts.now)))
+            left.place
+            ++ all_crowded (listed_parts (option_map measured_type_list parts.now))) }
     {
         match parts {
             Some(list) => {
@@ -61,7 +66,8 @@ impl Walk {
 
     #[cycle(types)]
     fn next_types(&mut self, types: &List<NextType>)
-        ensures { self.new.earliest ≡ earliest self.old.earliest (all_crowded (map measured_next_type types.now)) }
+        ensures { self.new.earliest
+            ≡ earliest self.old.earliest (all_crowded (map measured_next_type types.now)) }
     {
         for next in types.as_slice() {
             self.type_tree(&next.ty);
@@ -70,7 +76,8 @@ impl Walk {
 
     /// Walks over the types of parameters.
     pub(crate) fn parameters(&mut self, parameters: &Option<Parameters>)
-        ensures { self.new.earliest ≡ earliest self.old.earliest (all_crowded (measured_parameters parameters.now)) }
+        ensures { self.new.earliest
+            ≡ earliest self.old.earliest (all_crowded (measured_parameters parameters.now)) }
     {
         match parameters {
             Some(list) => {
@@ -82,7 +89,9 @@ impl Walk {
     }
 
     fn next_parameters(&mut self, parameters: &List<NextParameter>)
-        ensures { self.new.earliest ≡ earliest self.old.earliest (all_crowded (map (λ next. measured_type next.parameter.ty) parameters.now)) }
+        ensures { self.new.earliest
+            ≡ earliest self.old.earliest
+            (all_crowded (map (λ next. measured_type next.parameter.ty) parameters.now)) }
     {
         for next in parameters.as_slice() {
             self.type_tree(&next.parameter.ty);

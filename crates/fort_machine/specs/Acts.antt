@@ -1,4 +1,5 @@
--- Chapter "Steps and costs": what a form does at its next step, before it is asked what the store has. The code does it as it finds it out.
+-- Chapter "Steps and costs": what a form does at its next step, before it is asked what the store
+-- has. The code does it as it finds it out.
 use Rattle.std.specs.Prelude.{ℕ, Bool, true, false, List, [], ◌∷◌, Option, Some, None}
 use Rattle.fort_base.specs.declared.ids.SetId.{SetId}
 use Rattle.fort_base.specs.declared.ids.TypeId.{TypeId}
@@ -11,7 +12,11 @@ use Rattle.fort_core.specs.declared.term.Term.{Term}
 use Rattle.fort_core.specs.declared.value.Value.{Value, Object, Tuple}
 use Rattle.fort_machine.specs.Ends.{Standing, at_value, at_throw, open_yet, standing, throw_of, has_stepped}
 
--- What a form does: nothing; it goes on as a term, with a text that it prints, at a cost; as a body that it runs, at the cost of 1; it reads a location, and goes on by what stands there, at the cost of 1; it writes to one, at the cost of 1; it makes locations with these values, or one with `()` where there are none, and goes on by the first, at a cost; it calls a set; or it ends its machine.
+-- What a form does: nothing; it goes on as a term, with a text that it prints, at a cost; as a body
+-- that it runs, at the cost of 1; it reads a location, and goes on by what stands there, at the
+-- cost of 1; it writes to one, at the cost of 1; it makes locations with these values, or one with
+-- `()` where there are none, and goes on by the first, at a cost; it calls a set; or it ends its
+-- machine.
 pub data Act : Type 0 where
   stuck : Act
   turns : (next : Term) (output : List ℕ) (cost : ℕ) → Act
@@ -61,12 +66,15 @@ by_standing open_yet f = stuck
 abbrev pub after : Term → (Value → Act) → Act
 after t f = by_standing (standing t) f
 
--- Parts that go from left to right: the first throw is the form's, else the form goes on by all their values.
+-- Parts that go from left to right: the first throw is the form's, else the form goes on by all
+-- their values.
 abbrev pub after_all : List Term → (List Value → Act) → Act
 after_all [] f = f []
 after_all (t ∷ ts) f = after t (λ v. after_all ts (λ vs. f (v ∷ vs)))
 
--- How the parts of a parallel node stand: all at values; a leftmost throw, and each other part finished or passed over; no throw, and no step taken in those that are open; or one of them open in which a step was taken.
+-- How the parts of a parallel node stand: all at values; a leftmost throw, and each other part
+-- finished or passed over; no throw, and no step taken in those that are open; or one of them open
+-- in which a step was taken.
 pub data Together : Type 0 where
   at_values : (values : List Value) → Together
   leftmost : (thrown : Value) → Together
@@ -95,6 +103,7 @@ by_together (leftmost v) f = becomes (throw_of v)
 by_together some_still f = stuck
 by_together some_open f = stuck
 
--- Parts that go beside each other: once each is finished or passed over, the leftmost throw is the node's, else the node goes on by all their values.
+-- Parts that go beside each other: once each is finished or passed over, the leftmost throw is the
+-- node's, else the node goes on by all their values.
 abbrev pub once_all : List Term → (List Value → Act) → Act
 once_all ts f = by_together (standing_together ts) f

@@ -1,4 +1,5 @@
--- Chapter "Atomic": who is awake, which form may be tried, and how an attempt closes. The code has books with lists of reads; here an attempt is what its inner run did.
+-- Chapter "Atomic": who is awake, which form may be tried, and how an attempt closes. The code has
+-- books with lists of reads; here an attempt is what its inner run did.
 use Rattle.std.specs.Prelude.{◌≡◌, ℕ, ◌<◌, Bool, true, false, ◌⊎◌, List, [], ◌∷◌, Option, Some}
 use Rattle.fort_core.specs.declared.form.Mode.{Mode}
 use Rattle.fort_core.specs.declared.form.Mode.TheVariants as mode
@@ -30,7 +31,8 @@ pub record Ready (a : Term) : Type 0 where
   pub unfinished : Finished a → ⊥
   pub no_part : (f : Frame) (b : Term) → a ≡ on f b → Finished b ⊎ (passes f b ≡ true)
 
--- A thread of a machine is awake where it is ready, isn't passed over, and doesn't sleep; whether it has a legal step doesn't matter.
+-- A thread of a machine is awake where it is ready, isn't passed over, and doesn't sleep; whether
+-- it has a legal step doesn't matter.
 pub record Awake (s : Store) (t : Term) (path : List ℕ) : Type 0 where
   pub frames : List Frame
   pub part : Term
@@ -40,14 +42,17 @@ pub record Awake (s : Store) (t : Term) (path : List ℕ) : Type 0 where
   pub reached : passed frames part ≡ false
   pub sleepless : Sleeps s part → ⊥
 
--- A form may be tried where it doesn't sleep, or where no other thread of its machine is awake. Where the rule isn't kept (at `false`) it is left to whoever knows the whole machine.
+-- A form may be tried where it doesn't sleep, or where no other thread of its machine is awake.
+-- Where the rule isn't kept (at `false`) it is left to whoever knows the whole machine.
 abbrev pub MayTry : Bool → Store → Term → List Frame → Term → Type 0
 MayTry false s t fs a = Unit {0}
 MayTry true s t fs a = (Sleeps s a → ⊥) ⊎ ((path : List ℕ) → Awake s t path → path ≡ road fs)
 
--- Marks are what an attempt read of older locations while no write of its own stood, with the values there.
+-- Marks are what an attempt read of older locations while no write of its own stood, with the
+-- values there.
 pub record AreRead (marks : Marks) (d : Effect) : Type 0 where
-  pub were_read : (l : ℕ) (v : Value) → In l v marks → (w : Option Value) × (d.cells l ≡ found (Some v) w)
+  pub were_read : (l : ℕ) (v : Value) → In l v marks
+      → (w : Option Value) × (d.cells l ≡ found (Some v) w)
   pub are_all : (l : ℕ) (v : Value) (w : Option Value) → d.cells l ≡ found (Some v) w → In l v marks
 
 -- A location's number is below all those of marks.
@@ -60,14 +65,23 @@ abbrev pub Rising : Marks → Type 0
 Rising [] = Unit {0}
 Rising (m ∷ ms) = AllAbove m.0.0 ms × Rising ms
 
--- How a run ends, or stands so far: at a term, or aborted by a step of `abort()` in its own machine.
+-- How a run ends, or stands so far: at a term, or aborted by a step of `abort()` in its own
+-- machine.
 pub data Ended : Type 0 where
   goes : (term : Term) → Ended
   aborts : Ended
 
--- What an atomic form becomes by one attempt whose inner run ended so and did so, and what the attempt did: completed at its value; failed with its throw; aborted as `tryatomic`, which throws `TryAtomicFailure`; aborted as `atomic`, which sleeps.
-pub data Closes (p : Program) (m : Mode) (body : Term) (r : Ended) (d : Effect) (b : Term) (e : Effect) : Type 0 where
-  completed : (v : Value) → r ≡ goes (term.Value v) → b ≡ term.Value v → e ≡ completing d → Closes p m body r d b e
-  failed : (v : Value) → r ≡ goes (throw_of v) → b ≡ throw_of v → e ≡ failing d → Closes p m body r d b e
-  gave_up : (v : Value) → r ≡ aborts → m ≡ mode.Try → single p p.built_in.try_atomic_failure ≡ Some v → b ≡ throw_of v → e ≡ aborting d → Closes p m body r d b e
-  fell_asleep : (marks : Marks) → r ≡ aborts → m ≡ mode.Atomic → AreRead marks d → Rising marks → b ≡ Asleep marks body → e ≡ aborting d → Closes p m body r d b e
+-- What an atomic form becomes by one attempt whose inner run ended so and did so, and what the
+-- attempt did: completed at its value; failed with its throw; aborted as `tryatomic`, which throws
+-- `TryAtomicFailure`; aborted as `atomic`, which sleeps.
+pub data Closes (p : Program) (m : Mode) (body : Term) (r : Ended) (d : Effect) (b : Term)
+    (e : Effect) : Type 0 where
+  completed : (v : Value) → r ≡ goes (term.Value v) → b ≡ term.Value v → e ≡ completing d
+      → Closes p m body r d b e
+  failed : (v : Value) → r ≡ goes (throw_of v) → b ≡ throw_of v → e ≡ failing d
+      → Closes p m body r d b e
+  gave_up : (v : Value) → r ≡ aborts → m ≡ mode.Try
+      → single p p.built_in.try_atomic_failure ≡ Some v → b ≡ throw_of v → e ≡ aborting d
+      → Closes p m body r d b e
+  fell_asleep : (marks : Marks) → r ≡ aborts → m ≡ mode.Atomic → AreRead marks d → Rising marks
+      → b ≡ Asleep marks body → e ≡ aborting d → Closes p m body r d b e

@@ -1,4 +1,5 @@
--- Chapter "Calls": which declaration a call runs, and what it does then. The definition asks every declaration of the set; the code looks values up in tables.
+-- Chapter "Calls": which declaration a call runs, and what it does then. The definition asks every
+-- declaration of the set; the code looks values up in tables.
 use Rattle.std.specs.Prelude.{◌≡◌, ◌≢◌, ℕ, ◌+◌, List, [], ◌∷◌, ◌++◌, map, slice_get, Contains, filter_map, IsTrue, Option, Some, None}
 use Rattle.fort_base.specs.declared.ids.DeclId.{DeclId}
 use Rattle.fort_base.specs.declared.ids.SetId.{SetId}
@@ -21,8 +22,10 @@ use Rattle.fort_machine.specs.Substitution.{substituted_all}
 use Rattle.fort_machine.specs.Acts.{Act, stuck, turns, enters, makes, becomes, unit, throwing}
 use Rattle.fort_machine.specs.Acts as acts
 
--- A declaration of a set is applicable to types where it has as many parameters and each type is below its parameter.
-pub record IsApplicable (p : Program) (set : SetId) (types : List Ty) (d : DeclId) (decl : CoreDecl) : Type 0 where
+-- A declaration of a set is applicable to types where it has as many parameters and each type is
+-- below its parameter.
+pub record IsApplicable (p : Program) (set : SetId) (types : List Ty) (d : DeclId)
+    (decl : CoreDecl) : Type 0 where
   pub members : CoreSet
   pub is_set : slice_get p.sets set.0 ≡ Some members
   pub is_member : Contains members.decls d
@@ -33,22 +36,28 @@ pub record IsApplicable (p : Program) (set : SetId) (types : List Ty) (d : DeclI
 abbrev pub IsMoreSpecific : Program → CoreDecl → CoreDecl → Type 0
 IsMoreSpecific p decl other = IsTrue (all_below p decl.parameters other.parameters)
 
--- A declaration is most specific where it is applicable, and more specific than each other applicable one.
-pub record IsMostSpecific (p : Program) (set : SetId) (types : List Ty) (d : DeclId) (decl : CoreDecl) : Type 0 where
+-- A declaration is most specific where it is applicable, and more specific than each other
+-- applicable one.
+pub record IsMostSpecific (p : Program) (set : SetId) (types : List Ty) (d : DeclId)
+    (decl : CoreDecl) : Type 0 where
   pub applicable : IsApplicable p set types d decl
-  pub over_others : (e : DeclId) (other : CoreDecl) → IsApplicable p set types e other → e ≢ d → IsMoreSpecific p decl other
+  pub over_others : (e : DeclId) (other : CoreDecl) → IsApplicable p set types e other → e ≢ d
+      → IsMoreSpecific p decl other
 
 -- A call of values runs the one most specific declaration.
-pub record Dispatches (p : Program) (set : SetId) (values : List Value) (d : DeclId) (decl : CoreDecl) : Type 0 where
+pub record Dispatches (p : Program) (set : SetId) (values : List Value) (d : DeclId)
+    (decl : CoreDecl) : Type 0 where
   pub most_specific : IsMostSpecific p set (map (type_of p) values) d decl
-  pub no_other : (e : DeclId) (other : CoreDecl) → IsMostSpecific p set (map (type_of p) values) e other → e ≡ d
+  pub no_other : (e : DeclId) (other : CoreDecl)
+      → IsMostSpecific p set (map (type_of p) values) e other → e ≡ d
 
 -- The values of parameters, by their numbers from one on.
 abbrev pub by_number : ℕ → List Value → List (ℕ × Value)
 by_number n [] = []
 by_number n (v ∷ vs) = (n, v) ∷ by_number (n + 1) vs
 
--- The answer of a built-in declaration, with its cost: 1, and the bytes of a text that it makes or prints.
+-- The answer of a built-in declaration, with its cost: 1, and the bytes of a text that it makes or
+-- prints.
 abbrev pub by_answer : Program → Answer → Act
 by_answer p (gives v) = becomes (term.Value v)
 by_answer p (makes_text s) = turns (term.Value (Text s)) [] (1 + length s)
@@ -61,9 +70,12 @@ by_answer p nothing = stuck
 abbrev pub constants : CoreShape → List Value
 constants s = filter_map (λ (f : CoreField). f.initial) s.fields
 
--- A new object has a location for each field: its parameters, with the values that are passed, then the fields of its body, with their constants. That as many are passed as it has parameters is no part of this definition; it is so in a program as it is written (`Constructs`).
+-- A new object has a location for each field: its parameters, with the values that are passed, then
+-- the fields of its body, with their constants. That as many are passed as it has parameters is no
+-- part of this definition; it is so in a program as it is written (`Constructs`).
 abbrev pub constructing : TypeId → List Value → Option CoreShape → Act
-constructing id vs (Some s) = makes (vs ++ constants s) (λ l. term.Value (Object id (record { 0 = l }))) 1
+constructing id vs (Some s) =
+    makes (vs ++ constants s) (λ l. term.Value (Object id (record { 0 = l }))) 1
 constructing id vs None = stuck
 
 -- What a declaration does that values are passed to.

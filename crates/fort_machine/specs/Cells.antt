@@ -1,8 +1,11 @@
--- Chapter "Store and effects": what a stretch of a run does at one location. The code keeps lists of what was read, written and made; here each location has one cell.
+-- Chapter "Store and effects": what a stretch of a run does at one location. The code keeps lists
+-- of what was read, written and made; here each location has one cell.
 use Rattle.std.specs.Prelude.{◌≡◌, Option, Some, None}
 use Rattle.fort_core.specs.declared.value.Value.{Value}
 
--- A location is left alone; or it was there before, with the value that was read while no write of the stretch stood, and the value last written; or it was made, with its value, or with none where an abort took it away.
+-- A location is left alone; or it was there before, with the value that was read while no write of
+-- the stretch stood, and the value last written; or it was made, with its value, or with none where
+-- an abort took it away.
 pub data Cell : Type 0 where
   untouched : Cell
   found : (read now : Option Value) → Cell
@@ -32,7 +35,8 @@ abbrev pub Agrees : Option Value → Option Value → Type 0
 Agrees (Some v) (Some w) = v ≡ w
 Agrees a b = Unit {0}
 
--- What a store has at the location suits the stretch: what it found is there, with the value that it read, and what it made isn't.
+-- What a store has at the location suits the stretch: what it found is there, with the value that
+-- it read, and what it made isn't.
 abbrev pub Fits : Cell → Option Value → Type 0
 Fits untouched o = Unit {0}
 Fits (found r w) None = ⊥
@@ -57,7 +61,8 @@ Meets (made None) (found r' w') = ⊥
 Meets (made (Some v)) (made w') = ⊥
 Meets (made None) (made w') = Unit {0}
 
--- What a failed attempt does: it has read what it read, its writes to older locations are void, and what it made stands.
+-- What a failed attempt does: it has read what it read, its writes to older locations are void, and
+-- what it made stands.
 abbrev pub given_back : Cell → Cell
 given_back untouched = untouched
 given_back (found r w) = found r None

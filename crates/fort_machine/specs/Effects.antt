@@ -1,4 +1,5 @@
--- Chapter "Store and effects": the store, and what a stretch of a run does in all. The code has a map, and the four lists of a stretch.
+-- Chapter "Store and effects": the store, and what a stretch of a run does in all. The code has a
+-- map, and the four lists of a stretch.
 use Rattle.std.specs.Prelude.{ℕ, ◌+◌, ◌==◌, if◌then◌else◌, List, [], ◌∷◌, ◌++◌, Option, Some, None}
 use Rattle.fort_core.specs.declared.value.Value.{Value}
 use Rattle.fort_machine.specs.Cells.{Cell, untouched, found, made, joined, Fits, left_at, Meets, given_back, taken_away}
@@ -48,7 +49,12 @@ making l vs cost = record (paid cost) { cells = made_from l vs }
 
 -- Two stretches, one after the other: cells join, output is appended, costs add up.
 abbrev pub both : Effect → Effect → Effect
-both d e = record { cells = λ l. joined (d.cells l) (e.cells l); output = d.output ++ e.output; cost = d.cost + e.cost }
+both d e =
+    record {
+      cells = λ l. joined (d.cells l) (e.cells l);
+      output = d.output ++ e.output;
+      cost = d.cost + e.cost;
+    }
 
 -- A store suits a stretch where it does so at each location.
 abbrev pub FitsAll : Effect → Store → Type 0
@@ -66,10 +72,12 @@ afterwards d s = λ l. left_at (d.cells l) (s l)
 abbrev pub completing : Effect → Effect
 completing d = both (paid 1) d
 
--- A failed attempt: 1 and what its inner run cost; older locations are given back, and nothing is printed.
+-- A failed attempt: 1 and what its inner run cost; older locations are given back, and nothing is
+-- printed.
 abbrev pub failing : Effect → Effect
 failing d = record { cells = λ l. given_back (d.cells l); output = []; cost = 1 + d.cost }
 
--- An aborted attempt: 1 and what its inner run cost; the store is as before, and nothing is printed.
+-- An aborted attempt: 1 and what its inner run cost; the store is as before, and nothing is
+-- printed.
 abbrev pub aborting : Effect → Effect
 aborting d = record { cells = λ l. taken_away (d.cells l); output = []; cost = 1 + d.cost }

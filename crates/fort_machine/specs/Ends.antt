@@ -1,4 +1,5 @@
--- Chapter "Terms and threads": how a term stands, and a tuple, which is a value once its parts are. The code keeps an environment and frames in place of terms.
+-- Chapter "Terms and threads": how a term stands, and a tuple, which is a value once its parts are.
+-- The code keeps an environment and frames in place of terms.
 use Rattle.std.specs.Prelude.{◌≡◌, nat_le, Bool, true, false, not, if◌then◌else◌, List, [], ◌∷◌, Option, Some, None, option_map, option_and_then}
 use Rattle.fort_core.specs.declared.term.Term.{Term, Throw, Group, Stepped, out-Term}
 use Rattle.fort_core.specs.declared.term.Term as term
@@ -45,11 +46,13 @@ value_at _ = None
 -- The values of terms that all are values.
 abbrev pub values_of : List Term → Option (List Value)
 values_of [] = Some []
-values_of (t ∷ ts) = option_and_then (λ v. option_map (λ vs. v ∷ vs) (values_of ts)) (value_at (standing t))
+values_of (t ∷ ts) =
+    option_and_then (λ v. option_map (λ vs. v ∷ vs) (values_of ts)) (value_at (standing t))
 
 -- A tuple that isn't too deep is a value.
 abbrev pub tuple_of : List Term → Option (List Value) → Term
-tuple_of ts (Some vs) = if nat_le (depth (Tuple vs)) deepest then term.Value (Tuple vs) else Group ts
+tuple_of ts (Some vs) = if nat_le (depth (Tuple vs)) deepest then term.Value (Tuple vs)
+    else Group ts
 tuple_of ts None = Group ts
 
 -- The term `(a, b)`: the tuple itself where all parts are values and it isn't too deep.

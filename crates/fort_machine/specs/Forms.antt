@@ -1,4 +1,5 @@
--- Chapter "Steps and costs": the table of steps, a row for each form. The code has a function for each row.
+-- Chapter "Steps and costs": the table of steps, a row for each form. The code has a function for
+-- each row.
 use Rattle.std.specs.Prelude.{ℕ, ◌+◌, ◌==◌, nat_lt, nat_le, true, false, if◌then◌else◌, List, [], ◌∷◌, ◌++◌, replicate, slice_get, Option, Some, None, option_map, option_and_then, pos, negsuc}
 use Rattle.fort_base.specs.declared.ids.NameId.{NameId}
 use Rattle.fort_base.specs.declared.ty.Ty.{Ty}
@@ -38,7 +39,8 @@ applying _ = stuck
 
 -- A new array of n elements costs 1 + n; below 0 it is `NegativeSize`.
 abbrev pub filling : Program → Ty → Value → ValueKind → Act
-filling p ty v (Value-F.Small (pos n)) = makes (replicate n v) (λ l. term.Value (Array ty (record { 0 = l }) n)) (1 + n)
+filling p ty v (Value-F.Small (pos n)) =
+    makes (replicate n v) (λ l. term.Value (Array ty (record { 0 = l }) n)) (1 + n)
 filling p ty v (Value-F.Small (negsuc n)) = throwing p p.built_in.negative_size
 filling p ty v _ = stuck
 
@@ -70,14 +72,18 @@ place_of f (c ∷ cs) = if c.name.0 == f.0 then Some 0 else option_map (λ n. n 
 -- The location of an object's field.
 abbrev pub field_of : Program → NameId → ValueKind → Option ℕ
 field_of p f (Value-F.Object id base) =
-    option_and_then (λ (s : CoreShape). option_map (λ n. base.0 + n) (place_of f s.fields)) (slice_get p.shapes id.0)
+    option_and_then (λ
+    (s : CoreShape). option_map (λ n. base.0 + n) (place_of f s.fields))
+    (slice_get p.shapes id.0)
 field_of p f _ = None
 
--- Goes on by the location of an array's element; an index below 0 or not below the size is `IndexOutOfRange`.
+-- Goes on by the location of an array's element; an index below 0 or not below the size is
+-- `IndexOutOfRange`.
 abbrev pub by_element : Program → ValueKind → ValueKind → (Option ℕ → Act) → Act
 by_element p (Value-F.Array element base size) (Value-F.Small (pos i)) f =
     if nat_lt i size then f (Some (base.0 + i)) else throwing p p.built_in.index_out_of_range
-by_element p (Value-F.Array element base size) (Value-F.Small (negsuc i)) f = throwing p p.built_in.index_out_of_range
+by_element p (Value-F.Array element base size) (Value-F.Small (negsuc i)) f =
+    throwing p p.built_in.index_out_of_range
 by_element p _ _ f = stuck
 
 -- The number of an array's elements.
@@ -101,17 +107,21 @@ abbrev pub finally_then : Option Term → Term → Term
 finally_then None t = t
 finally_then (Some last) t = Then last t
 
--- A `try` of a value goes on to it; of a throw to the first clause for what is thrown, else to the throw; the `finally` before them.
+-- A `try` of a value goes on to it; of a throw to the first clause for what is thrown, else to the
+-- throw; the `finally` before them.
 abbrev pub trying : Program → ℕ → List (Term × Ty) → Option Term → Standing → Act
 trying p x clauses last (at_value v) = becomes (finally_then last (term.Value v))
-trying p x clauses last (at_throw v) = becomes (finally_then last (clause_for p v clauses (throw_of v) (substituted x v)))
+trying p x clauses last (at_throw v) =
+    becomes (finally_then last (clause_for p v clauses (throw_of v) (substituted x v)))
 trying p x clauses last open_yet = stuck
 
--- Above the greatest depth it is `DepthExceeded`; up to it the form stands for its value and has no step.
+-- Above the greatest depth it is `DepthExceeded`; up to it the form stands for its value and has no
+-- step.
 abbrev pub too_deep : Program → ℕ → Act
 too_deep p n = if nat_le n deepest then stuck else throwing p p.built_in.depth_exceeded
 
--- What each form does. A form that isn't in the table has no step: it is finished, open, or goes by attempts.
+-- What each form does. A form that isn't in the table has no step: it is finished, open, or goes by
+-- attempts.
 abbrev pub act_at : Program → Term-F Term Value Closure → Act
 act_at p (Term-F.Call set arguments) = once_all arguments (calls set)
 act_at p (Term-F.Operator set operands) = after_all operands (calls set)
@@ -122,15 +132,19 @@ act_at p (Term-F.Mutable x ty a b) = after a (λ v. makes (v ∷ []) (λ l. loca
 act_at p (Term-F.Read x) = reading_at (location_of x)
 act_at p (Term-F.Write x a) = after a (writing_at (location_of x))
 act_at p (Term-F.ReadField o f) = after o (λ v. reading_at (field_of p f (out-Value v)))
-act_at p (Term-F.WriteField o f a) = after o (λ v. after a (writing_at (field_of p f (out-Value v))))
-act_at p (Term-F.ReadElement a i) = after a (λ v. after i (λ w. by_element p (out-Value v) (out-Value w) reading_at))
+act_at p (Term-F.WriteField o f a) =
+    after o (λ v. after a (writing_at (field_of p f (out-Value v))))
+act_at p (Term-F.ReadElement a i) =
+    after a (λ v. after i (λ w. by_element p (out-Value v) (out-Value w) reading_at))
 act_at p (Term-F.WriteElement a i b) =
-    after a (λ v. after i (λ w. after b (λ u. by_element p (out-Value v) (out-Value w) (λ l. writing_at l u))))
+    after a (λ v. after i
+    (λ w. after b (λ u. by_element p (out-Value v) (out-Value w) (λ l. writing_at l u))))
 act_at p (Term-F.Size a) = after a (λ v. sizing (out-Value v))
 act_at p (Term-F.Then a b) = after a (λ v. becomes b)
 act_at p (Term-F.If c a b) = after c (λ v. choosing (out-Value v) a b)
 act_at p (Term-F.While c b) = becomes (If c (Then b (While c b)) (term.Value unit))
-act_at p (Term-F.Typecase x a cs b) = after a (λ v. becomes (clause_for p v cs (substituted x v b) (substituted x v)))
+act_at p (Term-F.Typecase x a cs b) =
+    after a (λ v. becomes (clause_for p v cs (substituted x v b) (substituted x v)))
 act_at p (Term-F.For o s x a b) = after a (λ v. generating o s x v b)
 act_at p (Term-F.ForHalves a b) = once_all (a ∷ b ∷ []) (λ vs. becomes (term.Value unit))
 act_at p (Term-F.Reduce o s set empty x a b) = after a (λ v. reducing o s set empty x v b)

@@ -1,4 +1,5 @@
--- Chapter "Terms and threads": what stands round a part that steps, and the paths of threads. The code keeps a list of frames beside a term; here a frame is a term with one part left out.
+-- Chapter "Terms and threads": what stands round a part that steps, and the paths of threads. The
+-- code keeps a list of frames beside a term; here a frame is a term with one part left out.
 use Rattle.std.specs.Prelude.{ℕ, Bool, false, ◌&&◌, ◌||◌, List, [], ◌∷◌, ◌++◌, map, length, Option}
 use Rattle.std.specs.List.{list_any}
 use Rattle.fort_base.specs.declared.ids.NameId.{NameId}
@@ -12,7 +13,9 @@ use Rattle.fort_core.specs.declared.term.Term as term
 use Rattle.fort_core.specs.declared.value.Value.{Value}
 use Rattle.fort_machine.specs.Ends.{group, stepped, is_still, is_thrown}
 
--- A term with one part left out. First the parallel nodes, any part of which may be left out; then the forms that go from left to right, whose parts before the one that is left out are values. Last the mark that a step was taken in a part of a parallel node.
+-- A term with one part left out. First the parallel nodes, any part of which may be left out; then
+-- the forms that go from left to right, whose parts before the one that is left out are values.
+-- Last the mark that a step was taken in a part of a parallel node.
 pub data Frame : Type 0 where
   in_group : (before behind : List Term) → Frame
   in_call : (set : SetId) (before behind : List Term) → Frame
@@ -43,7 +46,8 @@ pub data Frame : Type 0 where
   in_test : (first second : Term) → Frame
   in_subject : (variable : ℕ) (clauses : List (Term × Ty)) (other : Term) → Frame
   in_source : (order : Order) (span : Span) (variable : ℕ) (body : Term) → Frame
-  in_reduced_source : (order : Order) (span : Span) (set : SetId) (empty : Term) (variable : ℕ) (body : Term) → Frame
+  in_reduced_source : (order : Order) (span : Span) (set : SetId) (empty : Term) (variable : ℕ)
+      (body : Term) → Frame
   in_try : (variable : ℕ) (clauses : List (Term × Ty)) (last : Option Term) → Frame
   in_stepped : Frame
 
@@ -78,7 +82,8 @@ on (in_then rest) t = Then t rest
 on (in_test first second) t = If t first second
 on (in_subject variable clauses other) t = Typecase variable t clauses other
 on (in_source order span variable body) t = For order span variable t body
-on (in_reduced_source order span set empty variable body) t = Reduce order span set empty variable t body
+on (in_reduced_source order span set empty variable body) t =
+    Reduce order span set empty variable t body
 on (in_try variable clauses last) t = Try t variable clauses last
 on in_stepped t = stepped t
 
@@ -87,7 +92,8 @@ abbrev pub plug : List Frame → Term → Term
 plug [] t = t
 plug (f ∷ fs) t = on f (plug fs t)
 
--- The number of the part that is left out; in a form that goes from left to right the part is of the same thread.
+-- The number of the part that is left out; in a form that goes from left to right the part is of
+-- the same thread.
 abbrev pub part_number : Frame → List ℕ
 part_number (in_group before behind) = length before ∷ []
 part_number (in_call set before behind) = length before ∷ []
@@ -118,7 +124,8 @@ beside (in_second_reduced set first) = first ∷ []
 beside (in_block before behind) = before ++ behind
 beside _ = []
 
--- Whether a part is passed over: it isn't finished, no step was taken in it, and a part beside it is a throw.
+-- Whether a part is passed over: it isn't finished, no step was taken in it, and a part beside it
+-- is a throw.
 abbrev pub passes : Frame → Term → Bool
 passes f t = list_any is_thrown (beside f) && is_still t
 

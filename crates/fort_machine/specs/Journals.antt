@@ -1,4 +1,5 @@
--- Chapter "Journals": the runs of a program, how they end, and what a journal of one is. The code replays a journal pick by pick.
+-- Chapter "Journals": the runs of a program, how they end, and what a journal of one is. The code
+-- replays a journal pick by pick.
 use Rattle.std.specs.Prelude.{◌≡◌, ℕ, ◌+◌, ◌^◌, ◌==◌, ◌<◌, ◌≤◌, true, false, if◌then◌else◌, List, [], ◌∷◌, Option, Some, None, ◌⊎◌}
 use Rattle.fort_base.specs.declared.ids.Loc.{Loc}
 use Rattle.fort_core.specs.declared.journal.Ending.{Ending}
@@ -29,14 +30,17 @@ opening_store p = value_in p.opening
 abbrev pub MakesWithinBounds : Effect → Type 0
 MakesWithinBounds d = (l : ℕ) (v : Option Value) → d.cells l ≡ made v → l < 2 ^ 64
 
--- A run of a program: picks from its first term and its opening store, with the term, and what was done.
+-- A run of a program: picks from its first term and its opening store, with the term, and what was
+-- done.
 pub record IsRun (p : Program) (picks : List Pick) (t : Term) (d : Effect) : Type 0 where
   pub runs : Runs p false true (opening_store p) picks p.first (goes t) d
   pub bounded : MakesWithinBounds d
 
--- What comes next where the fuel is out: a legal pick, or an attempt that isn't finished, with what it does.
+-- What comes next where the fuel is out: a legal pick, or an attempt that isn't finished, with what
+-- it does.
 abbrev pub IsNext : Program → Store → Term → Pick → Effect → Type 0
-IsNext p s t pick e = ((r : Ended) × Runs p false true s (pick ∷ []) t r e) ⊎ Begun p true s pick t e
+IsNext p s t pick e = ((r : Ended) × Runs p false true s (pick ∷ []) t r e)
+    ⊎ Begun p true s pick t e
 
 -- The pick that was next, and whose cost passes the fuel that was left.
 pub record PassesFuel (p : Program) (fuel : ℕ) (t : Term) (d : Effect) (pick : Pick) : Type 0 where
@@ -45,14 +49,16 @@ pub record PassesFuel (p : Program) (fuel : ℕ) (t : Term) (d : Effect) (pick :
   pub bounded : MakesWithinBounds effect
   pub passes : fuel < d.cost + effect.cost
 
--- How a run ends that came to a term: completed at `()`, uncaught at a throw, out of fuel before a pick that passes it. No run at all is no ending of one.
+-- How a run ends that came to a term: completed at `()`, uncaught at a throw, out of fuel before a
+-- pick that passes it. No run at all is no ending of one.
 abbrev pub Ends : Program → ℕ → Term → Effect → Ending → Type 0
 Ends p fuel t d NotRun = ⊥
 Ends p fuel t d Completed = t ≡ term.Value unit
 Ends p fuel t d (Uncaught v) = t ≡ throw_of v
 Ends p fuel t d (OutOfFuel pick) = PassesFuel p fuel t d pick
 
--- A journal is that of a run where its picks are one within its fuel, and end as it says; with the term to which they came, and what was done.
+-- A journal is that of a run where its picks are one within its fuel, and end as it says; with the
+-- term to which they came, and what was done.
 pub record Records (p : Program) (j : Journal) (t : Term) (d : Effect) : Type 0 where
   pub is_run : IsRun p j.picks t d
   pub within_fuel : d.cost ≤ j.fuel

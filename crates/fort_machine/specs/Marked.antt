@@ -1,4 +1,5 @@
--- Chapter "Atomic": which forms of a term sleep, and what they watch. The code has it from the marks of its tasks.
+-- Chapter "Atomic": which forms of a term sleep, and what they watch. The code has it from the
+-- marks of its tasks.
 use Rattle.std.specs.Prelude.{◌≡◌, ℕ, Bool, true, false, List, [], ◌∷◌, ◌⊎◌}
 use Rattle.std.specs.List.{list_any}
 use Rattle.fort_base.specs.declared.ids.Loc.{Loc}
@@ -27,10 +28,12 @@ dozes_at form = list_any (λ b. b) (parts_of form)
 abbrev pub dozes : Term → Bool
 dozes = fold-Term Bool (Unit {0}) Bool dozes_at (λ v. tt) (λ c. c.body)
 
--- A term is bare where no form of it sleeps. Every body that is run is so: of a declaration, of a function, of an attempt.
+-- A term is bare where no form of it sleeps. Every body that is run is so: of a declaration, of a
+-- function, of an attempt.
 abbrev pub Bare : Term → Type 0
 Bare t = dozes t ≡ false
 
 -- Two stores agree wherever a sleeping form of a term watches.
 abbrev pub Alike : Store → Store → Term → Type 0
-Alike s s' t = (marks : Marks) (body : Term) → Inside (Asleep marks body) t → (l : ℕ) (v : Value) → In l v marks → s l ≡ s' l
+Alike s s' t = (marks : Marks) (body : Term) → Inside (Asleep marks body) t → (l : ℕ) (v : Value)
+    → In l v marks → s l ≡ s' l

@@ -1,4 +1,5 @@
--- Chapter "Built-in declarations": what the operators on numbers give, before it is asked whether that fits their type. The code asks as it computes.
+-- Chapter "Built-in declarations": what the operators on numbers give, before it is asked whether
+-- that fits their type. The code asks as it computes.
 use Rattle.std.specs.Prelude.{ℕ, zero, suc, ◌-◌, ◌*◌, ◌/◌, ◌%◌, ◌^◌, ◌==◌, nat_lt, Bool, false, ◌&&◌, ◌||◌, if◌then◌else◌, ℤ, pos, negsuc, ◌+ℤ◌, ◌-ℤ◌, ◌*ℤ◌, unsigned_abs, int_lt, int_div, int_rem}
 use Rattle.std.specs.Int.{Width, w64, int_pow, int_shr}
 use Rattle.std.specs.Ordering.{int_eq}
@@ -61,7 +62,8 @@ divides (suc d) a = a % suc d == 0
 -- The greatest number up to a bound that divides both, and 0 where there is none.
 abbrev pub common_up_to : ℕ → ℕ → ℕ → ℕ
 common_up_to a b zero = 0
-common_up_to a b (suc d) = if divides (suc d) a && divides (suc d) b then suc d else common_up_to a b d
+common_up_to a b (suc d) = if divides (suc d) a && divides (suc d) b then suc d
+    else common_up_to a b d
 
 -- The greatest number that divides both; of 0 and 0 it is 0, of 0 and another one that one.
 abbrev pub common_divisor : ℕ → ℕ → ℕ

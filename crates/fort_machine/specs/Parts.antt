@@ -16,7 +16,8 @@ IsOneOf a (b ∷ bs) = (a ≡ b) ⊎ IsOneOf a bs
 abbrev pub in_clauses : {A : Type 0} → List (A × Ty) → List A
 in_clauses {A = A} cs = map (λ (c : A × Ty). c.0) cs
 
--- What stands directly in a form, bodies, rests and clauses included, but for the body of a function.
+-- What stands directly in a form, bodies, rests and clauses included, but for the body of a
+-- function.
 abbrev pub parts_of : {A B C : Type 0} → Term-F A B C → List A
 parts_of (Term-F.Throw a) = a ∷ []
 parts_of (Term-F.Group parts) = parts

@@ -1,4 +1,5 @@
--- Chapter "Built-in declarations": the answer of each. The code computes on machine numbers; here numbers are numbers, and what passes a type's range is found by its range.
+-- Chapter "Built-in declarations": the answer of each. The code computes on machine numbers; here
+-- numbers are numbers, and what passes a type's range is found by its range.
 use Rattle.std.specs.Prelude.{ℕ, Bool, true, false, not, ◌&&◌, ◌||◌, if◌then◌else◌, List, [], ◌∷◌, ◌++◌, map, length, chars, bytes_eq, ℤ, pos, neg_ℤ, ◌+ℤ◌, ◌-ℤ◌, ◌*ℤ◌, unsigned_abs, int_lt, int_le}
 use Rattle.std.specs.Int.{w32, w64, int_min, int_max, int_bit_and, int_bit_or, int_bit_xor}
 use Rattle.std.specs.Ordering.{int_eq}
@@ -13,7 +14,10 @@ use Rattle.fort_core.specs.declared.value.Value.{Value, Small, Large, Truth, Ran
 use Rattle.fort_machine.specs.Numbers.{Figure, number, too_large, by_zero, below_zero, within, is_within, quotient, remainder, modulus, greatest_divisor, least_multiple, shifted_left, shifted_right, power, last_of}
 use Rattle.fort_machine.specs.Texts.{text, same}
 
--- What a built-in declaration answers: a value, a text that it makes, a throw of a built-in exception, a text that it prints, the end of its machine, or nothing where it is given other kinds of values than it computes with. What joins texts computes with all kinds, since each value has a text.
+-- What a built-in declaration answers: a value, a text that it makes, a throw of a built-in
+-- exception, a text that it prints, the end of its machine, or nothing where it is given other
+-- kinds of values than it computes with. What joins texts computes with all kinds, since each value
+-- has a text.
 pub data Answer : Type 0 where
   gives : (value : Value) → Answer
   makes_text : (text : List ℕ) → Answer
@@ -112,7 +116,8 @@ count_to a b = if int_lt b a then 0 else unsigned_abs ((b -ℤ a) +ℤ pos 1)
 abbrev pub counted : Program → ℤ → ℤ → Answer
 counted p a n =
     if int_lt n (pos 1) then gives (Range a 0)
-    else (if is_within w32 (last_of a (unsigned_abs n)) then gives (Range a (unsigned_abs n)) else throws p.built_in.integer_overflow)
+    else (if is_within w32 (last_of a (unsigned_abs n)) then gives (Range a (unsigned_abs n))
+    else throws p.built_in.integer_overflow)
 
 -- The text of two values, the second after the first.
 abbrev pub joined_texts : Program → Value → Value → Answer
@@ -134,8 +139,10 @@ answer_of p primitive.MaxSmall vs = small p (λ a b. number (int_max a b)) (map 
 answer_of p primitive.MaxLarge vs = large p (λ a b. number (int_max a b)) (map out-Value vs)
 answer_of p primitive.MinSmall vs = small p (λ a b. number (int_min a b)) (map out-Value vs)
 answer_of p primitive.MinLarge vs = large p (λ a b. number (int_min a b)) (map out-Value vs)
-answer_of p primitive.NegateSmall vs = one_small (λ a. as_value p Small (within w32 (number (neg_ℤ a)))) (map out-Value vs)
-answer_of p primitive.NegateLarge vs = one_large (λ a. as_value p Large (within w64 (number (neg_ℤ a)))) (map out-Value vs)
+answer_of p primitive.NegateSmall vs =
+    one_small (λ a. as_value p Small (within w32 (number (neg_ℤ a)))) (map out-Value vs)
+answer_of p primitive.NegateLarge vs =
+    one_large (λ a. as_value p Large (within w64 (number (neg_ℤ a)))) (map out-Value vs)
 answer_of p primitive.DivideSmall vs = small p quotient (map out-Value vs)
 answer_of p primitive.DivideLarge vs = large p quotient (map out-Value vs)
 answer_of p primitive.RemainderSmall vs = small p remainder (map out-Value vs)
@@ -146,12 +153,18 @@ answer_of p primitive.GcdSmall vs = small p greatest_divisor (map out-Value vs)
 answer_of p primitive.GcdLarge vs = large p greatest_divisor (map out-Value vs)
 answer_of p primitive.LcmSmall vs = small p least_multiple (map out-Value vs)
 answer_of p primitive.LcmLarge vs = large p least_multiple (map out-Value vs)
-answer_of p primitive.BitAndSmall vs = small p (λ a b. number (int_bit_and w32 a b)) (map out-Value vs)
-answer_of p primitive.BitAndLarge vs = large p (λ a b. number (int_bit_and w64 a b)) (map out-Value vs)
-answer_of p primitive.BitOrSmall vs = small p (λ a b. number (int_bit_or w32 a b)) (map out-Value vs)
-answer_of p primitive.BitOrLarge vs = large p (λ a b. number (int_bit_or w64 a b)) (map out-Value vs)
-answer_of p primitive.BitXorSmall vs = small p (λ a b. number (int_bit_xor w32 a b)) (map out-Value vs)
-answer_of p primitive.BitXorLarge vs = large p (λ a b. number (int_bit_xor w64 a b)) (map out-Value vs)
+answer_of p primitive.BitAndSmall vs =
+    small p (λ a b. number (int_bit_and w32 a b)) (map out-Value vs)
+answer_of p primitive.BitAndLarge vs =
+    large p (λ a b. number (int_bit_and w64 a b)) (map out-Value vs)
+answer_of p primitive.BitOrSmall vs =
+    small p (λ a b. number (int_bit_or w32 a b)) (map out-Value vs)
+answer_of p primitive.BitOrLarge vs =
+    large p (λ a b. number (int_bit_or w64 a b)) (map out-Value vs)
+answer_of p primitive.BitXorSmall vs =
+    small p (λ a b. number (int_bit_xor w32 a b)) (map out-Value vs)
+answer_of p primitive.BitXorLarge vs =
+    large p (λ a b. number (int_bit_xor w64 a b)) (map out-Value vs)
 answer_of p primitive.ShiftLeftSmall vs = small p (shifted_left w32) (map out-Value vs)
 answer_of p primitive.ShiftLeftLarge vs = large p (shifted_left w64) (map out-Value vs)
 answer_of p primitive.ShiftRightSmall vs = small p (shifted_right w32) (map out-Value vs)
@@ -170,15 +183,19 @@ answer_of p primitive.GreaterSmall vs = small_test (λ a b. int_lt b a) (map out
 answer_of p primitive.GreaterLarge vs = large_test (λ a b. int_lt b a) (map out-Value vs)
 answer_of p primitive.AtLeastSmall vs = small_test (λ a b. int_le b a) (map out-Value vs)
 answer_of p primitive.AtLeastLarge vs = large_test (λ a b. int_le b a) (map out-Value vs)
-answer_of p primitive.EqualTexts vs = two_texts (λ s r. gives (Truth (bytes_eq s r))) (map out-Value vs)
-answer_of p primitive.UnequalTexts vs = two_texts (λ s r. gives (Truth (not (bytes_eq s r)))) (map out-Value vs)
+answer_of p primitive.EqualTexts vs =
+    two_texts (λ s r. gives (Truth (bytes_eq s r))) (map out-Value vs)
+answer_of p primitive.UnequalTexts vs =
+    two_texts (λ s r. gives (Truth (not (bytes_eq s r)))) (map out-Value vs)
 answer_of p primitive.EqualTruths vs = two_truths equal_truths (map out-Value vs)
-answer_of p primitive.UnequalTruths vs = two_truths (λ a b. not (equal_truths a b)) (map out-Value vs)
+answer_of p primitive.UnequalTruths vs =
+    two_truths (λ a b. not (equal_truths a b)) (map out-Value vs)
 answer_of p primitive.Same vs = two_values (λ a b. gives (Truth (same a b))) vs
 answer_of p primitive.And vs = two_truths (λ a b. a && b) (map out-Value vs)
 answer_of p primitive.Or vs = two_truths (λ a b. a || b) (map out-Value vs)
 answer_of p primitive.Not vs = one_truth not (map out-Value vs)
-answer_of p primitive.RangeTo vs = two_small (λ a b. gives (Range a (count_to a b))) (map out-Value vs)
+answer_of p primitive.RangeTo vs =
+    two_small (λ a b. gives (Range a (count_to a b))) (map out-Value vs)
 answer_of p primitive.RangeCount vs = two_small (counted p) (map out-Value vs)
 answer_of p primitive.JoinTextAny vs = two_values (joined_texts p) vs
 answer_of p primitive.JoinAnyText vs = two_values (joined_texts p) vs
@@ -188,5 +205,8 @@ answer_of p primitive.Print vs = one_value (λ a. prints (text p a)) vs
 answer_of p primitive.Abort [] = ends
 answer_of p primitive.Abort (v ∷ vs) = nothing
 answer_of p primitive.Widen vs = one_small (λ a. gives (Large a)) (map out-Value vs)
-answer_of p primitive.Narrow vs = one_large (λ a. as_value p Small (within w32 (number a))) (map out-Value vs)
-answer_of p primitive.Length vs = one_text (λ s. as_value p Small (within w32 (number (pos (length (chars s)))))) (map out-Value vs)
+answer_of p primitive.Narrow vs =
+    one_large (λ a. as_value p Small (within w32 (number a))) (map out-Value vs)
+answer_of p primitive.Length vs =
+    one_text (λ s. as_value p Small (within w32 (number (pos (length (chars s))))))
+    (map out-Value vs)

@@ -1,4 +1,5 @@
--- Chapter "Programs as written": what the terms of a run are, and that no body in which a form sleeps is ever run. The code begins from what it translated, and has no such test.
+-- Chapter "Programs as written": what the terms of a run are, and that no body in which a form
+-- sleeps is ever run. The code begins from what it translated, and has no such test.
 use Rattle.std.specs.Prelude.{◌≡◌, ℕ, Bool, true, false, List, [], ◌∷◌, ◌++◌, Some, option_to_list}
 use Rattle.fort_core.specs.declared.form.Mode.{Mode}
 use Rattle.fort_core.specs.declared.pick.Pick.{Pick}
@@ -25,21 +26,26 @@ RestsUntouched (Term-F.Asleep marks a) = ⊥
 RestsUntouched (Term-F.Stepped a) = ⊥
 RestsUntouched _ = Unit {0}
 
--- A term at rest is one in which no step was taken: a body, a rest, a clause. No form in it sleeps or is marked, and what could be a value is one; so it is in the bodies of functions and in values.
+-- A term at rest is one in which no step was taken: a body, a rest, a clause. No form in it sleeps
+-- or is marked, and what could be a value is one; so it is in the bodies of functions and in
+-- values.
 mutual
   pub data Resting : Term → Type 0 where
-    resting : {t : Term} → RestsUntouched (out-Term t) → IsNoValue (out-Term t) → AllResting (terms_in (out-Term t)) → AllRestingValues (values_in (out-Term t)) → Resting t
+    resting : {t : Term} → RestsUntouched (out-Term t) → IsNoValue (out-Term t)
+        → AllResting (terms_in (out-Term t)) → AllRestingValues (values_in (out-Term t)) → Resting t
 
   pub data AllResting : List Term → Type 0 where
     no_rests : AllResting []
     next_rest : {t : Term} {ts : List Term} → Resting t → AllResting ts → AllResting (t ∷ ts)
 
   pub data RestingValue : Value → Type 0 where
-    resting_value : {v : Value} → AllResting (bodies_of (out-Value v)) → AllRestingValues (values_of (out-Value v)) → RestingValue v
+    resting_value : {v : Value} → AllResting (bodies_of (out-Value v))
+        → AllRestingValues (values_of (out-Value v)) → RestingValue v
 
   pub data AllRestingValues : List Value → Type 0 where
     no_resting_values : AllRestingValues []
-    next_resting_value : {v : Value} {vs : List Value} → RestingValue v → AllRestingValues vs → AllRestingValues (v ∷ vs)
+    next_resting_value : {v : Value} {vs : List Value} → RestingValue v → AllRestingValues vs
+        → AllRestingValues (v ∷ vs)
 
 -- The parts of a form that go, each a thread or the form's own.
 abbrev pub going_in : Term-F Term Value Closure → List Term
@@ -77,10 +83,13 @@ abbrev pub MarksOpen : Term-F Term Value Closure → Type 0
 MarksOpen (Term-F.Stepped a) = standing a ≡ open_yet
 MarksOpen _ = Unit {0}
 
--- A term of a run: what could be a value is one, marks are round open parts, and what doesn't go is at rest.
+-- A term of a run: what could be a value is one, marks are round open parts, and what doesn't go is
+-- at rest.
 mutual
   pub data Proper : Term → Type 0 where
-    proper : {t : Term} → MarksOpen (out-Term t) → IsNoValue (out-Term t) → AllProper (going_in (out-Term t)) → AllResting (resting_in (out-Term t)) → AllRestingValues (values_in (out-Term t)) → Proper t
+    proper : {t : Term} → MarksOpen (out-Term t) → IsNoValue (out-Term t)
+        → AllProper (going_in (out-Term t)) → AllResting (resting_in (out-Term t))
+        → AllRestingValues (values_in (out-Term t)) → Proper t
 
   pub data AllProper : List Term → Type 0 where
     no_propers : AllProper []
@@ -90,17 +99,26 @@ mutual
 abbrev pub ProperStore : Store → Type 0
 ProperStore s = (l : ℕ) (v : Value) → s l ≡ Some v → RestingValue v
 
--- Where the machines of a program come to: the root's begins at its first term, from its opening store; a machine goes on by its runs; an attempt's begins at the body of an atomic form, from the store of the machine round it.
+-- Where the machines of a program come to: the root's begins at its first term, from its opening
+-- store; a machine goes on by its runs; an attempt's begins at the body of an atomic form, from the
+-- store of the machine round it.
 pub data Reached (p : Program) : (inner : Bool) (s : Store) (t : Term) → Type 0 where
-  at_first : {inner : Bool} {s : Store} {t : Term} → inner ≡ false → s ≡ opening_store p → t ≡ p.first → Reached p inner s t
-  by_run : {inner : Bool} {s s' : Store} {t t' : Term} {picks : List Pick} {d : Effect} → Reached p inner s t → Runs p inner true s picks t (goes t') d → s' ≡ afterwards d s → Reached p inner s' t'
-  in_attempt : {inner outer : Bool} {s : Store} {t a body : Term} {m : Mode} (fs : List Frame) → Reached p outer s t → t ≡ plug fs a → Form a m body → inner ≡ true → Reached p inner s body
+  at_first : {inner : Bool} {s : Store} {t : Term} → inner ≡ false → s ≡ opening_store p
+      → t ≡ p.first → Reached p inner s t
+  by_run : {inner : Bool} {s s' : Store} {t t' : Term} {picks : List Pick} {d : Effect}
+      → Reached p inner s t → Runs p inner true s picks t (goes t') d → s' ≡ afterwards d s
+      → Reached p inner s' t'
+  in_attempt : {inner outer : Bool} {s : Store} {t a body : Term} {m : Mode} (fs : List Frame)
+      → Reached p outer s t → t ≡ plug fs a → Form a m body → inner ≡ true → Reached p inner s body
 
 -- The term and the store of each machine of a written program are those of a run.
 abbrev pub ReachedIsProper : Type 0
-ReachedIsProper = (p : Program) → WrittenProgram p → (inner : Bool) (s : Store) (t : Term) → Reached p inner s t → Proper t × ProperStore s
+ReachedIsProper = (p : Program) → WrittenProgram p → (inner : Bool) (s : Store) (t : Term)
+    → Reached p inner s t → Proper t × ProperStore s
 
 -- So no form sleeps in a body that is run next, a declaration's, a function's or an attempt's.
 abbrev pub EntersBare : Type 0
-EntersBare = (p : Program) → WrittenProgram p → (inner : Bool) (s : Store) (t : Term) → Reached p inner s t → (fs : List Frame) (a : Term) → t ≡ plug fs a
-    → ((body next : Term) → Acts p a (enters body next) → Bare body) × ((m : Mode) (body : Term) → Form a m body → Bare body)
+EntersBare = (p : Program) → WrittenProgram p → (inner : Bool) (s : Store) (t : Term)
+    → Reached p inner s t → (fs : List Frame) (a : Term) → t ≡ plug fs a
+    → ((body next : Term) → Acts p a (enters body next) → Bare body)
+    × ((m : Mode) (body : Term) → Form a m body → Bare body)

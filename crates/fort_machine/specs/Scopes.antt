@@ -1,4 +1,5 @@
--- Chapter "Substitution": which variables a term has, and a function, which is a value once it holds them. The code knows it from the place where the function was written.
+-- Chapter "Substitution": which variables a term has, and a function, which is a value once it
+-- holds them. The code knows it from the place where the function was written.
 use Rattle.std.specs.Prelude.{ℕ, ◌==◌, nat_le, Bool, true, ◌&&◌, if◌then◌else◌, List, [], ◌∷◌, ◌++◌, map, Option, Some, None}
 use Rattle.std.specs.List.{list_all, list_any}
 use Rattle.fort_base.specs.declared.ty.Ty.{Ty}
@@ -19,7 +20,8 @@ variables {A = A} xs = map (λ (x : ℕ × A). x.0) xs
 abbrev pub is_among : ℕ → List ℕ → Bool
 is_among x xs = list_any (λ y. x == y) xs
 
--- What is to be known of a term: whether all its variables are bound inside it or among those of a list.
+-- What is to be known of a term: whether all its variables are bound inside it or among those of a
+-- list.
 abbrev pub Scoped : Type 0
 Scoped = List ℕ → Bool
 
@@ -41,7 +43,8 @@ abbrev pub slot_scoped : Slot → Scoped
 slot_scoped (slot.Variable x) xs = is_among x xs
 slot_scoped (slot.Location l) xs = true
 
--- A form's variables are those of its parts; a binder adds its own to the list for what it binds in.
+-- A form's variables are those of its parts; a binder adds its own to the list for what it binds
+-- in.
 abbrev pub scoped_at : Term-F Scoped (Unit {0}) Scoped → Scoped
 scoped_at (Term-F.Value v) xs = true
 scoped_at (Term-F.Throw a) xs = a xs
@@ -87,6 +90,8 @@ scoped = fold-Term Scoped (Unit {0}) Scoped scoped_at (λ v. tt) closure_scoped_
 abbrev pub holds_all : Closure → Bool
 holds_all c = fold-Closure Scoped (Unit {0}) Scoped scoped_at (λ v. tt) closure_scoped_at c []
 
--- The term `fn (x: T) => e`: the function itself where it holds all that it needs and isn't too deep.
+-- The term `fn (x: T) => e`: the function itself where it holds all that it needs and isn't too
+-- deep.
 abbrev pub function : Closure → Term
-function c = if holds_all c && nat_le (closure_depth c) deepest then term.Value (Function c) else Fn c
+function c = if holds_all c && nat_le (closure_depth c) deepest then term.Value (Function c)
+    else Fn c

@@ -1,4 +1,5 @@
--- Chapter "Substitution": a value, or a location, in place of a variable. The code keeps the values of variables beside the term; here they stand in it.
+-- Chapter "Substitution": a value, or a location, in place of a variable. The code keeps the values
+-- of variables beside the term; here they stand in it.
 use Rattle.std.specs.Prelude.{ℕ, ◌==◌, nat_lt, Bool, if◌then◌else◌, List, [], ◌∷◌, map, Option, Some, None, option_map}
 use Rattle.std.specs.List.{list_any}
 use Rattle.fort_base.specs.declared.ty.Ty.{Ty}
@@ -22,12 +23,16 @@ Changed = Term × Term
 abbrev pub now : Changed → Term
 now t = t.1
 
--- The same form with its parts as they are after the substitution; a tuple whose parts are values now is a value.
+-- The same form with its parts as they are after the substitution; a tuple whose parts are values
+-- now is a value.
 abbrev pub remade : {A B : Type 0} → Term-F Changed (Value × A) (Closure × B) → Term
 remade (Term-F.Group parts) = group (map now parts)
-remade {A = A} {B = B} form = roll-Term (map-Term Changed (Value × A) (Closure × B) Term Value Closure now (λ v. v.0) (λ c. c.0) form)
+remade {A = A} {B = B} form =
+    roll-Term (map-Term Changed (Value × A) (Closure
+    × B) Term Value Closure now (λ v. v.0) (λ c. c.0) form)
 
--- An immutable variable stands in a form, or in what stands in it, bodies of functions included; values are closed.
+-- An immutable variable stands in a form, or in what stands in it, bodies of functions included;
+-- values are closed.
 abbrev pub occurs_at : ℕ → Term-F Bool (Unit {0}) Bool → Bool
 occurs_at x (Term-F.Variable y) = x == y
 occurs_at x (Term-F.Fn c) = c
@@ -42,7 +47,8 @@ abbrev pub put_held : ℕ → Value → List (ℕ × Value) → List (ℕ × Val
 put_held x v [] = (x, v) ∷ []
 put_held x v (h ∷ hs) = if nat_lt x h.0 then (x, v) ∷ h ∷ hs else h ∷ put_held x v hs
 
--- A function's body stays as it is written: where the variable stands in it, the function holds the variable's value.
+-- A function's body stays as it is written: where the variable stands in it, the function holds the
+-- variable's value.
 abbrev pub held_by : ℕ → Value → Closure → Closure
 held_by x v c = if occurs x c.body then record c { held = put_held x v c.held } else c
 
@@ -63,11 +69,13 @@ substituted_all (h ∷ hs) t = substituted_all hs (substituted h.0 h.1 t)
 
 -- A mutable variable's place is its location from now on.
 abbrev pub at_location : ℕ → ℕ → Slot → Slot
-at_location x l (slot.Variable y) = if x == y then slot.Location (record { 0 = l }) else slot.Variable y
+at_location x l (slot.Variable y) = if x == y then slot.Location (record { 0 = l })
+    else slot.Variable y
 at_location x l (slot.Location k) = slot.Location k
 
 -- A location in place of a mutable variable, by the form; it goes into the bodies of functions too.
-abbrev pub with_location : {A : Type 0} → ℕ → ℕ → Term-F Changed (Value × A) (Closure × Closure) → Term
+abbrev pub with_location : {A : Type 0} → ℕ → ℕ → Term-F Changed (Value × A) (Closure × Closure)
+    → Term
 with_location x l (Term-F.Read y) = Read (at_location x l y)
 with_location x l (Term-F.Write y a) = Write (at_location x l y) (now a)
 with_location x l (Term-F.Fn c) = function c.1
@@ -75,7 +83,14 @@ with_location x l form = remade form
 
 -- A closure with its body as it is after the substitution.
 abbrev pub closure_now : {A B : Type 0} → Closure-F Changed (Value × A) (Closure × B) → Closure
-closure_now c = record { number = c.number; parameters = c.parameters; result = c.result; body = now c.body; held = map (λ (h : ℕ × (Value × _)). (h.0, h.1.0)) c.held }
+closure_now c =
+    record {
+      number = c.number;
+      parameters = c.parameters;
+      result = c.result;
+      body = now c.body;
+      held = map (λ (h : ℕ × (Value × _)). (h.0, h.1.0)) c.held;
+    }
 
 -- A term with a location in place of a mutable variable.
 unfoldable pub located : ℕ → ℕ → Term → Term

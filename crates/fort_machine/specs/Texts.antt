@@ -1,4 +1,5 @@
--- Chapter "Values": the text of a value, when two values are the same, and how deep a value is. The code writes into one buffer and goes down by calls.
+-- Chapter "Values": the text of a value, when two values are the same, and how deep a value is. The
+-- code writes into one buffer and goes down by calls.
 use Rattle.std.specs.Prelude.{ℕ, ◌+◌, ◌==◌, max, Bool, true, false, ◌&&◌, not, if◌then◌else◌, List, [], ◌∷◌, ◌++◌, map, slice_get, unwrap_or, codes, decimal, bytes_eq}
 use Rattle.std.specs.Fmt.{signed_decimal}
 use Rattle.std.specs.Ordering.{int_eq}
@@ -16,7 +17,8 @@ with_commas [] = []
 with_commas (s ∷ []) = s
 with_commas (s ∷ ss) = s ++ (codes ", " ++ with_commas ss)
 
--- A value's text by its kind: numbers in decimal, a tuple's parts in parentheses, an object by its type's name.
+-- A value's text by its kind: numbers in decimal, a tuple's parts in parentheses, an object by its
+-- type's name.
 abbrev pub text_at : Program → Value-F (Unit {0}) (List ℕ) (Unit {0}) → List ℕ
 text_at p (Value-F.Small n) = signed_decimal n
 text_at p (Value-F.Large n) = signed_decimal n
@@ -54,7 +56,8 @@ abbrev pub same_type : Ty → Ty → Bool
 same_type = fold-Ty (Ty → Bool) (λ layer b. same_type_at layer (out-Ty b))
 
 -- Two values are the same where they are of one kind and made of the same; functions never are.
-abbrev pub same_at : Value-F (Unit {0}) (Value → Bool) (Unit {0}) → Value-F Term Value Closure → Bool
+abbrev pub same_at : Value-F (Unit {0}) (Value → Bool) (Unit {0}) → Value-F Term Value Closure
+    → Bool
 same_at (Value-F.Small n) (Value-F.Small m) = int_eq n m
 same_at (Value-F.Large n) (Value-F.Large m) = int_eq n m
 same_at (Value-F.Truth true) (Value-F.Truth b) = b
@@ -68,14 +71,16 @@ same_at _ _ = false
 
 -- Whether two values are the same, as `===` asks.
 abbrev pub same : Value → Value → Bool
-same = fold-Value (Unit {0}) (Value → Bool) (Unit {0}) (λ t. tt) (λ layer v. same_at layer (out-Value v)) (λ c. tt)
+same = fold-Value (Unit {0}) (Value
+    → Bool) (Unit {0}) (λ t. tt) (λ layer v. same_at layer (out-Value v)) (λ c. tt)
 
 -- The greatest number of a list, or 0.
 abbrev pub greatest : List ℕ → ℕ
 greatest [] = 0
 greatest (n ∷ ns) = max n (greatest ns)
 
--- A tuple is 1 deeper than its deepest part, a function than the deepest value that it holds; other values have depth 0.
+-- A tuple is 1 deeper than its deepest part, a function than the deepest value that it holds; other
+-- values have depth 0.
 abbrev pub depth_at : Value-F (Unit {0}) ℕ ℕ → ℕ
 depth_at (Value-F.Tuple ns) = 1 + greatest ns
 depth_at (Value-F.Function n) = n

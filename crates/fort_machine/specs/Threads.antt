@@ -1,4 +1,5 @@
--- Chapter "Runs": a part's picks as those of the whole term. The code puts a task's path before the picks of its legs.
+-- Chapter "Runs": a part's picks as those of the whole term. The code puts a task's path before the
+-- picks of its legs.
 use Rattle.std.specs.Prelude.{ℕ, List, [], ◌∷◌, ◌++◌}
 use Rattle.fort_core.specs.declared.path.Path.{Path}
 use Rattle.fort_core.specs.declared.pick.Pick.{Pick, Step, Attempt, out-Pick}
@@ -15,16 +16,19 @@ abbrev pub under_at : List ℕ → Pick-F Pick → Pick
 under_at path (Pick-F.Step q loc) = Step (below_path path q) loc
 under_at path (Pick-F.Attempt q within) = Attempt (below_path path q) within
 
--- A pick of a part as one of the whole: the part's path before its own. Inner picks stay, since they name threads of their own machine.
+-- A pick of a part as one of the whole: the part's path before its own. Inner picks stay, since
+-- they name threads of their own machine.
 abbrev pub under : List ℕ → Pick → Pick
 under path pick = under_at path (out-Pick pick)
 
--- How a part's run ends in the whole: at the whole with the part's term in its place; an abort ends the whole.
+-- How a part's run ends in the whole: at the whole with the part's term in its place; an abort ends
+-- the whole.
 abbrev pub ended_in : List Frame → Ended → Ended
 ended_in fs (goes t) = goes (plug fs t)
 ended_in fs aborts = aborts
 
--- What stands round a part after some picks of it: as before without any, else each part on the way has its mark.
+-- What stands round a part after some picks of it: as before without any, else each part on the way
+-- has its mark.
 abbrev pub round_after : List Pick → List Frame → List Frame
 round_after [] fs = fs
 round_after (pick ∷ picks) fs = trodden fs

@@ -21,7 +21,8 @@ abbrev pub domain_of : List (ℕ × Ty) → Ty
 domain_of (x ∷ []) = x.1
 domain_of xs = Tuple (map (λ (x : ℕ × Ty). x.1) xs)
 
--- A value's type by its kind: an object's is the one that it names, a tuple's that of its parts, a function's an arrow.
+-- A value's type by its kind: an object's is the one that it names, a tuple's that of its parts, a
+-- function's an arrow.
 abbrev pub type_at : BuiltIn → Value-F (Unit {0}) Ty Ty → Ty
 type_at b (Value-F.Small n) = Named b.small
 type_at b (Value-F.Large n) = Named b.large
@@ -35,7 +36,9 @@ type_at b (Value-F.Function t) = t
 
 -- The type of a value.
 abbrev pub type_of : Program → Value → Ty
-type_of p = fold-Value (Unit {0}) Ty Ty (λ t. tt) (type_at p.built_in) (λ c. Arrow (domain_of c.parameters) c.result)
+type_of p =
+    fold-Value (Unit {0}) Ty Ty (λ t. tt) (type_at p.built_in)
+    (λ c. Arrow (domain_of c.parameters) c.result)
 
 -- Whether a value has a type: its own is below that one.
 abbrev pub has_type : Program → Value → Ty → Bool

@@ -35,7 +35,24 @@ decl n = record { 0 = n }
 
 -- The built-in types by numbers of their own.
 abbrev pub numbered : BuiltIn
-numbered = record { object = type 0; exception = type 1; small = type 2; large = type 3; text = type 4; truth = type 5; range = type 6; integer_overflow = type 7; division_by_zero = type 8; negative_exponent = type 9; index_out_of_range = type 10; negative_size = type 11; depth_exceeded = type 14; try_atomic_failure = type 15; abort_outside = type 16 }
+numbered =
+    record {
+      object = type 0;
+      exception = type 1;
+      small = type 2;
+      large = type 3;
+      text = type 4;
+      truth = type 5;
+      range = type 6;
+      integer_overflow = type 7;
+      division_by_zero = type 8;
+      negative_exponent = type 9;
+      index_out_of_range = type 10;
+      negative_size = type 11;
+      depth_exceeded = type 14;
+      try_atomic_failure = type 15;
+      abort_outside = type 16;
+    }
 
 -- The text `a`.
 abbrev pub letter : Value
@@ -69,8 +86,14 @@ hello = record {
 
 -- Two steps of the root thread, with a fuel of 4.
 abbrev pub two_steps : Journal
-two_steps = record { fuel = 4; picks = Step (path_to []) (location 0) ∷ Step (path_to []) (location 0) ∷ []; ending = Completed }
+two_steps =
+    record {
+      fuel = 4;
+      picks = Step (path_to []) (location 0) ∷ Step (path_to []) (location 0) ∷ [];
+      ending = Completed;
+    }
 
 -- It is a run of that program, ends at `()`, prints `a` with a line feed, and costs 4.
 abbrev pub PrintsLetter : Type 0
-PrintsLetter = (d : Effect) × Records hello two_steps (term.Value unit) d × (d.output ≡ 97 ∷ 10 ∷ []) × (d.cost ≡ 4)
+PrintsLetter = (d : Effect) × Records hello two_steps (term.Value unit) d
+    × (d.output ≡ 97 ∷ 10 ∷ []) × (d.cost ≡ 4)

@@ -1,4 +1,5 @@
--- Chapter "Programs as written": which terms and programs are as a component's text gives them, before any step. The translation makes no others; a run's terms have more.
+-- Chapter "Programs as written": which terms and programs are as a component's text gives them,
+-- before any step. The translation makes no others; a run's terms have more.
 use Rattle.std.specs.Prelude.{◌≡◌, ℕ, false, List, [], ◌∷◌, ◌++◌, map, flat_map, length, slice_get, Some, None, nat_lt}
 use Rattle.std.specs.List.{list_any, concat}
 use Rattle.fort_base.specs.declared.ids.DeclId.{DeclId}
@@ -22,7 +23,8 @@ use Rattle.fort_machine.specs.Scopes.{variables, is_among, function}
 use Rattle.fort_machine.specs.Calls.{constants}
 use Rattle.fort_machine.specs.Marked.{Bare}
 
--- No form stands that only a run makes: none asleep, no halves, no part of a generator that runs, no mark.
+-- No form stands that only a run makes: none asleep, no halves, no part of a generator that runs,
+-- no mark.
 abbrev pub IsBeforeRuns : {A B C : Type 0} → Term-F A B C → Type 0
 IsBeforeRuns (Term-F.For order s x a b) = s ≡ span.Whole
 IsBeforeRuns (Term-F.ForHalves a b) = ⊥
@@ -32,7 +34,8 @@ IsBeforeRuns (Term-F.Asleep marks a) = ⊥
 IsBeforeRuns (Term-F.Stepped a) = ⊥
 IsBeforeRuns _ = Unit {0}
 
--- What could be a value is no form: up to the greatest depth a tuple of values is that value, and so is a function that holds all that it needs.
+-- What could be a value is no form: up to the greatest depth a tuple of values is that value, and
+-- so is a function that holds all that it needs.
 abbrev pub IsNoValue : Term-F Term Value Closure → Type 0
 IsNoValue (Term-F.Group ts) = group ts ≡ Group ts
 IsNoValue (Term-F.Fn c) = function c ≡ Fn c
@@ -69,7 +72,9 @@ all_binders_at form = binders_of form ++ concat (parts_of form)
 
 -- All variables that are bound in a term, bodies of functions included; values are closed.
 abbrev pub all_binders : Term → List ℕ
-all_binders = fold-Term (List ℕ) (Unit {0}) (List ℕ) all_binders_at (λ v. tt) (λ c. closure_binders c ++ c.body)
+all_binders =
+    fold-Term (List ℕ) (Unit {0}) (List ℕ) all_binders_at (λ v. tt)
+    (λ c. closure_binders c ++ c.body)
 
 -- No number of one list stands in another one.
 abbrev pub AreApart : List ℕ → List ℕ → Type 0
@@ -97,24 +102,30 @@ pub record IsWritten (form : Term-F Term Value Closure) : Type 0 where
 
 -- Nothing in a value but a function's variables is written: they are bound once.
 abbrev pub IsWrittenValue : Value-F Term Value Closure → Type 0
-IsWrittenValue (Value-F.Function c) = BindsOnce (variables c.parameters ++ variables c.held) (c.body ∷ [])
+IsWrittenValue (Value-F.Function c) =
+    BindsOnce (variables c.parameters ++ variables c.held) (c.body ∷ [])
 IsWrittenValue _ = Unit {0}
 
--- A term is as it is written where each form in it is, bodies of functions and what stands in values included.
+-- A term is as it is written where each form in it is, bodies of functions and what stands in
+-- values included.
 mutual
   pub data Written : Term → Type 0 where
-    written : {t : Term} → IsWritten (out-Term t) → AllWritten (terms_in (out-Term t)) → AllWrittenValues (values_in (out-Term t)) → Written t
+    written : {t : Term} → IsWritten (out-Term t) → AllWritten (terms_in (out-Term t))
+        → AllWrittenValues (values_in (out-Term t)) → Written t
 
   pub data AllWritten : List Term → Type 0 where
     end_of_terms : AllWritten []
     first_term : {t : Term} {ts : List Term} → Written t → AllWritten ts → AllWritten (t ∷ ts)
 
   pub data WrittenValue : Value → Type 0 where
-    written_value : {v : Value} → IsWrittenValue (out-Value v) → AllWritten (bodies_of (out-Value v)) → AllWrittenValues (values_of (out-Value v)) → WrittenValue v
+    written_value : {v : Value} → IsWrittenValue (out-Value v)
+        → AllWritten (bodies_of (out-Value v)) → AllWrittenValues (values_of (out-Value v))
+        → WrittenValue v
 
   pub data AllWrittenValues : List Value → Type 0 where
     end_of_values : AllWrittenValues []
-    first_value : {v : Value} {vs : List Value} → WrittenValue v → AllWrittenValues vs → AllWrittenValues (v ∷ vs)
+    first_value : {v : Value} {vs : List Value} → WrittenValue v → AllWrittenValues vs
+        → AllWrittenValues (v ∷ vs)
 
 -- The numbers of the functions in a form.
 abbrev pub functions_at : Term-F (List ℕ) (List ℕ) (List ℕ) → List ℕ
@@ -134,11 +145,13 @@ closure_functions_at c = c.number ∷ (c.body ++ concat (map (λ (h : ℕ × Lis
 
 -- The numbers of the functions in a term.
 abbrev pub functions_in : Term → List ℕ
-functions_in = fold-Term (List ℕ) (List ℕ) (List ℕ) functions_at value_functions_at closure_functions_at
+functions_in =
+    fold-Term (List ℕ) (List ℕ) (List ℕ) functions_at value_functions_at closure_functions_at
 
 -- The numbers of the functions in a value.
 abbrev pub functions_in_value : Value → List ℕ
-functions_in_value = fold-Value (List ℕ) (List ℕ) (List ℕ) functions_at value_functions_at closure_functions_at
+functions_in_value =
+    fold-Value (List ℕ) (List ℕ) (List ℕ) functions_at value_functions_at closure_functions_at
 
 -- The term as which a body goes on, where it is one.
 abbrev pub term_of : CoreBody → List Term
@@ -155,7 +168,8 @@ constants_of p = map (λ (e : Loc × Value). e.1) p.opening ++ flat_map constant
 
 -- The numbers of a program's functions, each as often as it is written.
 abbrev pub all_functions : Program → List ℕ
-all_functions p = concat (map functions_in (terms_of p)) ++ concat (map functions_in_value (constants_of p))
+all_functions p =
+    concat (map functions_in (terms_of p)) ++ concat (map functions_in_value (constants_of p))
 
 -- No binder in a declaration's body has the number of a parameter.
 abbrev pub BindsPast : List Ty → Term → Type 0
@@ -171,7 +185,8 @@ abbrev pub HaveConstants : List CoreField → Type 0
 HaveConstants [] = Unit {0}
 HaveConstants (f ∷ fs) = ((v : Value) × (f.initial ≡ Some v)) × HaveConstants fs
 
--- A constructor takes a value for each field of its type that has no constant, in their order; these fields come first.
+-- A constructor takes a value for each field of its type that has no constant, in their order;
+-- these fields come first.
 pub record Constructs (p : Program) (id : TypeId) (parameters : List Ty) : Type 0 where
   pub shape : CoreShape
   pub is_shape : slice_get p.shapes id.0 ≡ Some shape
@@ -182,18 +197,21 @@ pub record Constructs (p : Program) (id : TypeId) (parameters : List Ty) : Type 
   pub have_constants : HaveConstants constant
   pub are_parameters : map (λ (f : CoreField). f.ty) awaited ≡ parameters
 
--- A declaration is as it is written: a body's parameters are the variables from 0 on, bound nowhere in it; a constructor has its parameters.
+-- A declaration is as it is written: a body's parameters are the variables from 0 on, bound nowhere
+-- in it; a constructor has its parameters.
 abbrev pub IsDeclared : Program → List Ty → CoreBody → Type 0
 IsDeclared p parameters (body.Plain t) = BindsPast parameters t
 IsDeclared p parameters (body.New id) = Constructs p id parameters
 IsDeclared p parameters _ = Unit {0}
 
--- A program is as it is written where its terms and values are, two functions at two places differ by their numbers, and each declaration is.
+-- A program is as it is written where its terms and values are, two functions at two places differ
+-- by their numbers, and each declaration is.
 pub record WrittenProgram (p : Program) : Type 0 where
   pub terms : AllWritten (terms_of p)
   pub values : AllWrittenValues (constants_of p)
   pub numbers : StandOnce (all_functions p)
-  pub declarations : (d : DeclId) (decl : CoreDecl) → slice_get p.decls d.0 ≡ Some decl → IsDeclared p decl.parameters decl.body
+  pub declarations : (d : DeclId) (decl : CoreDecl) → slice_get p.decls d.0 ≡ Some decl
+      → IsDeclared p decl.parameters decl.body
 
 -- In a term as it is written no form sleeps.
 abbrev pub WrittenIsBare : Type 0

@@ -1,4 +1,5 @@
-//! The written meaning of a run: the machine of threads, as definitions, with the laws that they keep.
+//! The written meaning of a run: the machine of threads, as definitions, with the laws that they
+//! keep.
 //!
 //! Nothing is computed here. Each function names a law by its clause and does nothing.
 #![tactic(auto)]
@@ -110,8 +111,9 @@ pub fn picks_add_up()
     ensures { PicksAddUp }
 {}
 
-/// A run depends only on what it read, on the older locations that it wrote being there, on those that it made being
-/// absent, and, where the rule on sleeping forms is kept, on what the sleepers of its first term watch.
+/// A run depends only on what it read, on the older locations that it wrote being there, on those
+/// that it made being absent, and, where the rule on sleeping forms is kept, on what the sleepers
+/// of its first term watch.
 pub fn framed()
     ensures { Framed }
 {}
@@ -121,7 +123,8 @@ pub fn some_store()
     ensures { SomeStore }
 {}
 
-/// A run on one store is one on each store that suits it, the rule on sleeping forms left aside at its own level.
+/// A run on one store is one on each store that suits it, the rule on sleeping forms left aside at
+/// its own level.
 pub fn one_store()
     ensures { OneStore }
 {}
@@ -156,18 +159,20 @@ pub fn written_is_bare()
     ensures { WrittenIsBare }
 {}
 
-/// The terms and stores of a written program's machines stay proper: what could be a value is one, marks stand round open
-/// parts, and no step was taken in what doesn't go.
+/// The terms and stores of a written program's machines stay proper: what could be a value is one,
+/// marks stand round open parts, and no step was taken in what doesn't go.
 pub fn reached_is_proper()
     ensures { ReachedIsProper }
 {}
 
-/// No form sleeps in a body that a machine of a written program enters: a declaration's, a function's or an attempt's.
+/// No form sleeps in a body that a machine of a written program enters: a declaration's, a
+/// function's or an attempt's.
 pub fn enters_bare()
     ensures { EntersBare }
 {}
 
-/// A journal of two steps is a run of `run(): () = println("a")`, prints `a` and a line feed, and costs 4.
+/// A journal of two steps is a run of `run(): () = println("a")`, prints `a` and a line feed, and
+/// costs 4.
 pub fn prints_letter()
     ensures { PrintsLetter }
 {}

@@ -8,7 +8,8 @@ use Rattle.fort_types.specs.Hierarchy.{DeclaredTypes, Path}
 abbrev pub IsCommon : DeclaredTypes → ℕ → ℕ → ℕ → Type 0
 IsCommon h a b m = (m < length h) × Path h m a × Path h m b
 
--- A declared type is a meet of two types: it is below both, and no other declared type below both is above it.
+-- A declared type is a meet of two types: it is below both, and no other declared type below both
+-- is above it.
 pub record IsMeet (h : DeclaredTypes) (a b m : ℕ) : Type 0 where
   pub common : IsCommon h a b m
   pub highest : (k : ℕ) → IsCommon h a b k → Path h m k → k ≡ m

@@ -23,9 +23,12 @@ pub record Lists (P : ℕ → Type 0) (to : ℕ) (list : List TypeId) : Type 0 w
   pub each : (m : TypeId) → m.0 < to → P m.0 → Contains list m
   pub rising : IsRising list
 
--- A list has exactly those of the first numbers of another that no other one there is above, in their order.
-pub record IsHighest (rows : List (List Bool)) (common : List TypeId) (to : ℕ) (list : List TypeId) : Type 0 where
+-- A list has exactly those of the first numbers of another that no other one there is above, in
+-- their order.
+pub record IsHighest (rows : List (List Bool)) (common : List TypeId) (to : ℕ)
+    (list : List TypeId) : Type 0 where
   pub among : (m : TypeId) → Contains list m → (k : ℕ) × (k < to) × (slice_get common k ≡ Some m)
   pub only : (m : TypeId) → Contains list m → IsPassed rows common m → ⊥
-  pub each : (k : ℕ) (m : TypeId) → k < to → slice_get common k ≡ Some m → (IsPassed rows common m → ⊥) → Contains list m
+  pub each : (k : ℕ) (m : TypeId) → k < to → slice_get common k ≡ Some m
+      → (IsPassed rows common m → ⊥) → Contains list m
   pub rising : IsRising common → IsRising list

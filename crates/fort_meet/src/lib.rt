@@ -1,4 +1,5 @@
-//! The meets of two declared types: the highest declared types below both, over the rows of a hierarchy.
+//! The meets of two declared types: the highest declared types below both, over the rows of a
+//! hierarchy.
 #![tactic(auto)]
 
 mod meeting;

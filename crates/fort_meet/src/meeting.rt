@@ -9,15 +9,16 @@ use fort_base::{List, Memory, TypeId, TypeTable};
 use fort_types::set_at;
 use std::alloc::Global;
 
-/// The meets of two declared types, in order of number: the declared types below both such that no other
-/// declared type below both is above them.
+/// The meets of two declared types, in order of number: the declared types below both such that no
+/// other declared type below both is above them.
 ///
-/// That is said of whatever hierarchy the table has the rows. A number past the table has no meets. The
-/// table has at most 2^32 types, which is as many as there are numbers. Where memory is wanting there is
-/// no list. The chapter is "Types".
+/// That is said of whatever hierarchy the table has the rows. A number past the table has no meets.
+/// The table has at most 2^32 types, which is as many as there are numbers. Where memory is wanting
+/// there is no list. The chapter is "Types".
 pub fn meets(alloc: Global, table: &TypeTable, a: TypeId, b: TypeId) -> Result<List<TypeId>, Memory>
     requires numbered { length table.now.below ≤ 2 ^ 32 }
-    ensures { IfOk result (λ list. (h : Seq DeclaredType) → HasRows h table.now → AreMeets h a.0 b.0 list) }
+    ensures { IfOk result (λ list. (h : Seq DeclaredType) → HasRows h table.now
+        → AreMeets h a.0 b.0 list) }
 {
     let rows = table.below.as_slice();
     let common = common(alloc, rows, a, b)?;

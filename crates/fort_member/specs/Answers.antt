@@ -23,8 +23,8 @@ use Rattle.fort_member.specs.Sets.{sets_of}
 abbrev pub all_places : Component → List (Option Place)
 all_places c = replicate TYPE_COUNT None ++ map Some (places_of c)
 
--- What an accepted component has: the places of its types, which of them are objects or leaves, their fields, its overload sets, and its
--- variables at the top.
+-- What an accepted component has: the places of its types, which of them are objects or leaves,
+-- their fields, its overload sets, and its variables at the top.
 pub record AreMembers (c : Component) (m : Members) : Type 0 where
   pub places : m.places ≡ all_places c
   pub objects : m.objects ≡ leaves_of (declares c)
@@ -32,10 +32,15 @@ pub record AreMembers (c : Component) (m : Members) : Type 0 where
   pub sets : m.sets ≡ sets_of (entries_of c)
   pub variables : m.variables ≡ variables_of c
 
--- The members by a component's names, the heads of its types, its declarations, and the fields of its types.
-pub record AreOver (names : List Spelling) (heads : List TypeHead) (declarations : List Declared) (fields : List (List Field)) (m : Members) : Type 0 where
+-- The members by a component's names, the heads of its types, its declarations, and the fields of
+-- its types.
+pub record AreOver (names : List Spelling) (heads : List TypeHead) (declarations : List Declared)
+    (fields : List (List Field)) (m : Members) : Type 0 where
   pub places : m.places ≡ replicate TYPE_COUNT None ++ map Some (map head_place heads)
   pub objects : m.objects ≡ leaves_of (hierarchy_of names heads)
   pub fields_are : m.fields ≡ fields
-  pub sets : m.sets ≡ sets_of (built_in_entries ++ flat_map (declared_entries (all_types names heads) names) declarations)
-  pub variables : m.variables ≡ flat_map (declared_variables (all_types names heads) names) declarations
+  pub sets : m.sets
+      ≡ sets_of
+      (built_in_entries ++ flat_map (declared_entries (all_types names heads) names) declarations)
+  pub variables : m.variables
+      ≡ flat_map (declared_variables (all_types names heads) names) declarations

@@ -1,4 +1,5 @@
--- The chapter "Members", built-in declarations: what they are as members. The code makes one for each row of their table.
+-- The chapter "Members", built-in declarations: what they are as members. The code makes one for
+-- each row of their table.
 use Rattle.std.specs.Prelude.{false, List, None, map}
 use Rattle.fort_builtin.specs.declared.table.BuiltInDeclaration.{BuiltInDeclaration}
 use Rattle.fort_builtin.specs.Declarations.{declarations}
@@ -8,7 +9,14 @@ use Rattle.fort_member.specs.declared.entries.Entry.{Entry}
 
 -- A built-in declaration as a member: it has no place and no owner.
 abbrev pub built_in_member : BuiltInDeclaration → Member
-built_in_member d = record { place = None; parameters = d.parameters; result = d.result; owner = None; kind = a_kind.BuiltIn }
+built_in_member d =
+    record {
+      place = None;
+      parameters = d.parameters;
+      result = d.result;
+      owner = None;
+      kind = a_kind.BuiltIn;
+    }
 
 -- It is a function or an operator, and no dotted method.
 abbrev pub built_in_entry : BuiltInDeclaration → Entry

@@ -1,4 +1,5 @@
--- The chapter "Members", declarations: what each declaration of a component adds to the overload sets. The code walks the declarations once.
+-- The chapter "Members", declarations: what each declaration of a component adds to the overload
+-- sets. The code walks the declarations once.
 use Rattle.std.specs.Prelude.{ℕ, suc, false, not, cond, List, [], ◌∷◌, ◌++◌, Option, Some, None, map, codes, get_or}
 use Rattle.std.specs.List.{flat_map}
 use Rattle.fort_base.specs.declared.ids.TypeId.{TypeId}
@@ -98,7 +99,8 @@ next_parameter_type list names next = written list names next.parameter.ty
 
 abbrev pub parameter_types : List Spelling → List Spelling → Option Parameters → List Ty
 parameter_types list names None = []
-parameter_types list names (Some ps) = written list names ps.first.ty ∷ map (next_parameter_type list names) ps.others
+parameter_types list names (Some ps) =
+    written list names ps.first.ty ∷ map (next_parameter_type list names) ps.others
 
 abbrev pub function_entry : List Spelling → List Spelling → Function → Entry
 function_entry list names f = record {
@@ -120,12 +122,16 @@ abbrev pub method_parameter_type : List Spelling → List Spelling → Ty → Me
 method_parameter_type list names self_type (method_parameter.Parameter p) = written list names p.ty
 method_parameter_type list names self_type (method_parameter.Self_ s) = self_type
 
-abbrev pub next_method_parameter_type : List Spelling → List Spelling → Ty → NextMethodParameter → Ty
-next_method_parameter_type list names self_type next = method_parameter_type list names self_type next.parameter
+abbrev pub next_method_parameter_type : List Spelling → List Spelling → Ty → NextMethodParameter
+    → Ty
+next_method_parameter_type list names self_type next =
+    method_parameter_type list names self_type next.parameter
 
 abbrev pub method_types : List Spelling → List Spelling → Ty → Option MethodParameters → List Ty
 method_types list names self_type None = []
-method_types list names self_type (Some ps) = method_parameter_type list names self_type ps.first ∷ map (next_method_parameter_type list names self_type) ps.others
+method_types list names self_type (Some ps) =
+    method_parameter_type list names self_type ps.first
+    ∷ map (next_method_parameter_type list names self_type) ps.others
 
 -- The position of the first `self` of further parameters, where there is one.
 abbrev pub self_among : List NextMethodParameter → ℕ
@@ -146,9 +152,12 @@ method_kind (Some b) = a_kind.Concrete
 abbrev pub type_id : ℕ → TypeId
 type_id t = record { 0 = t }
 
--- A functional method is a function with `self` among its parameters; a dotted one has its receiver as first parameter.
+-- A functional method is a function with `self` among its parameters; a dotted one has its receiver
+-- as first parameter.
 abbrev pub method_parameters : List Spelling → List Spelling → ℕ → Method → List Ty
-method_parameters list names t m = cond (is_functional m.parameters) (method_types list names (a_type.Named (type_id t)) m.parameters)
+method_parameters list names t m =
+    cond (is_functional m.parameters)
+    (method_types list names (a_type.Named (type_id t)) m.parameters)
     (a_type.Named (type_id t) ∷ method_types list names (a_type.Named (type_id t)) m.parameters)
 
 -- the position of `self` or of the receiver
@@ -165,7 +174,12 @@ method_member list names t m = record {
 }
 
 abbrev pub method_entry : List Spelling → List Spelling → ℕ → Method → Entry
-method_entry list names t m = record { name = set_name names m.name; dotted = not (is_functional m.parameters); member = method_member list names t m }
+method_entry list names t m =
+    record {
+      name = set_name names m.name;
+      dotted = not (is_functional m.parameters);
+      member = method_member list names t m;
+    }
 
 abbrev pub trait_member_entry : List Spelling → List Spelling → ℕ → TraitMember → List Entry
 trait_member_entry list names t (trait_member.Field name colon ty) = []
@@ -188,10 +202,12 @@ next_object_parameter_type list names next = written list names next.parameter.t
 
 abbrev pub object_types : List Spelling → List Spelling → Option ObjectParameterList → List Ty
 object_types list names None = []
-object_types list names (Some ps) = written list names ps.first.ty ∷ map (next_object_parameter_type list names) ps.others
+object_types list names (Some ps) =
+    written list names ps.first.ty ∷ map (next_object_parameter_type list names) ps.others
 
 -- An object with parentheses, empty ones too, has a constructor; one without is a single object.
-abbrev pub constructor_entry : List Spelling → List Spelling → ℕ → Object → Option ObjectParameters → List Entry
+abbrev pub constructor_entry : List Spelling → List Spelling → ℕ → Object → Option ObjectParameters
+    → List Entry
 constructor_entry list names t o None = []
 constructor_entry list names t o (Some ps) = record {
   name = spelling names o.name;
@@ -211,13 +227,16 @@ constructor_entry list names t o (Some ps) = record {
 abbrev pub entries_at : List Spelling → List Spelling → Declaration → List Entry
 entries_at list names (declaration.Variable v) = []
 entries_at list names (declaration.Function f) = function_entry list names f ∷ []
-entries_at list names (declaration.Trait t) = flat_map (trait_entry list names (number_of list (spelling names t.name))) t.members
-entries_at list names (declaration.Object o) = constructor_entry list names (number_of list (spelling names o.name)) o o.parameters
+entries_at list names (declaration.Trait t) =
+    flat_map (trait_entry list names (number_of list (spelling names t.name))) t.members
+entries_at list names (declaration.Object o) =
+    constructor_entry list names (number_of list (spelling names o.name)) o o.parameters
     ++ flat_map (object_entry list names (number_of list (spelling names o.name))) o.members
 
 abbrev pub declared_entries : List Spelling → List Spelling → Declared → List Entry
 declared_entries list names d = entries_at list names d.declaration
 
--- All declarations that stand in overload sets: built-in ones, then the component's in source order.
+-- All declarations that stand in overload sets: built-in ones, then the component's in source
+-- order.
 abbrev pub entries_of : Component → List Entry
 entries_of c = built_in_entries ++ flat_map (declared_entries (types_of c) c.names) c.declarations

@@ -7,7 +7,8 @@ use Rattle.fort_member.specs.declared.entries.Entry.{Entry}
 use Rattle.fort_set.specs.declared.member.Member.{Member}
 use Rattle.fort_set.specs.declared.member.MemberSet.{MemberSet}
 
--- What the declarations of one set have in common: the name, the kind (function or dotted), and the number of parameters.
+-- What the declarations of one set have in common: the name, the kind (function or dotted), and the
+-- number of parameters.
 pub record Key : Type 0 where
   pub name : Spelling
   pub dotted : Bool
@@ -33,7 +34,8 @@ keys_of (e ∷ es) = key_of e ∷ filter (λ k. not (same_key k (key_of e))) (ke
 
 -- A set: all declarations of its key, in their order.
 abbrev pub set_of : List Entry → Key → MemberSet
-set_of es k = record { name = k.name; dotted = k.dotted; members = map member_of (filter (belongs k) es) }
+set_of es k =
+    record { name = k.name; dotted = k.dotted; members = map member_of (filter (belongs k) es) }
 
 -- All sets of declarations.
 abbrev pub sets_of : List Entry → List MemberSet
@@ -51,8 +53,10 @@ set_key s = record { name = s.name; dotted = s.dotted; width = width_of s.member
 
 -- The place of a declaration's set, or none where there is no such set yet.
 abbrev pub PlaceIs : List MemberSet → Entry → Option ℕ → Type 0
-PlaceIs sets e None = (i : ℕ) (s : MemberSet) → slice_get sets i ≡ Some s → same_key (set_key s) (key_of e) ≡ true → ⊥
-PlaceIs sets e (Some at) = (s : MemberSet) × (slice_get sets at ≡ Some s) × (same_key (set_key s) (key_of e) ≡ true)
+PlaceIs sets e None = (i : ℕ) (s : MemberSet) → slice_get sets i ≡ Some s
+    → same_key (set_key s) (key_of e) ≡ true → ⊥
+PlaceIs sets e (Some at) = (s : MemberSet) × (slice_get sets at ≡ Some s)
+    × (same_key (set_key s) (key_of e) ≡ true)
 
 -- A set of one declaration.
 abbrev pub one_set : Entry → MemberSet

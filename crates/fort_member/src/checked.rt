@@ -28,12 +28,12 @@ use std::alloc::Global;
 /// More types than this have no numbers.
 const MOST_TYPES: usize = 0x4000_0000;
 
-/// The members of a component, over the hierarchy that its types are: the places of its types, which of them are objects or leaves, their
-/// fields, its overload sets and its variables.
+/// The members of a component, over the hierarchy that its types are: the places of its types,
+/// which of them are objects or leaves, their fields, its overload sets and its variables.
 ///
-/// It answers `Refused` with 451 or 452 exactly where the component breaks that rule, the lower one first, at the earliest place where
-/// it is broken. Its only other error is want of memory, which it also answers where a component has more than 2^30 types. The chapter
-/// is "Members".
+/// It answers `Refused` with 451 or 452 exactly where the component breaks that rule, the lower one
+/// first, at the earliest place where it is broken. Its only other error is want of memory, which
+/// it also answers where a component has more than 2^30 types. The chapter is "Members".
 pub fn members(
     alloc: Global,
     component: &Component,
@@ -85,8 +85,10 @@ fn sets_of_all(
     size: usize,
     declarations: &[Declared],
 ) -> Result<List<MemberSet>, Memory>
-    ensures { IfOk result (λ sets. (list : Seq Spelling) → HoldsNumbers list numbers.now → length list ≡ size
-        → sets ≡ sets_of (built_in_entries ++ flat_map (declared_entries list names.now) declarations.now)) }
+    ensures { IfOk result (λ sets. (list : Seq Spelling) → HoldsNumbers list numbers.now
+        → length list ≡ size
+        → sets ≡ sets_of (built_in_entries
+        ++ flat_map (declared_entries list names.now) declarations.now)) }
 {
     let entries = entries_in(alloc, names, numbers, size, declarations)?;
     sets_in(alloc, entries)
@@ -94,7 +96,8 @@ fn sets_of_all(
 
 /// The places of all types, by their numbers.
 fn places_of_types(alloc: Global, heads: &[TypeHead]) -> Result<List<Option<Place>>, Memory>
-    ensures { IfOk result (λ all. all ≡ replicate TYPE_COUNT None ++ map Some (map head_place heads.now)) }
+    ensures { IfOk result (λ all. all
+        ≡ replicate TYPE_COUNT None ++ map Some (map head_place heads.now)) }
 {
     let places = places_in(alloc, heads)?;
     places_behind(alloc, places.as_slice())

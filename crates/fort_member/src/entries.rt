@@ -24,8 +24,8 @@ pub struct Entry {
     pub member: Member,
 }
 
-/// All declarations that stand in overload sets, built-in ones first and then the component's in source order; the size is that of the
-/// list of numbered names.
+/// All declarations that stand in overload sets, built-in ones first and then the component's in
+/// source order; the size is that of the list of numbered names.
 pub fn entries_in(
     alloc: Global,
     names: &[Bytes],
@@ -33,8 +33,10 @@ pub fn entries_in(
     size: usize,
     declarations: &[Declared],
 ) -> Result<List<Entry>, Memory>
-    ensures { IfOk result (λ entries. (list : Seq Spelling) → HoldsNumbers list numbers.now → length list ≡ size
-        → entries ≡ built_in_entries ++ flat_map (declared_entries list names.now) declarations.now) }
+    ensures { IfOk result (λ entries. (list : Seq Spelling) → HoldsNumbers list numbers.now
+        → length list ≡ size
+        → entries
+        ≡ built_in_entries ++ flat_map (declared_entries list names.now) declarations.now) }
 {
     let mut entries = built_in(alloc)?;
     for declared in declarations {
@@ -59,7 +61,8 @@ fn add_entries(
     declaration: &Declaration,
     entries: &mut List<Entry>,
 ) -> Result<(), Memory>
-    ensures { OnOk result ((list : Seq Spelling) → HoldsNumbers list numbers.now → length list ≡ size
+    ensures { OnOk result ((list : Seq Spelling) → HoldsNumbers list numbers.now
+        → length list ≡ size
         → entries.new ≡ entries.old ++ entries_at list names.now declaration.now) }
 {
     match declaration {

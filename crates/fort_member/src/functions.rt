@@ -25,7 +25,8 @@ pub fn add_function(
     function: &Function,
     entries: &mut List<Entry>,
 ) -> Result<(), Memory>
-    ensures { OnOk result ((list : Seq Spelling) → HoldsNumbers list numbers.now → length list ≡ size
+    ensures { OnOk result ((list : Seq Spelling) → HoldsNumbers list numbers.now
+        → length list ≡ size
         → entries.new ≡ entries.old ++ function_entry list names.now function.now ∷ []) }
 {
     let parameters = types_of_parameters(alloc, names, numbers, size, &function.parameters)?;
@@ -51,7 +52,8 @@ fn types_of_parameters(
     size: usize,
     parameters: &Option<Parameters>,
 ) -> Result<List<Ty>, Memory>
-    ensures { IfOk result (λ types. (list : Seq Spelling) → HoldsNumbers list numbers.now → length list ≡ size
+    ensures { IfOk result (λ types. (list : Seq Spelling) → HoldsNumbers list numbers.now
+        → length list ≡ size
         → types ≡ parameter_types list names.now parameters.now) }
 {
     let mut types = List::new(alloc);
@@ -78,7 +80,8 @@ fn add_next_parameters(
     others: &[NextParameter],
     types: &mut List<Ty>,
 ) -> Result<(), Memory>
-    ensures { OnOk result ((list : Seq Spelling) → HoldsNumbers list numbers.now → length list ≡ size
+    ensures { OnOk result ((list : Seq Spelling) → HoldsNumbers list numbers.now
+        → length list ≡ size
         → types.new ≡ types.old ++ map (next_parameter_type list names.now) others.now) }
 {
     for next in others {
@@ -97,8 +100,10 @@ pub fn add_constructor(
     object: &Object,
     entries: &mut List<Entry>,
 ) -> Result<(), Memory>
-    ensures { OnOk result ((list : Seq Spelling) → HoldsNumbers list numbers.now → length list ≡ size
-        → entries.new ≡ entries.old ++ constructor_entry list names.now id.0 object.now object.now.parameters) }
+    ensures { OnOk result ((list : Seq Spelling) → HoldsNumbers list numbers.now
+        → length list ≡ size
+        → entries.new
+        ≡ entries.old ++ constructor_entry list names.now id.0 object.now object.now.parameters) }
 {
     match &object.parameters {
         Some(held) => {
@@ -127,7 +132,8 @@ fn types_of_object(
     size: usize,
     parameters: &Option<ObjectParameterList>,
 ) -> Result<List<Ty>, Memory>
-    ensures { IfOk result (λ types. (list : Seq Spelling) → HoldsNumbers list numbers.now → length list ≡ size
+    ensures { IfOk result (λ types. (list : Seq Spelling) → HoldsNumbers list numbers.now
+        → length list ≡ size
         → types ≡ object_types list names.now parameters.now) }
 {
     let mut types = List::new(alloc);
@@ -154,7 +160,8 @@ fn add_next_of_object(
     others: &[NextObjectParameter],
     types: &mut List<Ty>,
 ) -> Result<(), Memory>
-    ensures { OnOk result ((list : Seq Spelling) → HoldsNumbers list numbers.now → length list ≡ size
+    ensures { OnOk result ((list : Seq Spelling) → HoldsNumbers list numbers.now
+        → length list ≡ size
         → types.new ≡ types.old ++ map (next_object_parameter_type list names.now) others.now) }
 {
     for next in others {

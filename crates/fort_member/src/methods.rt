@@ -29,7 +29,8 @@ pub fn add_trait_methods(
     members: &[TraitEntry],
     entries: &mut List<Entry>,
 ) -> Result<(), Memory>
-    ensures { OnOk result ((list : Seq Spelling) → HoldsNumbers list numbers.now → length list ≡ size
+    ensures { OnOk result ((list : Seq Spelling) → HoldsNumbers list numbers.now
+        → length list ≡ size
         → entries.new ≡ entries.old ++ flat_map (trait_entry list names.now id.0) members.now) }
 {
     for entry in members {
@@ -48,7 +49,8 @@ fn add_trait_member(
     member: &TraitMember,
     entries: &mut List<Entry>,
 ) -> Result<(), Memory>
-    ensures { OnOk result ((list : Seq Spelling) → HoldsNumbers list numbers.now → length list ≡ size
+    ensures { OnOk result ((list : Seq Spelling) → HoldsNumbers list numbers.now
+        → length list ≡ size
         → entries.new ≡ entries.old ++ trait_member_entry list names.now id.0 member.now) }
 {
     match member {
@@ -71,7 +73,8 @@ pub fn add_object_methods(
     members: &[ObjectEntry],
     entries: &mut List<Entry>,
 ) -> Result<(), Memory>
-    ensures { OnOk result ((list : Seq Spelling) → HoldsNumbers list numbers.now → length list ≡ size
+    ensures { OnOk result ((list : Seq Spelling) → HoldsNumbers list numbers.now
+        → length list ≡ size
         → entries.new ≡ entries.old ++ flat_map (object_entry list names.now id.0) members.now) }
 {
     for entry in members {
@@ -90,7 +93,8 @@ fn add_object_member(
     member: &ObjectMember,
     entries: &mut List<Entry>,
 ) -> Result<(), Memory>
-    ensures { OnOk result ((list : Seq Spelling) → HoldsNumbers list numbers.now → length list ≡ size
+    ensures { OnOk result ((list : Seq Spelling) → HoldsNumbers list numbers.now
+        → length list ≡ size
         → entries.new ≡ entries.old ++ object_member_entry list names.now id.0 member.now) }
 {
     match member {
@@ -101,7 +105,8 @@ fn add_object_member(
     }
 }
 
-/// Adds a method of a type: a functional one with the type in the place of `self`, a dotted one with it as first parameter.
+/// Adds a method of a type: a functional one with the type in the place of `self`, a dotted one
+/// with it as first parameter.
 fn add_method(
     alloc: Global,
     names: &[Bytes],
@@ -111,7 +116,8 @@ fn add_method(
     method: &Method,
     entries: &mut List<Entry>,
 ) -> Result<(), Memory>
-    ensures { OnOk result ((list : Seq Spelling) → HoldsNumbers list numbers.now → length list ≡ size
+    ensures { OnOk result ((list : Seq Spelling) → HoldsNumbers list numbers.now
+        → length list ≡ size
         → entries.new ≡ entries.old ++ method_entry list names.now id.0 method.now ∷ []) }
 {
     let member = member_of_method(alloc, names, numbers, size, id, method)?;
@@ -131,7 +137,8 @@ fn member_of_method(
     id: TypeId,
     method: &Method,
 ) -> Result<Member, Memory>
-    ensures { IfOk result (λ member. (list : Seq Spelling) → HoldsNumbers list numbers.now → length list ≡ size
+    ensures { IfOk result (λ member. (list : Seq Spelling) → HoldsNumbers list numbers.now
+        → length list ≡ size
         → member ≡ method_member list names.now id.0 method.now) }
 {
     let parameters = types_of_method(alloc, names, numbers, size, id, method)?;
@@ -154,7 +161,8 @@ fn types_of_method(
     id: TypeId,
     method: &Method,
 ) -> Result<List<Ty>, Memory>
-    ensures { IfOk result (λ types. (list : Seq Spelling) → HoldsNumbers list numbers.now → length list ≡ size
+    ensures { IfOk result (λ types. (list : Seq Spelling) → HoldsNumbers list numbers.now
+        → length list ≡ size
         → types ≡ method_parameters list names.now id.0 method.now) }
 {
     let mut types = List::new(alloc);
@@ -213,7 +221,8 @@ fn add_parameters(
     parameters: &Option<MethodParameters>,
     types: &mut List<Ty>,
 ) -> Result<(), Memory>
-    ensures { OnOk result ((list : Seq Spelling) → HoldsNumbers list numbers.now → length list ≡ size
+    ensures { OnOk result ((list : Seq Spelling) → HoldsNumbers list numbers.now
+        → length list ≡ size
         → types.new ≡ types.old ++ method_types list names.now (a_type.Named id) parameters.now) }
 {
     match parameters {
@@ -243,8 +252,11 @@ fn add_next_parameters(
     others: &[NextMethodParameter],
     types: &mut List<Ty>,
 ) -> Result<(), Memory>
-    ensures { OnOk result ((list : Seq Spelling) → HoldsNumbers list numbers.now → length list ≡ size
-        → types.new ≡ types.old ++ map (next_method_parameter_type list names.now (a_type.Named id)) others.now) }
+    ensures { OnOk result ((list : Seq Spelling) → HoldsNumbers list numbers.now
+        → length list ≡ size
+        → types.new
+        ≡ types.old
+        ++ map (next_method_parameter_type list names.now (a_type.Named id)) others.now) }
 {
     for next in others {
         types.push(type_of_parameter(alloc, names, numbers, size, id, &next.parameter)?)?;
@@ -252,7 +264,8 @@ fn add_next_parameters(
     Ok(())
 }
 
-/// The type of a method's parameter: the written one, or of `self` the type that declares the method.
+/// The type of a method's parameter: the written one, or of `self` the type that declares the
+/// method.
 fn type_of_parameter(
     alloc: Global,
     names: &[Bytes],
@@ -261,7 +274,8 @@ fn type_of_parameter(
     id: TypeId,
     parameter: &MethodParameter,
 ) -> Result<Ty, Memory>
-    ensures { IfOk result (λ ty. (list : Seq Spelling) → HoldsNumbers list numbers.now → length list ≡ size
+    ensures { IfOk result (λ ty. (list : Seq Spelling) → HoldsNumbers list numbers.now
+        → length list ≡ size
         → ty ≡ method_parameter_type list names.now (a_type.Named id) parameter.now) }
 {
     match parameter {

@@ -21,7 +21,8 @@ pub fn sets_in(alloc: Global, entries: List<Entry>) -> Result<List<MemberSet>, M
 
 /// Puts a declaration into its set.
 fn add(alloc: Global, entry: Entry, sets: &mut Vec<MemberSet>) -> Result<(), Memory>
-    ensures { OnOk result ((before : Seq AnEntry) → sets.old.items ≡ sets_of before → sets.new.items ≡ sets_of (before ++ entry ∷ [])) }
+    ensures { OnOk result ((before : Seq AnEntry) → sets.old.items ≡ sets_of before
+        → sets.new.items ≡ sets_of (before ++ entry ∷ [])) }
 {
     match place_of_set(sets.as_slice(), &entry) {
         Some(at) => {

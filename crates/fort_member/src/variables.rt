@@ -20,7 +20,8 @@ pub fn variables_in(
     size: usize,
     declarations: &[Declared],
 ) -> Result<List<Field>, Memory>
-    ensures { IfOk result (λ variables. (list : Seq Spelling) → HoldsNumbers list numbers.now → length list ≡ size
+    ensures { IfOk result (λ variables. (list : Seq Spelling) → HoldsNumbers list numbers.now
+        → length list ≡ size
         → variables ≡ flat_map (declared_variables list names.now) declarations.now) }
 {
     let mut variables = List::new(alloc);
@@ -46,7 +47,8 @@ fn add_variable(
     declaration: &Declaration,
     variables: &mut List<Field>,
 ) -> Result<(), Memory>
-    ensures { OnOk result ((list : Seq Spelling) → HoldsNumbers list numbers.now → length list ≡ size
+    ensures { OnOk result ((list : Seq Spelling) → HoldsNumbers list numbers.now
+        → length list ≡ size
         → variables.new ≡ variables.old ++ variables_at list names.now declaration.now) }
 {
     match declaration {

@@ -1,4 +1,6 @@
--- Chapter "Atomic": which threads stand to the left of a place. A sleeping form is tried only where no other thread is awake, so whoever goes from thread to thread must miss none. The code goes from left to right.
+-- Chapter "Atomic": which threads stand to the left of a place. A sleeping form is tried only where
+-- no other thread is awake, so whoever goes from thread to thread must miss none. The code goes
+-- from left to right.
 use Rattle.std.specs.Prelude.{◌≡◌, ℕ, ◌<◌, false, List, [], ◌∷◌, slice_get, Some, ◌⊎◌}
 use Rattle.fort_core.specs.declared.term.Term.{Term}
 use Rattle.fort_machine.specs.Ends.{Finished, open_yet, standing, is_thrown}
@@ -21,7 +23,8 @@ use Rattle.fort_moves.specs.declared.turn.Turn.TheVariants as turn
 
 -- Each thread of a term that isn't passed over is one of these.
 pub record AllMet (met : List Term) (t : Term) : Type 0 where
-  pub all : (fs : List machine.Frame) (a : Term) → t ≡ plug fs a → passed fs a ≡ false → Ready a → IsOneOf a met
+  pub all : (fs : List machine.Frame) (a : Term) → t ≡ plug fs a → passed fs a ≡ false → Ready a
+      → IsOneOf a met
 
 -- A part is finished or passed over, or has no threads but these.
 abbrev pub IsMet : List Term → List Term → ℕ → Type 0
@@ -31,9 +34,11 @@ IsMet met ts i = IsOver ts i ⊎ ((t : Term) → slice_get ts i ≡ Some t → A
 pub record AreMet (met ts : List Term) (count : ℕ) : Type 0 where
   pub each : (i : ℕ) → i < count → IsMet met ts i
 
--- The parts to the left of the one that is gone into have no threads but these; and that one is no throw.
+-- The parts to the left of the one that is gone into have no threads but these; and that one is no
+-- throw.
 abbrev pub SweptAt : List Term → Frame → Type 0
-SweptAt met (frame.Node n) = AreMet met n.parts n.«at» × ((t : Term) → slice_get n.parts n.«at» ≡ Some t → is_thrown t ≡ false)
+SweptAt met (frame.Node n) = AreMet met n.parts n.«at»
+    × ((t : Term) → slice_get n.parts n.«at» ≡ Some t → is_thrown t ≡ false)
 SweptAt met f = Unit {0}
 
 -- The threads to the left of a place are among these.

@@ -1,4 +1,5 @@
--- Chapter "Terms and threads": where a move of a state leads, from a term. The code has the next part by its number.
+-- Chapter "Terms and threads": where a move of a state leads, from a term. The code has the next
+-- part by its number.
 use Rattle.std.specs.Prelude.{◌≡◌, ◌≢◌, IsTrue, ℕ, ◌+◌, ◌<◌, ◌≤◌, ◌++◌, ◌∷◌, ◌&&◌, Bool, true, false, List, [], length, take, drop, map, slice_get, Option, Some, None, ◌⊎◌}
 use Rattle.std.specs.List.{list_any}
 use Rattle.fort_core.specs.declared.form.Mode.{Mode}
@@ -40,12 +41,14 @@ pub record IsAt (clock : ℕ) (t : Term) (place : Place) (part : Term) : Type 0 
   pub is_term : rebuilt clock (frames place.stack) part ≡ t
   pub reached : Reaches clock (frames place.stack) part
 
--- A thread of a term: a form at a place that waits for none of its parts, each of which is finished or passed over.
+-- A thread of a term: a form at a place that waits for none of its parts, each of which is finished
+-- or passed over.
 pub record IsThread (clock : ℕ) (t : Term) (place : Place) (part : Term) : Type 0 where
   pub is_at : IsAt clock t place part
   pub ready : machine.Ready part
 
--- A form takes its step by itself, without parts that go before it, or is a tuple; it is no atomic form.
+-- A form takes its step by itself, without parts that go before it, or is a tuple; it is no atomic
+-- form.
 abbrev pub StepsByItself : Term-F Term Value Closure → Type 0
 StepsByItself (Term-F.Variable variable) = Unit {0}
 StepsByItself (Term-F.Group parts) = Unit {0}
@@ -54,7 +57,8 @@ StepsByItself (Term-F.Read slot) = Unit {0}
 StepsByItself (Term-F.While test body) = Unit {0}
 StepsByItself form = ⊥
 
--- What a thread's form is made of suits it: a form that takes its step by itself, as many parts as the form has, or a frame of a form that goes from left to right.
+-- What a thread's form is made of suits it: a form that takes its step by itself, as many parts as
+-- the form has, or a frame of a form that goes from left to right.
 abbrev pub IsMade : Ready → Type 0
 IsMade (ready.Form t) = StepsByItself (out-Term t)
 IsMade (ready.Node h parts) = IsTrue (suits h parts) × (h ≢ head.Group)
@@ -74,9 +78,11 @@ pub record IsTry (clock : ℕ) (t : Term) (place : Place) (part : Term) : Type 0
   pub is_form : Form part mode body
   pub is_at : IsAt clock t place part
 
--- One of some parts is finished, or passed over: it isn't finished and not marked, and one beside it is a throw.
+-- One of some parts is finished, or passed over: it isn't finished and not marked, and one beside
+-- it is a throw.
 abbrev pub IsOver : List Term → ℕ → Type 0
-IsOver ts i = (t : Term) → slice_get ts i ≡ Some t → Finished t ⊎ ((list_any is_thrown (take i ts ++ drop (i + 1) ts) && is_still t) ≡ true)
+IsOver ts i = (t : Term) → slice_get ts i ≡ Some t
+    → Finished t ⊎ ((list_any is_thrown (take i ts ++ drop (i + 1) ts) && is_still t) ≡ true)
 
 -- The parts from one number on, up to another, are.
 abbrev pub AreOver : List Term → ℕ → ℕ → Type 0
@@ -91,7 +97,8 @@ pub record IsGathered (clock : ℕ) (t : Term) (place : Place) (ts : List Term) 
   pub is_at : IsAt clock t place (group ts)
   pub over : AllOver ts
 
--- A mark stands somewhere else than round an open part of a parallel form: inside another frame, in a part that has its mark already, or round what is finished.
+-- A mark stands somewhere else than round an open part of a parallel form: inside another frame, in
+-- a part that has its mark already, or round what is finished.
 abbrev pub IsOddUnder : ℕ → Frame → Term → Type 0
 IsOddUnder clock (frame.Node n) inner = (is_trodden clock n ≡ true) ⊎ Finished inner
 IsOddUnder clock f inner = Unit {0}
@@ -107,7 +114,8 @@ pub record IsOdd (clock : ℕ) (t : Term) (place : Place) (part : Term) : Type 0
   pub is_odd : IsOddIn clock (frames place.stack) inner
   pub is_at : IsAt clock t place part
 
--- Where moves come to from a term: a thread; a tuple; an atomic form; a mark at an odd place; or the whole term.
+-- Where moves come to from a term: a thread; a tuple; an atomic form; a mark at an odd place; or
+-- the whole term.
 abbrev pub IsStop : ℕ → Term → Stop → Type 0
 IsStop clock t (stop.Steps place r) = IsStep clock t place r
 IsStop clock t (stop.Groups place parts) = IsGathered clock t place parts
@@ -120,10 +128,12 @@ abbrev pub IsTurn : ℕ → Term → Turn → Type 0
 IsTurn clock t (turn.Moves s) = Stands clock t s
 IsTurn clock t (turn.Stops s) = IsStop clock t s
 
--- A part that may go on, with the parts beside it: it isn't passed over; one with a mark is open, and stands in its mark.
+-- A part that may go on, with the parts beside it: it isn't passed over; one with a mark is open,
+-- and stands in its mark.
 abbrev pub IsPart : List Term → List Term → Term → Bool → List Term → Type 0
 IsPart before behind t true ts = (before ++ Stepped t ∷ behind ≡ ts) × (standing t ≡ open_yet)
-IsPart before behind t false ts = (before ++ t ∷ behind ≡ ts) × ((list_any is_thrown (before ++ behind) && is_still t) ≡ false)
+IsPart before behind t false ts = (before ++ t ∷ behind ≡ ts)
+    × ((list_any is_thrown (before ++ behind) && is_still t) ≡ false)
 
 -- The next part that may go on; it is open.
 pub record IsNext (ts : List Term) (n : Next) : Type 0 where
@@ -131,7 +141,8 @@ pub record IsNext (ts : List Term) (n : Next) : Type 0 where
   pub is_part : IsPart (take n.«at» ts) (drop (n.«at» + 1) ts) n.part n.stepped ts
   pub is_open : standing n.part ≡ open_yet
 
--- What is found from a number on: the next part that may go on, those before it being over; or none, all being over.
+-- What is found from a number on: the next part that may go on, those before it being over; or
+-- none, all being over.
 abbrev pub IsFound : List Term → ℕ → Option Next → Type 0
 IsFound ts from None = AreOver ts from (length ts)
 IsFound ts from (Some n) = IsNext ts n × AreOver ts from n.«at»
@@ -161,7 +172,8 @@ GoesInOrder (Term-F.Reduce order span set empty variable source body) = Unit {0}
 GoesInOrder (Term-F.Try body variable clauses last) = Unit {0}
 GoesInOrder form = ⊥
 
--- A frame leaves out the last part of a form that goes from left to right; a throw has its value in its place then.
+-- A frame leaves out the last part of a form that goes from left to right; a throw has its value in
+-- its place then.
 abbrev pub IsLast : Frame → Type 0
 IsLast (frame.Node n) = ⊥
 IsLast frame.Throw = ⊥

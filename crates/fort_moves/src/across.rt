@@ -37,8 +37,10 @@ pub fn across(
 ) -> Result<Turn, Memory>
     requires suits { IsTrue (suits head parts) }
     requires reached { Reaches clock (frames place.stack) (form_of head parts) }
-    ensures turns { IfOk result (IsTurn clock (rebuilt clock (frames place.stack) (form_of head parts))) }
-    ensures sweeps { IfOk result (Keeps (λ met. AreMet met parts from × Swept met (frames place.stack))) }
+    ensures turns { IfOk result
+        (IsTurn clock (rebuilt clock (frames place.stack) (form_of head parts))) }
+    ensures sweeps { IfOk result (Keeps (λ met. AreMet met parts from
+        × Swept met (frames place.stack))) }
 {
     match next_part(&parts, from)? {
         Some(next) => enter_part(alloc, clock, place, head, parts, next),
@@ -184,8 +186,10 @@ pub fn enter_part(
     requires suits { IsTrue (suits head parts) }
     requires next { IsNext parts next }
     requires reached { Reaches clock (frames place.stack) (form_of head parts) }
-    ensures turns { IfOk result (IsTurn clock (rebuilt clock (frames place.stack) (form_of head parts))) }
-    ensures sweeps { IfOk result (Keeps (λ met. AreMet met parts next.«at» × Swept met (frames place.stack))) }
+    ensures turns { IfOk result
+        (IsTurn clock (rebuilt clock (frames place.stack) (form_of head parts))) }
+    ensures sweeps { IfOk result (Keeps (λ met. AreMet met parts next.«at»
+        × Swept met (frames place.stack))) }
 {
     let Next { at, part, stepped } = next;
     let node = Node {
@@ -212,8 +216,10 @@ pub fn enter_open_group(
 ) -> Result<Turn, Memory>
     requires next { IsNext parts next }
     requires reached { Reaches clock (frames place.stack) (Term.Group parts) }
-    ensures turns { IfOk result (IsTurn clock (rebuilt clock (frames place.stack) (Term.Group parts))) }
-    ensures sweeps { IfOk result (Keeps (λ met. AreMet met parts next.«at» × Swept met (frames place.stack))) }
+    ensures turns { IfOk result
+        (IsTurn clock (rebuilt clock (frames place.stack) (Term.Group parts))) }
+    ensures sweeps { IfOk result (Keeps (λ met. AreMet met parts next.«at»
+        × Swept met (frames place.stack))) }
 {
     enter_part(alloc, clock, place, Head::Group, parts, next)
 }
@@ -229,8 +235,10 @@ fn gather(
 ) -> Result<Turn, Memory>
     requires suits { IsTrue (suits head parts) }
     requires reached { Reaches clock (frames place.stack) (form_of head parts) }
-    ensures turns { IfOk result (IsTurn clock (rebuilt clock (frames place.stack) (form_of head parts))) }
-    ensures sweeps { IfOk result (Keeps (λ met. AreMet met parts (length parts) × Swept met (frames place.stack))) }
+    ensures turns { IfOk result
+        (IsTurn clock (rebuilt clock (frames place.stack) (form_of head parts))) }
+    ensures sweeps { IfOk result (Keeps (λ met. AreMet met parts (length parts)
+        × Swept met (frames place.stack))) }
 {
     match next_part(&parts, 0)? {
         Some(next) => left_again(alloc, clock, place, head, parts, next),
@@ -267,8 +275,10 @@ fn left_again(
     requires suits { IsTrue (suits head parts) }
     requires next { IsNext parts next }
     requires reached { Reaches clock (frames place.stack) (form_of head parts) }
-    ensures turns { IfOk result (IsTurn clock (rebuilt clock (frames place.stack) (form_of head parts))) }
-    ensures sweeps { IfOk result (Keeps (λ met. AreMet met parts (length parts) × Swept met (frames place.stack))) }
+    ensures turns { IfOk result
+        (IsTurn clock (rebuilt clock (frames place.stack) (form_of head parts))) }
+    ensures sweeps { IfOk result (Keeps (λ met. AreMet met parts (length parts)
+        × Swept met (frames place.stack))) }
 {
     let _clock = clock;
     let _next = next;

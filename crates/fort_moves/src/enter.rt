@@ -141,7 +141,8 @@ fn mark_in_node(
     requires is_mark { term ≡ Term.Stepped inner.now }
     requires is_open { standing inner.now ≡ open_yet }
     requires reached { Reaches clock (Frame.Node node ∷ frames below.stack) term }
-    ensures turns { IfOk result (IsTurn clock (rebuilt clock (Frame.Node node ∷ frames below.stack) term)) }
+    ensures turns { IfOk result
+        (IsTurn clock (rebuilt clock (Frame.Node node ∷ frames below.stack) term)) }
     ensures sweeps { IfOk result (Keeps (λ met. Swept met (Frame.Node node ∷ frames below.stack))) }
 {
     if is_marked(node.stepped, node.since, clock) {
@@ -266,7 +267,8 @@ pub fn into(
 ) -> Result<Turn, Memory>
     requires in_order { IsInOrder frame }
     requires reached { Reaches clock (frames place.stack) (on (frame_of frame) part.now) }
-    ensures turns { IfOk result (IsTurn clock (rebuilt clock (frames place.stack) (on (frame_of frame) part.now))) }
+    ensures turns { IfOk result
+        (IsTurn clock (rebuilt clock (frames place.stack) (on (frame_of frame) part.now))) }
     ensures sweeps { IfOk result (Keeps (λ met. Swept met (frames place.stack))) }
 {
     Ok(Turn::Moves(State {
@@ -284,7 +286,8 @@ fn enter_throw(
     thrown: &Shared<Term>,
 ) -> Result<Turn, Memory>
     requires { Reaches clock (frames place.stack) (Term.Throw thrown.now) }
-    ensures turns { IfOk result (IsTurn clock (rebuilt clock (frames place.stack) (Term.Throw thrown.now))) }
+    ensures turns { IfOk result
+        (IsTurn clock (rebuilt clock (frames place.stack) (Term.Throw thrown.now))) }
     ensures sweeps { IfOk result (Keeps (λ met. Swept met (frames place.stack))) }
 {
     match thrown.get() {
@@ -306,7 +309,8 @@ fn enter_group(
     parts: List<Shared<Term>>,
 ) -> Result<Turn, Memory>
     requires { Reaches clock (frames place.stack) (Term.Group parts) }
-    ensures turns { IfOk result (IsTurn clock (rebuilt clock (frames place.stack) (Term.Group parts))) }
+    ensures turns { IfOk result
+        (IsTurn clock (rebuilt clock (frames place.stack) (Term.Group parts))) }
     ensures sweeps { IfOk result (Keeps (λ met. Swept met (frames place.stack))) }
 {
     match next_part(&parts, 0)? {
@@ -328,7 +332,8 @@ fn enter_operator(
     operands: &List<Shared<Term>>,
 ) -> Result<Turn, Memory>
     requires { Reaches clock (frames place.stack) (Term.Operator set operands.now) }
-    ensures turns { IfOk result (IsTurn clock (rebuilt clock (frames place.stack) (Term.Operator set operands.now))) }
+    ensures turns { IfOk result
+        (IsTurn clock (rebuilt clock (frames place.stack) (Term.Operator set operands.now))) }
     ensures sweeps { IfOk result (Keeps (λ met. Swept met (frames place.stack))) }
 {
     match operands.get(0) {

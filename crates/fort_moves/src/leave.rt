@@ -23,7 +23,8 @@ use std::alloc::Global;
 #[inline(never)]
 pub fn leave(alloc: Global, clock: u64, place: Place, value: Value) -> Result<Turn, Memory>
     requires { Reaches clock (frames place.stack) (Term.Value value) }
-    ensures turns { IfOk result (IsTurn clock (rebuilt clock (frames place.stack) (Term.Value value))) }
+    ensures turns { IfOk result
+        (IsTurn clock (rebuilt clock (frames place.stack) (Term.Value value))) }
     ensures sweeps { IfOk result (Keeps (λ met. Swept met (frames place.stack))) }
 {
     match place.leave(alloc)? {
@@ -40,9 +41,14 @@ fn leave_frame(
     frame: Frame,
     value: Value,
 ) -> Result<Turn, Memory>
-    requires { Reaches clock (frames below.stack) (plug (frames_of clock frame) (Term.Value value)) }
-    ensures turns { IfOk result (IsTurn clock (rebuilt clock (frames below.stack) (plug (frames_of clock frame) (Term.Value value)))) }
-    ensures sweeps { IfOk result (Keeps (λ met. SweptAt met frame × Swept met (frames below.stack))) }
+    requires { Reaches clock (frames below.stack)
+        (plug (frames_of clock frame) (Term.Value value)) }
+    ensures turns { IfOk result
+        (IsTurn clock
+        (rebuilt clock (frames below.stack)
+        (plug (frames_of clock frame) (Term.Value value)))) }
+    ensures sweeps { IfOk result (Keeps (λ met. SweptAt met frame
+        × Swept met (frames below.stack))) }
 {
     match frame {
         Frame::Node(node) => {
@@ -91,9 +97,14 @@ fn leave_frame(
 fn step_of_value(clock: u64, below: Place, frame: Frame, value: Value) -> Result<Turn, Memory>
     requires in_order { IsInOrder frame }
     requires last { IsLast frame }
-    requires reached { Reaches clock (frames below.stack) (plug (frames_of clock frame) (Term.Value value)) }
-    ensures turns { IfOk result (IsTurn clock (rebuilt clock (frames below.stack) (plug (frames_of clock frame) (Term.Value value)))) }
-    ensures sweeps { IfOk result (Keeps (λ met. SweptAt met frame × Swept met (frames below.stack))) }
+    requires reached { Reaches clock (frames below.stack)
+        (plug (frames_of clock frame) (Term.Value value)) }
+    ensures turns { IfOk result
+        (IsTurn clock
+        (rebuilt clock (frames below.stack)
+        (plug (frames_of clock frame) (Term.Value value)))) }
+    ensures sweeps { IfOk result (Keeps (λ met. SweptAt met frame
+        × Swept met (frames below.stack))) }
 {
     let _clock = clock;
     Ok(Turn::Stops(Stop::Steps(below, Ready::Value(frame, value))))
@@ -111,8 +122,12 @@ fn next_operand(
     operands: List<Shared<Term>>,
     value: Value,
 ) -> Result<Turn, Memory>
-    requires reached { Reaches clock (frames below.stack) (on (frame_of (Frame.Operand set values operands)) (Term.Value value)) }
-    ensures turns { IfOk result (IsTurn clock (rebuilt clock (frames below.stack) (on (frame_of (Frame.Operand set values operands)) (Term.Value value)))) }
+    requires reached { Reaches clock (frames below.stack)
+        (on (frame_of (Frame.Operand set values operands)) (Term.Value value)) }
+    ensures turns { IfOk result
+        (IsTurn clock
+        (rebuilt clock (frames below.stack)
+        (on (frame_of (Frame.Operand set values operands)) (Term.Value value)))) }
     ensures sweeps { IfOk result (Keeps (λ met. Swept met (frames below.stack))) }
 {
     match share_at(&operands, values.len() + 1)? {
@@ -151,7 +166,8 @@ fn share_at(parts: &List<Shared<Term>>, at: usize) -> Result<Option<Shared<Term>
 #[inline(never)]
 pub fn fall(alloc: Global, clock: u64, place: Place, thrown: Value) -> Result<Turn, Memory>
     requires { Reaches clock (frames place.stack) (throw_of thrown) }
-    ensures turns { IfOk result (IsTurn clock (rebuilt clock (frames place.stack) (throw_of thrown))) }
+    ensures turns { IfOk result
+        (IsTurn clock (rebuilt clock (frames place.stack) (throw_of thrown))) }
     ensures sweeps { IfOk result (Keeps (λ met. Swept met (frames place.stack))) }
 {
     match place.leave(alloc)? {
@@ -169,8 +185,11 @@ fn fall_frame(
     thrown: Value,
 ) -> Result<Turn, Memory>
     requires { Reaches clock (frames below.stack) (plug (frames_of clock frame) (throw_of thrown)) }
-    ensures turns { IfOk result (IsTurn clock (rebuilt clock (frames below.stack) (plug (frames_of clock frame) (throw_of thrown)))) }
-    ensures sweeps { IfOk result (Keeps (λ met. SweptAt met frame × Swept met (frames below.stack))) }
+    ensures turns { IfOk result
+        (IsTurn clock
+        (rebuilt clock (frames below.stack) (plug (frames_of clock frame) (throw_of thrown)))) }
+    ensures sweeps { IfOk result (Keeps (λ met. SweptAt met frame
+        × Swept met (frames below.stack))) }
 {
     match frame {
         Frame::Node(node) => {
@@ -186,9 +205,13 @@ fn fall_frame(
 #[tactic(auto, using(crate::proofs::Enters::throw_ready, crate::proofs::Kept::steps_below))]
 fn step_of_throw(clock: u64, below: Place, frame: Frame, thrown: Value) -> Result<Turn, Memory>
     requires in_order { IsInOrder frame }
-    requires reached { Reaches clock (frames below.stack) (plug (frames_of clock frame) (throw_of thrown)) }
-    ensures turns { IfOk result (IsTurn clock (rebuilt clock (frames below.stack) (plug (frames_of clock frame) (throw_of thrown)))) }
-    ensures sweeps { IfOk result (Keeps (λ met. SweptAt met frame × Swept met (frames below.stack))) }
+    requires reached { Reaches clock (frames below.stack)
+        (plug (frames_of clock frame) (throw_of thrown)) }
+    ensures turns { IfOk result
+        (IsTurn clock
+        (rebuilt clock (frames below.stack) (plug (frames_of clock frame) (throw_of thrown)))) }
+    ensures sweeps { IfOk result (Keeps (λ met. SweptAt met frame
+        × Swept met (frames below.stack))) }
 {
     let _clock = clock;
     Ok(Turn::Stops(Stop::Steps(below, Ready::Throw(frame, thrown))))
@@ -205,8 +228,12 @@ fn back(
     part: Shared<Term>,
 ) -> Result<Turn, Memory>
     requires { Reaches clock (frames below.stack) (plug (frames_of clock (Frame.Node node)) part) }
-    ensures turns { IfOk result (IsTurn clock (rebuilt clock (frames below.stack) (plug (frames_of clock (Frame.Node node)) part))) }
-    ensures sweeps { IfOk result (Keeps (λ met. (SweptAt met (Frame.Node node) × Swept met (frames below.stack)) × (Finished part ⊎ IsLeft met part))) }
+    ensures turns { IfOk result
+        (IsTurn clock
+        (rebuilt clock (frames below.stack) (plug (frames_of clock (Frame.Node node)) part))) }
+    ensures sweeps { IfOk result
+        (Keeps (λ met. (SweptAt met (Frame.Node node) × Swept met (frames below.stack))
+        × (Finished part ⊎ IsLeft met part))) }
 {
     let marked = is_marked(node.stepped, node.since, clock);
     let part = if_marked(alloc, marked, part)?;
@@ -274,8 +301,10 @@ fn left_frame(
     term: Shared<Term>,
 ) -> Result<Turn, Memory>
     requires { Reaches clock (frames below.stack) (plug (frames_of clock frame) term) }
-    ensures turns { IfOk result (IsTurn clock (rebuilt clock (frames below.stack) (plug (frames_of clock frame) term))) }
-    ensures sweeps { IfOk result (Keeps (λ met. (SweptAt met frame × Swept met (frames below.stack)) × IsLeft met term)) }
+    ensures turns { IfOk result
+        (IsTurn clock (rebuilt clock (frames below.stack) (plug (frames_of clock frame) term))) }
+    ensures sweeps { IfOk result (Keeps (λ met. (SweptAt met frame × Swept met (frames below.stack))
+        × IsLeft met term)) }
 {
     match frame {
         Frame::Node(node) => back(alloc, clock, below, node, term),
@@ -293,8 +322,10 @@ fn left_in_order(
 ) -> Result<Turn, Memory>
     requires in_order { IsInOrder frame }
     requires reached { Reaches clock (frames below.stack) (plug (frames_of clock frame) term) }
-    ensures turns { IfOk result (IsTurn clock (rebuilt clock (frames below.stack) (plug (frames_of clock frame) term))) }
-    ensures sweeps { IfOk result (Keeps (λ met. (SweptAt met frame × Swept met (frames below.stack)) × IsLeft met term)) }
+    ensures turns { IfOk result
+        (IsTurn clock (rebuilt clock (frames below.stack) (plug (frames_of clock frame) term))) }
+    ensures sweeps { IfOk result (Keeps (λ met. (SweptAt met frame × Swept met (frames below.stack))
+        × IsLeft met term)) }
 {
     let _clock = clock;
     let form = frame.around(alloc, term)?;

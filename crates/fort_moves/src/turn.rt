@@ -67,7 +67,8 @@ pub enum Turn {
 #[tactic(auto, using(crate::proofs::Kept::kept_turns))]
 pub fn moved(alloc: Global, clock: u64, state: State) -> Result<Stop, Memory>
     requires { Reaches clock (frames state.place.stack) (term_at state.«at») }
-    ensures stops { IfOk result (IsStop clock (rebuilt clock (frames state.place.stack) (term_at state.«at»))) }
+    ensures stops { IfOk result
+        (IsStop clock (rebuilt clock (frames state.place.stack) (term_at state.«at»))) }
     ensures sweeps { IfOk result (MissesNone state) }
 {
     let mut state = state;
@@ -83,7 +84,8 @@ pub fn moved(alloc: Global, clock: u64, state: State) -> Result<Stop, Memory>
 #[tactic(auto, using(crate::proofs::Kept::kept_at))]
 fn one_move(alloc: Global, clock: u64, state: State) -> Result<Turn, Memory>
     requires { Reaches clock (frames state.place.stack) (term_at state.«at») }
-    ensures turns { IfOk result (IsTurn clock (rebuilt clock (frames state.place.stack) (term_at state.«at»))) }
+    ensures turns { IfOk result
+        (IsTurn clock (rebuilt clock (frames state.place.stack) (term_at state.«at»))) }
     ensures sweeps { IfOk result (Keeps (λ met. SweptTo met state)) }
 {
     let State { place, at } = state;

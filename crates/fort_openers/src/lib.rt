@@ -1,4 +1,5 @@
-//! How deep the tokens of a file stand in openers, the first one that stands too deep, and when a form has too many parts.
+//! How deep the tokens of a file stand in openers, the first one that stands too deep, and when a
+//! form has too many parts.
 #![tactic(auto)]
 
 mod crowded;

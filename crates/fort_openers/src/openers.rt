@@ -17,9 +17,11 @@ enum Change {
     Stays,
 }
 
-/// The place of the first token that stands inside more than 100 openers, or `None` where no token does.
+/// The place of the first token that stands inside more than 100 openers, or `None` where no token
+/// does.
 ///
-/// It is what rule 202 of the chapter "Openers, and 202" refuses, whether the tokens have a tree or not.
+/// It is what rule 202 of the chapter "Openers, and 202" refuses, whether the tokens have a tree or
+/// not.
 pub fn first_deep(tokens: &[Token]) -> Option<Place>
     ensures { MatchOption result (AllShallow tokens.now) (λ at. FirstDeep tokens.now at) }
 {

@@ -1,11 +1,13 @@
--- The chapter "Operators", its table of spellings. The code compares a text with one spelling after another.
+-- The chapter "Operators", its table of spellings. The code compares a text with one spelling after
+-- another.
 use Rattle.std.specs.Prelude.{◌≡◌, List, [], ◌∷◌, ℕ, codes, map, Contains, encode_utf8_all}
 use Rattle.std.specs.List.{flat_map}
 use Prim.Native.String.{String}
 use Rattle.fort_ops.specs.declared.op.Op.{Op}
 use Rattle.fort_ops.specs.declared.op.Op.TheVariants as an_op
 
--- a row of the table: an operator, its ASCII spelling and, where it has one, its Unicode spelling, each as its characters
+-- a row of the table: an operator, its ASCII spelling and, where it has one, its Unicode spelling,
+-- each as its characters
 pub record Row : Type 0 where
   pub op : Op
   pub spellings : List (List ℕ)
@@ -18,7 +20,8 @@ ascii op word = record { op = op; spellings = codes word ∷ [] }
 abbrev pub unicode : Op → String → String → Row
 unicode op word sign = record { op = op; spellings = codes word ∷ codes sign ∷ [] }
 
--- every operator that has a spelling; juxtaposition has none, and operator words are told by their form
+-- every operator that has a spelling; juxtaposition has none, and operator words are told by their
+-- form
 abbrev pub table : List Row
 table =
     unicode an_op.Times "TIMES" "×"

@@ -1,5 +1,5 @@
--- The chapter "Overload rules": what the members of a component are, when they keep the rules, and which broken rule is reported. The code leaves
--- 507 for the end.
+-- The chapter "Overload rules": what the members of a component are, when they keep the rules, and
+-- which broken rule is reported. The code leaves 507 for the end.
 use Rattle.std.specs.Prelude.{◌≡◌, ◌⊎◌, ℕ, None, slice_get, get_or, Some}
 use Rattle.fort_base.specs.declared.rules.TheConstants.{ABSTRACT_NOT_COVERED}
 use Rattle.fort_base.specs.declared.ids.TypeId.{TypeId}
@@ -18,7 +18,8 @@ use Rattle.fort_set.specs.Leaves.{leaves_of}
 use Rattle.fort_set.specs.Rules.{StandsAt, IsWellMade, KeepsRules}
 use Rattle.fort_over.specs.Standing.{standing, Spot, pairs_of, IsFirstBroken, NoneBroken}
 
--- A component's members are over its declared types, which are an accepted hierarchy with these rows.
+-- A component's members are over its declared types, which are an accepted hierarchy with these
+-- rows.
 pub record AreOver (h : DeclaredTypes) (hierarchy : Hierarchy) (m : Members) : Type 0 where
   pub sound : Sound h
   pub rows : HasRows h hierarchy.table
@@ -29,7 +30,8 @@ pub record AreOver (h : DeclaredTypes) (hierarchy : Hierarchy) (m : Members) : T
 abbrev pub KeepAllRules : DeclaredTypes → Members → Type 0
 KeepAllRules h m = (n : ℕ) (s : MemberSet) → slice_get m.sets n ≡ Some s → KeepsRules h s
 
--- Some abstract declaration of a set isn't covered for an object below its type, and this is the object's place.
+-- Some abstract declaration of a set isn't covered for an object below its type, and this is the
+-- object's place.
 pub record IsUncovered (h : DeclaredTypes) (m : Members) (place : Place) : Type 0 where
   pub n : ℕ
   pub i : ℕ
@@ -47,11 +49,13 @@ pub record IsUncovered (h : DeclaredTypes) (m : Members) (place : Place) : Type 
 
 -- The first pair of all sets that breaks a rule, at the place of its later declaration.
 abbrev pub IsPairFault : DeclaredTypes → Members → ℕ → Place → Type 0
-IsPairFault h m rule place = (spot : Spot) × (place ≡ spot.later_place) × IsFirstBroken h (pairs_of m.sets) rule spot
+IsPairFault h m rule place = (spot : Spot) × (place ≡ spot.later_place)
+    × IsFirstBroken h (pairs_of m.sets) rule spot
 
 -- Where no pair breaks a rule, the earliest object that an abstract declaration isn't covered for.
 abbrev pub IsObjectFault : DeclaredTypes → Members → ℕ → Place → Type 0
-IsObjectFault h m rule place = (rule ≡ ABSTRACT_NOT_COVERED.0) × NoneBroken h (pairs_of m.sets) × IsEarliest (IsUncovered h m) place
+IsObjectFault h m rule place = (rule ≡ ABSTRACT_NOT_COVERED.0) × NoneBroken h (pairs_of m.sets)
+    × IsEarliest (IsUncovered h m) place
 
 -- The rule that is reported, with its place: a pair's, or 507.
 abbrev pub IsReported : DeclaredTypes → Members → ℕ → Place → Type 0

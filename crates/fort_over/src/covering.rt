@@ -12,7 +12,8 @@ use fort_base::{Ty, TypeId, TypeTable};
 use fort_set::{Member, MemberKind, MemberSet};
 use fort_types::below;
 
-/// Whether a set has a declaration that covers an abstract one for the object in its owner's place; it takes no memory.
+/// Whether a set has a declaration that covers an abstract one for the object in its owner's place;
+/// it takes no memory.
 pub fn is_covered(
     table: &TypeTable,
     set: &MemberSet,
@@ -20,7 +21,8 @@ pub fn is_covered(
     at: usize,
     object: TypeId,
 ) -> bool
-    ensures { (h : Seq DeclaredType) → HasRows h table.now → IsTrue result ↔ IsCovered h set.now asked.now at object }
+    ensures { (h : Seq DeclaredType) → HasRows h table.now → IsTrue result
+        ↔ IsCovered h set.now asked.now at object }
 {
     let named = Ty::Named(object);
     some_covers(table, set.members.as_slice(), asked, at, &named)
@@ -34,7 +36,8 @@ fn some_covers(
     at: usize,
     object: &Ty,
 ) -> bool
-    ensures { (h : Seq DeclaredType) → HasRows h table.now → IsTrue result ↔ SomeCovers h members.now asked.now at object.now }
+    ensures { (h : Seq DeclaredType) → HasRows h table.now → IsTrue result
+        ↔ SomeCovers h members.now asked.now at object.now }
 {
     for member in members {
         if covers(table, member, asked, at, object) {
@@ -46,7 +49,8 @@ fn some_covers(
 
 /// Whether a declaration covers an abstract one for a type in the owner's place.
 fn covers(table: &TypeTable, member: &Member, asked: &Member, at: usize, object: &Ty) -> bool
-    ensures { (h : Seq DeclaredType) → HasRows h table.now → IsTrue result ↔ Covers h member.now asked.now at object.now }
+    ensures { (h : Seq DeclaredType) → HasRows h table.now → IsTrue result
+        ↔ Covers h member.now asked.now at object.now }
 {
     let taken = member.parameters.as_slice();
     let given = asked.parameters.as_slice();
@@ -64,7 +68,8 @@ fn covers(table: &TypeTable, member: &Member, asked: &Member, at: usize, object:
 
 /// Whether the types of a list are below those of another one, place by place.
 fn are_below(table: &TypeTable, left: &[Ty], right: &[Ty]) -> bool
-    ensures { (h : Seq DeclaredType) → HasRows h table.now → IsTrue result ↔ Along (Below h) left.now right.now }
+    ensures { (h : Seq DeclaredType) → HasRows h table.now → IsTrue result
+        ↔ Along (Below h) left.now right.now }
 {
     if left.len() != right.len() {
         return false;
@@ -79,7 +84,8 @@ fn are_below(table: &TypeTable, left: &[Ty], right: &[Ty]) -> bool
 
 /// Whether the types of a list, with another one at a position, are below those of a second list.
 fn fits(table: &TypeTable, given: &[Ty], at: usize, object: &Ty, taken: &[Ty]) -> bool
-    ensures { (h : Seq DeclaredType) → HasRows h table.now → IsTrue result ↔ Along (Below h) (slice_set given.now at object.now) taken.now }
+    ensures { (h : Seq DeclaredType) → HasRows h table.now → IsTrue result
+        ↔ Along (Below h) (slice_set given.now at object.now) taken.now }
 {
     if given.len() != taken.len() {
         return false;

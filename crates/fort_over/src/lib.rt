@@ -1,4 +1,5 @@
-//! The overload rules of a component: which pairs of declarations break one, and which objects lack a method, over its sets.
+//! The overload rules of a component: which pairs of declarations break one, and which objects lack
+//! a method, over its sets.
 #![tactic(auto)]
 
 mod covering;

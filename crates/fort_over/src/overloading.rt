@@ -13,15 +13,19 @@ use std::alloc::Global;
 
 /// Checks the overload rules of a component's members, which its hierarchy's types are about.
 ///
-/// It answers `Refused` exactly where a rule of 501 to 507 is broken. Of the pairs of declarations that break one of 501 to 506 it
-/// reports the one whose later declaration comes first in the file, and of those the one whose earlier declaration does, at the later
-/// one's place; only where no pair of any set breaks a rule is 507 asked, which is reported at the earliest place of an object that an
-/// abstract declaration isn't covered for. What is built in counts as standing at line 1, column 1. The hierarchy has at most 2^32
-/// types, which is as many as there are numbers. It answers `Memory` where memory is wanting. The chapter is "Overload rules".
+/// It answers `Refused` exactly where a rule of 501 to 507 is broken. Of the pairs of declarations
+/// that break one of 501 to 506 it reports the one whose later declaration comes first in the file,
+/// and of those the one whose earlier declaration does, at the later one's place; only where no
+/// pair of any set breaks a rule is 507 asked, which is reported at the earliest place of an object
+/// that an abstract declaration isn't covered for. What is built in counts as standing at line 1,
+/// column 1. The hierarchy has at most 2^32 types, which is as many as there are numbers. It
+/// answers `Memory` where memory is wanting. The chapter is "Overload rules".
 pub fn overloads(alloc: Global, hierarchy: &Hierarchy, members: &Members) -> Result<(), CheckFault>
     requires numbered { length hierarchy.now.table.below ≤ 2 ^ 32 }
-    ensures ok { IfOk result (λ _. (h : Seq DeclaredType) → AreOver h hierarchy.now members.now → KeepAllRules h members.now) }
-    ensures err { IfErr result (λ fault. (h : Seq DeclaredType) → AreOver h hierarchy.now members.now → IsFault h members.now fault) }
+    ensures ok { IfOk result (λ _. (h : Seq DeclaredType) → AreOver h hierarchy.now members.now
+        → KeepAllRules h members.now) }
+    ensures err { IfErr result (λ fault. (h : Seq DeclaredType)
+        → AreOver h hierarchy.now members.now → IsFault h members.now fault) }
 {
     let broken = first_broken(alloc, &hierarchy.table, members.sets.as_slice())?;
     if let Some(pair) = broken {

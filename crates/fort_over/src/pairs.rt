@@ -11,8 +11,8 @@ use fort_pair::broken_rule;
 use fort_set::{Member, MemberSet};
 use std::alloc::Global;
 
-/// The first broken pair of all sets, by the later declaration's place and then by the earlier one's; of pairs at the same two
-/// places the first in the order of the sets.
+/// The first broken pair of all sets, by the later declaration's place and then by the earlier
+/// one's; of pairs at the same two places the first in the order of the sets.
 pub fn first_broken(
     alloc: Global,
     table: &TypeTable,
@@ -75,7 +75,8 @@ fn judged(
     second: &Member,
 ) -> Result<Option<BrokenPair>, Memory>
     requires numbered { length table.now.below ≤ 2 ^ 32 }
-    ensures { IfOk result (λ pair. (h : Seq DeclaredType) → Sound h → HasRows h table.now → length first.now.parameters ≡ length second.now.parameters
+    ensures { IfOk result (λ pair. (h : Seq DeclaredType) → Sound h → HasRows h table.now
+        → length first.now.parameters ≡ length second.now.parameters
         → IsJudged h set.now first.now second.now pair) }
 {
     match broken_rule(alloc, table, set, first, second)? {

@@ -16,7 +16,8 @@ pub struct BrokenPair {
     pub earlier: Place,
 }
 
-/// Where something with this place stands; what has none is built in and stands at the first line and column.
+/// Where something with this place stands; what has none is built in and stands at the first line
+/// and column.
 pub fn standing(place: Option<Place>) -> Place
     ensures { result ≡ place_of place }
 {

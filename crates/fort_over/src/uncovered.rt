@@ -9,7 +9,8 @@ use fort_base::{Place, TypeId, TypeTable, earlier, earlier_of};
 use fort_set::{Member, MemberKind, MemberSet, Members};
 use fort_types::set_at;
 
-/// The earliest place of an object for which an abstract declaration of a set isn't covered; it takes no memory.
+/// The earliest place of an object for which an abstract declaration of a set isn't covered; it
+/// takes no memory.
 pub fn first_uncovered(table: &TypeTable, members: &Members) -> Option<Place>
     requires numbered { length table.now.below ≤ 2 ^ 32 }
     ensures { SetsFirst table.now members.now (length members.now.sets) result }
@@ -57,7 +58,8 @@ fn first_below(
     owner: TypeId,
 ) -> Option<Place>
     requires numbered { length table.now.below ≤ 2 ^ 32 }
-    ensures { ObjectsFirst table.now members.now set.now member.now at owner (length table.now.below) result }
+    ensures { ObjectsFirst table.now members.now set.now member.now at owner
+        (length table.now.below) result }
 {
     let mut best = None;
     for number in 0..table.below.len() {

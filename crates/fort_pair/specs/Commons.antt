@@ -1,4 +1,5 @@
--- The chapter "Overload rules": declared types below two receivers. The code looks through the rows of below.
+-- The chapter "Overload rules": declared types below two receivers. The code looks through the rows
+-- of below.
 use Rattle.std.specs.Prelude.{◌<◌, ℕ, Bool, IsTrue, List, length}
 use Rattle.fort_base.specs.declared.ty.Ty.{Ty}
 use Rattle.fort_base.specs.declared.ty.Ty.TheOpen.{Ty-F}

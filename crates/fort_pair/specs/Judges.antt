@@ -1,4 +1,5 @@
--- The chapter "Overload rules": what an answer for two declarations says. The code asks one case after another.
+-- The chapter "Overload rules": what an answer for two declarations says. The code asks one case
+-- after another.
 use Rattle.std.specs.Prelude.{◌≡◌, ◌⊎◌, true, Bool, false, List, Option, Some, None, Contains}
 use Rattle.fort_base.specs.declared.rules.TheConstants.{RESULT_NOT_BELOW}
 use Rattle.fort_base.specs.declared.refusal.Rule.{Rule}
@@ -22,7 +23,8 @@ AreAside h s p q = (s.dotted ≡ true) × AreStrangers h p.parameters q.paramete
 -- An answer for two declarations the first of which is more specific: by the results.
 abbrev pub JudgesResults : DeclaredTypes → MemberSet → Member → Member → Option Rule → Type 0
 JudgesResults h s p q None = Below h p.result q.result ⊎ AreAside h s p q
-JudgesResults h s p q (Some rule) = (rule.0 ≡ RESULT_NOT_BELOW.0) × (Below h p.result q.result → ⊥) × (AreAside h s p q → ⊥)
+JudgesResults h s p q (Some rule) = (rule.0 ≡ RESULT_NOT_BELOW.0) × (Below h p.result q.result → ⊥)
+    × (AreAside h s p q → ⊥)
 
 -- An answer for two declarations of which the first three cases say nothing.
 abbrev pub JudgesMeets : DeclaredTypes → MemberSet → Member → Member → Option Rule → Type 0
@@ -33,6 +35,9 @@ abbrev pub Covers : DeclaredTypes → Member → Member → Member → List Ty �
 Covers h r p q types = IsMoreSpecific h r p × IsMoreSpecific h r q × IsApplicable h r types
 
 -- Each of a list of choices is covered or, where the answer is no, one isn't.
-pub record CoversAll (h : DeclaredTypes) (members : List Member) (p q : Member) (choices : List (List Ty)) (good : Bool) : Type 0 where
-  pub all : good ≡ true → (types : List Ty) → Contains choices types → AreCovered h members p q types
-  pub some : good ≡ false → (types : List Ty) × Contains choices types × (AreCovered h members p q types → ⊥)
+pub record CoversAll (h : DeclaredTypes) (members : List Member) (p q : Member)
+    (choices : List (List Ty)) (good : Bool) : Type 0 where
+  pub all : good ≡ true → (types : List Ty) → Contains choices types
+      → AreCovered h members p q types
+  pub some : good ≡ false
+      → (types : List Ty) × Contains choices types × (AreCovered h members p q types → ⊥)

@@ -9,16 +9,19 @@ ghost use Rattle.fort_base.specs.declared.ty.Ty.{out-Ty};
 use fort_base::{List, Ty, TypeTable};
 use fort_types::below;
 
-/// Whether two lists are of one length and have clashing arrows in one place, or in tuples in one place.
+/// Whether two lists are of one length and have clashing arrows in one place, or in tuples in one
+/// place.
 pub fn arrows_clash(table: &TypeTable, left: &List<Ty>, right: &List<Ty>) -> bool
-    ensures { (h : Seq DeclaredType) → HasRows h table.now → IsTrue result ↔ PartsClash h left.now right.now }
+    ensures { (h : Seq DeclaredType) → HasRows h table.now → IsTrue result
+        ↔ PartsClash h left.now right.now }
 {
     parts_clash(table, left.as_slice(), right.as_slice())
 }
 
 #[cycle(clash)]
 fn parts_clash(table: &TypeTable, left: &[Ty], right: &[Ty]) -> bool
-    ensures { (h : Seq DeclaredType) → HasRows h table.now → IsTrue result ↔ PartsClash h left.now right.now }
+    ensures { (h : Seq DeclaredType) → HasRows h table.now → IsTrue result
+        ↔ PartsClash h left.now right.now }
 {
     if left.len() != right.len() {
         return false;
@@ -33,7 +36,8 @@ fn parts_clash(table: &TypeTable, left: &[Ty], right: &[Ty]) -> bool
 
 #[cycle(clash)]
 fn layer_clash(table: &TypeTable, a: &Ty, b: &Ty) -> bool
-    ensures { (h : Seq DeclaredType) → HasRows h table.now → IsTrue result ↔ ClashLayer h (out-Ty a.now) (out-Ty b.now) }
+    ensures { (h : Seq DeclaredType) → HasRows h table.now → IsTrue result
+        ↔ ClashLayer h (out-Ty a.now) (out-Ty b.now) }
 {
     match (a, b) {
         (Ty::Tuple(xs), Ty::Tuple(ys)) => parts_clash(table, xs.as_slice(), ys.as_slice()),
@@ -44,7 +48,8 @@ fn layer_clash(table: &TypeTable, a: &Ty, b: &Ty) -> bool
 
 /// Whether neither of two types is below the other.
 fn unordered(table: &TypeTable, a: &Ty, b: &Ty) -> bool
-    ensures { (h : Seq DeclaredType) → HasRows h table.now → IsTrue result ↔ ((Below h a.now b.now → ⊥) × (Below h b.now a.now → ⊥)) }
+    ensures { (h : Seq DeclaredType) → HasRows h table.now → IsTrue result
+        ↔ ((Below h a.now b.now → ⊥) × (Below h b.now a.now → ⊥)) }
 {
     !below(table, a, b) && !below(table, b, a)
 }

@@ -13,10 +13,12 @@ use fort_meet::meets;
 use fort_types::below;
 use std::alloc::Global;
 
-/// One more than the most choices that two declarations may have; it stands for each number above that.
+/// One more than the most choices that two declarations may have; it stands for each number above
+/// that.
 pub const TOO_MANY: usize = 4097;
 
-/// A number that stands for that of the choices of one meet for each place of two lists of one length.
+/// A number that stands for that of the choices of one meet for each place of two lists of one
+/// length.
 pub fn count_all(
     alloc: Global,
     table: &TypeTable,
@@ -25,7 +27,8 @@ pub fn count_all(
 ) -> Result<usize, Memory>
     requires numbered { length table.now.below ≤ 2 ^ 32 }
     requires alike { length left.now ≡ length right.now }
-    ensures { IfOk result (λ n. (h : Seq DeclaredType) → Sound h → HasRows h table.now → CountsTo h left.now right.now (length left.now) n) }
+    ensures { IfOk result (λ n. (h : Seq DeclaredType) → Sound h → HasRows h table.now
+        → CountsTo h left.now right.now (length left.now) n) }
 {
     count_choices(alloc, table, left.as_slice(), right.as_slice())
 }
@@ -40,7 +43,8 @@ fn count_choices(
     requires numbered { length table.now.below ≤ 2 ^ 32 }
     requires alike { length left.now ≡ length right.now }
     ensures few { IfOk result (λ n. n ≤ 4097) }
-    ensures ok { IfOk result (λ n. (h : Seq DeclaredType) → Sound h → HasRows h table.now → CountsTo h left.now right.now (length left.now) n) }
+    ensures ok { IfOk result (λ n. (h : Seq DeclaredType) → Sound h → HasRows h table.now
+        → CountsTo h left.now right.now (length left.now) n) }
 {
     let mut all = 1;
     for i in 0..left.len() {
@@ -54,7 +58,8 @@ fn count_choices(
 fn count_meets(alloc: Global, table: &TypeTable, a: &Ty, b: &Ty) -> Result<usize, Memory>
     requires numbered { length table.now.below ≤ 2 ^ 32 }
     ensures few { IfOk result (λ n. n ≤ 4097) }
-    ensures ok { IfOk result (λ n. (h : Seq DeclaredType) → Sound h → HasRows h table.now → Counts h a.now b.now n) }
+    ensures ok { IfOk result (λ n. (h : Seq DeclaredType) → Sound h → HasRows h table.now
+        → Counts h a.now b.now n) }
 {
     if below(table, a, b) {
         return Ok(1);
@@ -70,7 +75,8 @@ fn count_meets(alloc: Global, table: &TypeTable, a: &Ty, b: &Ty) -> Result<usize
 fn layer_count(alloc: Global, table: &TypeTable, a: &Ty, b: &Ty) -> Result<usize, Memory>
     requires numbered { length table.now.below ≤ 2 ^ 32 }
     ensures few { IfOk result (λ n. n ≤ 4097) }
-    ensures ok { IfOk result (λ n. (h : Seq DeclaredType) → Sound h → HasRows h table.now → CountsLayer h (out-Ty a.now) (out-Ty b.now) n) }
+    ensures ok { IfOk result (λ n. (h : Seq DeclaredType) → Sound h → HasRows h table.now
+        → CountsLayer h (out-Ty a.now) (out-Ty b.now) n) }
 {
     match (a, b) {
         (Ty::Named(x), Ty::Named(y)) => count_declared(alloc, table, *x, *y),
@@ -84,7 +90,8 @@ fn layer_count(alloc: Global, table: &TypeTable, a: &Ty, b: &Ty) -> Result<usize
 fn count_parts(alloc: Global, table: &TypeTable, xs: &[Ty], ys: &[Ty]) -> Result<usize, Memory>
     requires numbered { length table.now.below ≤ 2 ^ 32 }
     ensures few { IfOk result (λ n. n ≤ 4097) }
-    ensures ok { IfOk result (λ n. (h : Seq DeclaredType) → Sound h → HasRows h table.now → CountsLayer h (Ty-F.Tuple xs.now) (Ty-F.Tuple ys.now) n) }
+    ensures ok { IfOk result (λ n. (h : Seq DeclaredType) → Sound h → HasRows h table.now
+        → CountsLayer h (Ty-F.Tuple xs.now) (Ty-F.Tuple ys.now) n) }
 {
     if xs.len() != ys.len() {
         return Ok(0);
@@ -96,7 +103,8 @@ fn count_parts(alloc: Global, table: &TypeTable, xs: &[Ty], ys: &[Ty]) -> Result
 fn count_declared(alloc: Global, table: &TypeTable, a: TypeId, b: TypeId) -> Result<usize, Memory>
     requires numbered { length table.now.below ≤ 2 ^ 32 }
     ensures few { IfOk result (λ n. n ≤ 4097) }
-    ensures ok { IfOk result (λ n. (h : Seq DeclaredType) → Sound h → HasRows h table.now → CountsLayer h (Ty-F.Named a) (Ty-F.Named b) n) }
+    ensures ok { IfOk result (λ n. (h : Seq DeclaredType) → Sound h → HasRows h table.now
+        → CountsLayer h (Ty-F.Named a) (Ty-F.Named b) n) }
 {
     let list = meets(alloc, table, a, b)?;
     Ok(capped(list.len()))

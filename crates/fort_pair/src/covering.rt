@@ -17,7 +17,8 @@ pub fn all_covered(
     second: &Member,
     choices: &[List<Ty>],
 ) -> bool
-    ensures { (h : Seq DeclaredType) → HasRows h table.now → CoversAll h members.now first.now second.now choices.now result }
+    ensures { (h : Seq DeclaredType) → HasRows h table.now
+        → CoversAll h members.now first.now second.now choices.now result }
 {
     for types in choices {
         if !is_covered(table, members, first, second, types) {
@@ -35,7 +36,8 @@ fn is_covered(
     second: &Member,
     types: &List<Ty>,
 ) -> bool
-    ensures { (h : Seq DeclaredType) → HasRows h table.now → IsTrue result ↔ AreCovered h members.now first.now second.now types.now }
+    ensures { (h : Seq DeclaredType) → HasRows h table.now → IsTrue result
+        ↔ AreCovered h members.now first.now second.now types.now }
 {
     for other in members {
         if covers(table, other, first, second, types) {
@@ -53,7 +55,8 @@ fn covers(
     second: &Member,
     types: &List<Ty>,
 ) -> bool
-    ensures { (h : Seq DeclaredType) → HasRows h table.now → IsTrue result ↔ Covers h other.now first.now second.now types.now }
+    ensures { (h : Seq DeclaredType) → HasRows h table.now → IsTrue result
+        ↔ Covers h other.now first.now second.now types.now }
 {
     are_below(table, &other.parameters, &first.parameters)
         && are_below(table, &other.parameters, &second.parameters)

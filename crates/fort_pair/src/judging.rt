@@ -18,16 +18,17 @@ use fort_set::{Member, MemberSet};
 use fort_types::below;
 use std::alloc::Global;
 
-/// The rule that two declarations of a set break, if any, by the first case that says something of them.
+/// The rule that two declarations of a set break, if any, by the first case that says something of
+/// them.
 ///
-/// It is 501 where their parameters are equal, 502 where the result of the more specific one isn't below
-/// the other's, 505 where arrows of theirs clash, 503 where some position has no meet, 506 where there are
-/// more than 4,096 choices, and 504 where the set doesn't cover a choice.
+/// It is 501 where their parameters are equal, 502 where the result of the more specific one isn't
+/// below the other's, 505 where arrows of theirs clash, 503 where some position has no meet, 506
+/// where there are more than 4,096 choices, and 504 where the set doesn't cover a choice.
 ///
-/// That is said of whatever accepted hierarchy the table has the rows, and of either order of the two. The
-/// table has at most 2^32 types. Two with different numbers of parameters, which stand in no set together,
-/// break none. Where memory is wanting there is no answer; the cases before the meets take none. The chapter
-/// is "Overload rules".
+/// That is said of whatever accepted hierarchy the table has the rows, and of either order of the
+/// two. The table has at most 2^32 types. Two with different numbers of parameters, which stand in
+/// no set together, break none. Where memory is wanting there is no answer; the cases before the
+/// meets take none. The chapter is "Overload rules".
 pub fn broken_rule(
     alloc: Global,
     table: &TypeTable,
@@ -36,7 +37,8 @@ pub fn broken_rule(
     second: &Member,
 ) -> Result<Option<Rule>, Memory>
     requires numbered { length table.now.below ≤ 2 ^ 32 }
-    ensures { IfOk result (λ rule. (h : Seq DeclaredType) → Sound h → HasRows h table.now → length first.now.parameters ≡ length second.now.parameters →
+    ensures { IfOk result (λ rule. (h : Seq DeclaredType) → Sound h → HasRows h table.now
+        → length first.now.parameters ≡ length second.now.parameters →
         Judges h set.now first.now second.now rule) }
 {
     if first.parameters.len() != second.parameters.len() {
@@ -62,7 +64,8 @@ pub fn broken_rule(
 
 /// What the results say, where the first declaration is more specific.
 fn by_results(table: &TypeTable, set: &MemberSet, first: &Member, second: &Member) -> Option<Rule>
-    ensures { (h : Seq DeclaredType) → HasRows h table.now → JudgesResults h set.now first.now second.now result }
+    ensures { (h : Seq DeclaredType) → HasRows h table.now
+        → JudgesResults h set.now first.now second.now result }
 {
     if below(table, &first.result, &second.result) {
         return None;
@@ -75,7 +78,8 @@ fn by_results(table: &TypeTable, set: &MemberSet, first: &Member, second: &Membe
 
 /// Whether the declarations are dotted methods, and no declared type is below both receivers.
 fn are_aside(table: &TypeTable, set: &MemberSet, first: &Member, second: &Member) -> bool
-    ensures { (h : Seq DeclaredType) → HasRows h table.now → IsTrue result ↔ AreAside h set.now first.now second.now }
+    ensures { (h : Seq DeclaredType) → HasRows h table.now → IsTrue result
+        ↔ AreAside h set.now first.now second.now }
 {
     set.dotted && are_strangers(table, &first.parameters, &second.parameters)
 }
@@ -90,7 +94,8 @@ fn by_meets(
 ) -> Result<Option<Rule>, Memory>
     requires numbered { length table.now.below ≤ 2 ^ 32 }
     requires alike { length first.now.parameters ≡ length second.now.parameters }
-    ensures { IfOk result (λ rule. (h : Seq DeclaredType) → Sound h → HasRows h table.now → JudgesMeets h set.now first.now second.now rule) }
+    ensures { IfOk result (λ rule. (h : Seq DeclaredType) → Sound h → HasRows h table.now
+        → JudgesMeets h set.now first.now second.now rule) }
 {
     if arrows_clash(table, &first.parameters, &second.parameters) {
         return Ok(Some(ARROW_OVERLAP));

@@ -25,7 +25,8 @@ pub fn list_all(
 ) -> Result<List<List<Ty>>, Memory>
     requires numbered { length table.now.below ≤ 2 ^ 32 }
     requires alike { length left.now ≡ length right.now }
-    ensures { IfOk result (λ all. (h : Seq DeclaredType) → Sound h → HasRows h table.now → HasAll (IsChoice h left.now right.now) all) }
+    ensures { IfOk result (λ all. (h : Seq DeclaredType) → Sound h → HasRows h table.now
+        → HasAll (IsChoice h left.now right.now) all) }
 {
     list_choices(alloc, table, left.as_slice(), right.as_slice())
 }
@@ -39,7 +40,8 @@ fn list_choices(
 ) -> Result<List<List<Ty>>, Memory>
     requires numbered { length table.now.below ≤ 2 ^ 32 }
     requires alike { length left.now ≡ length right.now }
-    ensures { IfOk result (λ all. (h : Seq DeclaredType) → Sound h → HasRows h table.now → HasAll (IsChoice h left.now right.now) all) }
+    ensures { IfOk result (λ all. (h : Seq DeclaredType) → Sound h → HasRows h table.now
+        → HasAll (IsChoice h left.now right.now) all) }
 {
     let lists = list_each(alloc, table, left, right)?;
     all_ways(alloc, lists.as_slice())
@@ -55,7 +57,8 @@ fn list_each(
 ) -> Result<List<List<Ty>>, Memory>
     requires numbered { length table.now.below ≤ 2 ^ 32 }
     requires alike { length left.now ≡ length right.now }
-    ensures { IfOk result (λ lists. (h : Seq DeclaredType) → Sound h → HasRows h table.now → HaveAll h left.now right.now lists (length left.now)) }
+    ensures { IfOk result (λ lists. (h : Seq DeclaredType) → Sound h → HasRows h table.now
+        → HaveAll h left.now right.now lists (length left.now)) }
 {
     let mut lists = List::new(alloc);
     for i in 0..left.len() {
@@ -68,7 +71,8 @@ fn list_each(
 #[cycle(list)]
 fn list_meets(alloc: Global, table: &TypeTable, a: &Ty, b: &Ty) -> Result<List<Ty>, Memory>
     requires numbered { length table.now.below ≤ 2 ^ 32 }
-    ensures { IfOk result (λ list. (h : Seq DeclaredType) → Sound h → HasRows h table.now → HasAll (Meet h a.now b.now) list) }
+    ensures { IfOk result (λ list. (h : Seq DeclaredType) → Sound h → HasRows h table.now
+        → HasAll (Meet h a.now b.now) list) }
 {
     if below(table, a, b) {
         return only(alloc, a);
@@ -83,7 +87,8 @@ fn list_meets(alloc: Global, table: &TypeTable, a: &Ty, b: &Ty) -> Result<List<T
 #[cycle(list)]
 fn layer_list(alloc: Global, table: &TypeTable, a: &Ty, b: &Ty) -> Result<List<Ty>, Memory>
     requires numbered { length table.now.below ≤ 2 ^ 32 }
-    ensures { IfOk result (λ list. (h : Seq DeclaredType) → Sound h → HasRows h table.now → ListsLayer h (out-Ty a.now) (out-Ty b.now) list) }
+    ensures { IfOk result (λ list. (h : Seq DeclaredType) → Sound h → HasRows h table.now
+        → ListsLayer h (out-Ty a.now) (out-Ty b.now) list) }
 {
     match (a, b) {
         (Ty::Named(x), Ty::Named(y)) => list_declared(alloc, table, *x, *y),
@@ -96,7 +101,8 @@ fn layer_list(alloc: Global, table: &TypeTable, a: &Ty, b: &Ty) -> Result<List<T
 #[cycle(list)]
 fn list_parts(alloc: Global, table: &TypeTable, xs: &[Ty], ys: &[Ty]) -> Result<List<Ty>, Memory>
     requires numbered { length table.now.below ≤ 2 ^ 32 }
-    ensures { IfOk result (λ list. (h : Seq DeclaredType) → Sound h → HasRows h table.now → ListsLayer h (Ty-F.Tuple xs.now) (Ty-F.Tuple ys.now) list) }
+    ensures { IfOk result (λ list. (h : Seq DeclaredType) → Sound h → HasRows h table.now
+        → ListsLayer h (Ty-F.Tuple xs.now) (Ty-F.Tuple ys.now) list) }
 {
     if xs.len() != ys.len() {
         return Ok(List::new(alloc));
@@ -108,7 +114,8 @@ fn list_parts(alloc: Global, table: &TypeTable, xs: &[Ty], ys: &[Ty]) -> Result<
 /// The meets of two declared types, as types.
 fn list_declared(alloc: Global, table: &TypeTable, a: TypeId, b: TypeId) -> Result<List<Ty>, Memory>
     requires numbered { length table.now.below ≤ 2 ^ 32 }
-    ensures { IfOk result (λ list. (h : Seq DeclaredType) → Sound h → HasRows h table.now → ListsLayer h (Ty-F.Named a) (Ty-F.Named b) list) }
+    ensures { IfOk result (λ list. (h : Seq DeclaredType) → Sound h → HasRows h table.now
+        → ListsLayer h (Ty-F.Named a) (Ty-F.Named b) list) }
 {
     let ids = meets(alloc, table, a, b)?;
     named(alloc, ids.as_slice())
@@ -180,7 +187,8 @@ fn one_way(alloc: Global) -> Result<List<List<Ty>>, Memory>
 
 /// The ways that begin with one of a list.
 fn begun(alloc: Global, firsts: &[Ty], rests: &[List<Ty>]) -> Result<List<List<Ty>>, Memory>
-    ensures { IfOk result (λ all. all ≡ flat_map (λ m. map (λ (rest : Seq Ty). m ∷ rest) rests.now) firsts.now) }
+    ensures { IfOk result (λ all. all
+        ≡ flat_map (λ m. map (λ (rest : Seq Ty). m ∷ rest) rests.now) firsts.now) }
 {
     let mut all = List::new(alloc);
     for first in firsts {
@@ -196,7 +204,8 @@ fn push_ways(
     first: &Ty,
     rests: &[List<Ty>],
 ) -> Result<(), Memory>
-    ensures { OnOk result (all.new ≡ all.old ++ map (λ (rest : Seq Ty). first.now ∷ rest) rests.now) }
+    ensures { OnOk result (all.new ≡ all.old ++ map (λ
+        (rest : Seq Ty). first.now ∷ rest) rests.now) }
 {
     for rest in rests {
         all.push(headed(alloc, first, rest)?)?;

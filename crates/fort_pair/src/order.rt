@@ -18,9 +18,11 @@ pub fn are_same(left: &List<Ty>, right: &List<Ty>) -> bool
     same_types(left.as_slice(), right.as_slice())
 }
 
-/// Whether two lists are of one length, and each type of the first is below the one in its place of the second.
+/// Whether two lists are of one length, and each type of the first is below the one in its place of
+/// the second.
 pub fn are_below(table: &TypeTable, left: &List<Ty>, right: &List<Ty>) -> bool
-    ensures { (h : Seq DeclaredType) → HasRows h table.now → IsTrue result ↔ Along (Below h) left.now right.now }
+    ensures { (h : Seq DeclaredType) → HasRows h table.now → IsTrue result
+        ↔ Along (Below h) left.now right.now }
 {
     all_below(table, left.as_slice(), right.as_slice())
 }
@@ -28,14 +30,17 @@ pub fn are_below(table: &TypeTable, left: &List<Ty>, right: &List<Ty>) -> bool
 /// Whether two lists of one length have types in one place that are apart.
 pub fn are_apart(table: &TypeTable, left: &List<Ty>, right: &List<Ty>) -> bool
     requires alike { length left.now ≡ length right.now }
-    ensures { (h : Seq DeclaredType) → HasRows h table.now → IsTrue result ↔ Somewhere (Apart h) left.now right.now }
+    ensures { (h : Seq DeclaredType) → HasRows h table.now → IsTrue result
+        ↔ Somewhere (Apart h) left.now right.now }
 {
     apart_somewhere(table, left.as_slice(), right.as_slice())
 }
 
-/// Whether the first types of two lists aren't both declared types with some declared type below both.
+/// Whether the first types of two lists aren't both declared types with some declared type below
+/// both.
 pub fn are_strangers(table: &TypeTable, left: &List<Ty>, right: &List<Ty>) -> bool
-    ensures { (h : Seq DeclaredType) → HasRows h table.now → IsTrue result ↔ AreStrangers h left.now right.now }
+    ensures { (h : Seq DeclaredType) → HasRows h table.now → IsTrue result
+        ↔ AreStrangers h left.now right.now }
 {
     strangers(table, left.as_slice(), right.as_slice())
 }
@@ -54,9 +59,11 @@ fn same_types(left: &[Ty], right: &[Ty]) -> bool
     true
 }
 
-/// Whether two slices are of one length, and each type of the first is below the one in its place of the second.
+/// Whether two slices are of one length, and each type of the first is below the one in its place
+/// of the second.
 pub fn all_below(table: &TypeTable, left: &[Ty], right: &[Ty]) -> bool
-    ensures { (h : Seq DeclaredType) → HasRows h table.now → IsTrue result ↔ Along (Below h) left.now right.now }
+    ensures { (h : Seq DeclaredType) → HasRows h table.now → IsTrue result
+        ↔ Along (Below h) left.now right.now }
 {
     if left.len() != right.len() {
         return false;
@@ -71,7 +78,8 @@ pub fn all_below(table: &TypeTable, left: &[Ty], right: &[Ty]) -> bool
 
 fn apart_somewhere(table: &TypeTable, left: &[Ty], right: &[Ty]) -> bool
     requires alike { length left.now ≡ length right.now }
-    ensures { (h : Seq DeclaredType) → HasRows h table.now → IsTrue result ↔ Somewhere (Apart h) left.now right.now }
+    ensures { (h : Seq DeclaredType) → HasRows h table.now → IsTrue result
+        ↔ Somewhere (Apart h) left.now right.now }
 {
     for i in 0..left.len() {
         if apart(table, &left[i], &right[i]) {
@@ -82,7 +90,8 @@ fn apart_somewhere(table: &TypeTable, left: &[Ty], right: &[Ty]) -> bool
 }
 
 fn strangers(table: &TypeTable, left: &[Ty], right: &[Ty]) -> bool
-    ensures { (h : Seq DeclaredType) → HasRows h table.now → IsTrue result ↔ AreStrangers h left.now right.now }
+    ensures { (h : Seq DeclaredType) → HasRows h table.now → IsTrue result
+        ↔ AreStrangers h left.now right.now }
 {
     match (left.first(), right.first()) {
         (Some(a), Some(b)) => !layer_common(table, a, b),
@@ -92,7 +101,8 @@ fn strangers(table: &TypeTable, left: &[Ty], right: &[Ty]) -> bool
 
 /// Whether two types are declared types with some declared type below both.
 fn layer_common(table: &TypeTable, a: &Ty, b: &Ty) -> bool
-    ensures { (h : Seq DeclaredType) → HasRows h table.now → IsTrue result ↔ CommonLayer h (out-Ty a.now) (out-Ty b.now) }
+    ensures { (h : Seq DeclaredType) → HasRows h table.now → IsTrue result
+        ↔ CommonLayer h (out-Ty a.now) (out-Ty b.now) }
 {
     match (a, b) {
         (Ty::Named(x), Ty::Named(y)) => some_common(table, *x, *y),

@@ -1,4 +1,5 @@
--- The productions of blocks and of the parts of the forms that end with `end` as parsers, over one of runs.
+-- The productions of blocks and of the parts of the forms that end with `end` as parsers, over one
+-- of runs.
 use Rattle.std.specs.Prelude.{ℕ, Bool, true, false, ◌&&◌, List, [], ◌∷◌, Option, Some, None}
 use Rattle.fort_token.specs.declared.token.Token.{Token}
 use Rattle.fort_token.specs.declared.marks.Mark.TheVariants as mark
@@ -58,7 +59,8 @@ module _ (names : Spellings) {n : ℕ} (run : Bool → Eater Run n) where
   initialised var name colon ty = do
     sign ← accept initial_of
     value ← (expr names run false).parser
-    pure (roll-Variable (record { var = var; name = name; colon = colon; ty = ty; sign = sign; value = value }))
+    pure (roll-Variable
+        (record { var = var; name = name; colon = colon; ty = ty; sign = sign; value = value }))
 
   unfoldable pub variable_from : Option Spot → Name → Parser Variable n
   variable_from var name = do
@@ -105,7 +107,8 @@ module _ (names : Spellings) {n : ℕ} (run : Bool → Eater Run n) where
     pure (an_item.Expr e)
 
   unfoldable pub item : Eater Item n
-  item = fork_eater (sees (is_word reserved.Var)) var_item (fork_eater (sees begins_head) head_item (operand names run true >>| item_from))
+  item = fork_eater (sees (is_word reserved.Var)) var_item
+      (fork_eater (sees begins_head) head_item (operand names run true >>| item_from))
 
   unfoldable pub block_item : Eater BlockItem n
   block_item = item >>| λ i. do
@@ -113,7 +116,8 @@ module _ (names : Spellings) {n : ℕ} (run : Bool → Eater Run n) where
     pure (roll-BlockItem (record { item = i; semicolon = s }))
 
   unfoldable pub block : Parser (List BlockItem) n
-  block = chain n (same_budget n) begins_item (λ ready e. is_ended (out-BlockItem e).semicolon) (λ ready. block_item) true
+  block = chain n (same_budget n) begins_item (λ ready e. is_ended (out-BlockItem e).semicolon)
+      (λ ready. block_item) true
 
   -- ---- clauses
 
@@ -122,10 +126,13 @@ module _ (names : Spellings) {n : ℕ} (run : Bool → Eater Run n) where
     arrow ← accept (spot_if (is_mark mark.DoubleArrow))
     value ← (expr names run false).parser
     s ← semicolon
-    pure (roll-CaseClause (record { subject = subject; arrow = arrow; value = value; semicolon = s }))
+    pure (roll-CaseClause
+        (record { subject = subject; arrow = arrow; value = value; semicolon = s }))
 
   unfoldable pub case_list : Parser (List CaseClause) n
-  case_list = chain n (same_budget n) begins_case_clause (λ ready c. is_ended (out-CaseClause c).semicolon) (λ ready. case_clause) true
+  case_list =
+      chain n (same_budget n) begins_case_clause (λ ready c. is_ended (out-CaseClause c).semicolon)
+      (λ ready. case_clause) true
 
   unfoldable pub case_clauses : Parser (List CaseClause) n
   case_clauses = case_list >>= some_of
@@ -138,7 +145,9 @@ module _ (names : Spellings) {n : ℕ} (run : Bool → Eater Run n) where
     pure (roll-TypeClause (record { ty = ty; arrow = arrow; value = value; semicolon = s }))
 
   unfoldable pub type_clause_list : Parser (List TypeClause) n
-  type_clause_list = chain n (same_budget n) begins_type_clause (λ ready c. is_ended (out-TypeClause c).semicolon) (λ ready. type_clause) true
+  type_clause_list =
+      chain n (same_budget n) begins_type_clause (λ ready c. is_ended (out-TypeClause c).semicolon)
+      (λ ready. type_clause) true
 
   unfoldable pub type_clauses : Parser (List TypeClause) n
   type_clauses = type_clause_list >>= some_of
@@ -148,7 +157,9 @@ module _ (names : Spellings) {n : ℕ} (run : Bool → Eater Run n) where
     at_else ← accept (spot_if (is_word reserved.Else))
     arrow ← accept (spot_if (is_mark mark.DoubleArrow))
     value ← (expr names run false).parser
-    pure (Some (roll-ElseClause (record { semicolon = second; else_ = at_else; arrow = arrow; value = value })))
+    pure (Some
+        (roll-ElseClause
+        (record { semicolon = second; else_ = at_else; arrow = arrow; value = value })))
 
   unfoldable pub second_else : Parser (Option ElseClause) n
   second_else = do
@@ -156,7 +167,8 @@ module _ (names : Spellings) {n : ℕ} (run : Bool → Eater Run n) where
     else_from (Some second)
 
   unfoldable pub else_clause : Bool → Parser (Option ElseClause) n
-  else_clause ended = fork (sees_second ended) second_else (fork (begins_else ended) (else_from None) (pure None))
+  else_clause ended =
+      fork (sees_second ended) second_else (fork (begins_else ended) (else_from None) (pure None))
 
   -- ---- parts of the forms that end with `end`
 

@@ -1,5 +1,6 @@
--- The productions of expressions as parsers, over one of runs. A parser of flat expressions is told whether an atom of its own may
--- begin with `do`, one of expressions whether new lines may stand between its units.
+-- The productions of expressions as parsers, over one of runs. A parser of flat expressions is told
+-- whether an atom of its own may begin with `do`, one of expressions whether new lines may stand
+-- between its units.
 use Rattle.std.specs.Prelude.{ℕ, Bool, true, false, List, [], ◌++◌, Option, Some, None}
 use Rattle.fort_token.specs.declared.token.Kind.{Kind}
 use Rattle.fort_token.specs.declared.token.Kind.TheVariants as kind
@@ -38,7 +39,9 @@ module _ (names : Spellings) {n : ℕ} (run : Bool → Eater Run n) where
     pure (roll-Operand (record { prefix = Some prefix; run = r }))
 
   unfoldable pub operand : Bool → Eater Operand n
-  operand blocks = fork_eater (sees is_prefix) (prefixed blocks) (run blocks >>| λ r. pure (roll-Operand (record { prefix = None; run = r })))
+  operand blocks =
+      fork_eater (sees is_prefix) (prefixed blocks)
+      (run blocks >>| λ r. pure (roll-Operand (record { prefix = None; run = r })))
 
   unfoldable pub infix_part : Bool → Eater FlatPart n
   infix_part blocks = token sign_of >>| λ sign. do
@@ -46,7 +49,9 @@ module _ (names : Spellings) {n : ℕ} (run : Bool → Eater Run n) where
     pure (a_flat_part.Infix sign o)
 
   unfoldable pub flat_part : Bool → Eater FlatPart n
-  flat_part blocks = fork_eater (sees is_infix_kind) (infix_part blocks) (run blocks >>| λ r. pure (a_flat_part.Run r))
+  flat_part blocks =
+      fork_eater (sees is_infix_kind) (infix_part blocks)
+      (run blocks >>| λ r. pure (a_flat_part.Run r))
 
   unfoldable pub flat_parts : List FlatPart → Bool → Bool → Parser (List FlatPart) n
   flat_parts found lines blocks = do
@@ -99,12 +104,16 @@ module _ (names : Spellings) {n : ℕ} (run : Bool → Eater Run n) where
     pure (a_head.Fn s left parameters right arrow)
 
   abbrev pub word_head : Reserved → Eater Head n
-  word_head reserved.Atomic = token (spot_if (is_word reserved.Atomic)) >>| λ s. pure (a_head.Atomic s)
-  word_head reserved.Tryatomic = token (spot_if (is_word reserved.Tryatomic)) >>| λ s. pure (a_head.Tryatomic s)
+  word_head reserved.Atomic =
+      token (spot_if (is_word reserved.Atomic)) >>| λ s. pure (a_head.Atomic s)
+  word_head reserved.Tryatomic =
+      token (spot_if (is_word reserved.Tryatomic)) >>| λ s. pure (a_head.Tryatomic s)
   word_head reserved.Throw = token (spot_if (is_word reserved.Throw)) >>| λ s. pure (a_head.Throw s)
   word_head reserved.Fn = token (spot_if (is_word reserved.Fn)) >>| function
-  word_head reserved.Sum = token (spot_if (is_word reserved.Sum)) >>| λ s. reduction (big_word.Sum s)
-  word_head reserved.Prod = token (spot_if (is_word reserved.Prod)) >>| λ s. reduction (big_word.Prod s)
+  word_head reserved.Sum =
+      token (spot_if (is_word reserved.Sum)) >>| λ s. reduction (big_word.Sum s)
+  word_head reserved.Prod =
+      token (spot_if (is_word reserved.Prod)) >>| λ s. reduction (big_word.Prod s)
   word_head reserved.Big = token (spot_if (is_word reserved.Big)) >>| big_reduction
   word_head _ = no_eater
 
@@ -146,11 +155,13 @@ module _ (names : Spellings) {n : ℕ} (run : Bool → Eater Run n) where
     rest ← flat_parts found lines true
     pure (an_expr.Flat (roll-Flat (record { first = first; rest = rest })))
 
-  -- what goes on behind the first unit; a target has no new line between its units, in brackets either
+  -- what goes on behind the first unit; a target has no new line between its units, in brackets
+  -- either
   unfoldable pub expr_from : Bool → Operand → Parser Expr n
   expr_from lines first = do
     found ← flat_parts [] false true
-    fork (sees assigns) (assign (roll-Flat (record { first = first; rest = found }))) (flat_more lines first found)
+    fork (sees assigns) (assign (roll-Flat (record { first = first; rest = found })))
+        (flat_more lines first found)
 
   unfoldable pub expr : Bool → Eater Expr n
   expr lines = fork_eater (sees begins_head) (head >>| opened) (operand true >>| expr_from lines)

@@ -10,8 +10,13 @@ use Rattle.fort_reading.specs.Parser.{Reads}
 use Rattle.fort_parse.specs.Runs.{run_at}
 
 -- it may be called, and reads runs
-pub record Nests (names : Spellings) (depth : ℕ) (pre : Global → Bor Spellings → ℕ → ℕ → MutBor (List Token) → Bool → Type 0)
-    (post : Global → Bor Spellings → ℕ → ℕ → MutBor (List Token) → Bool → Result Run Fault → MutBor (List Token) → Type 0) : Type 0 where
-  pub callable : (alloc : Global) (spellings : Bor Spellings) (floor : ℕ) (old : MutBor (List Token)) (blocks : Bool) → pre alloc spellings depth floor old blocks
-  pub reads : (alloc : Global) (spellings : Bor Spellings) (floor : ℕ) (old new : MutBor (List Token)) (blocks : Bool) (r : Result Run Fault) → spellings.now ≡ names → post alloc spellings depth floor old blocks r new
+pub record Nests (names : Spellings) (depth : ℕ)
+    (pre : Global → Bor Spellings → ℕ → ℕ → MutBor (List Token) → Bool → Type 0)
+    (post : Global → Bor Spellings → ℕ → ℕ → MutBor (List Token) → Bool → Result Run Fault
+    → MutBor (List Token) → Type 0) : Type 0 where
+  pub callable : (alloc : Global) (spellings : Bor Spellings) (floor : ℕ)
+      (old : MutBor (List Token)) (blocks : Bool) → pre alloc spellings depth floor old blocks
+  pub reads : (alloc : Global) (spellings : Bor Spellings) (floor : ℕ)
+      (old new : MutBor (List Token)) (blocks : Bool) (r : Result Run Fault) → spellings.now ≡ names
+      → post alloc spellings depth floor old blocks r new
       → Reads ((run_at names depth blocks).parser.run old.now) r new.now

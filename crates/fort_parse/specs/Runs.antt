@@ -1,4 +1,5 @@
--- The productions of atoms and runs as parsers, over one of runs with a smaller budget; and those of expressions and blocks.
+-- The productions of atoms and runs as parsers, over one of runs with a smaller budget; and those
+-- of expressions and blocks.
 use Rattle.std.specs.Prelude.{ℕ, zero, suc, Bool, true, false, List, Option, Some, None, codes}
 use Rattle.fort_token.specs.declared.token.Kind.{Kind}
 use Rattle.fort_token.specs.declared.token.Kind.TheVariants as kind
@@ -174,7 +175,18 @@ module _ (names : Spellings) {n : ℕ} (run : Bool → Eater Run n) where
     value_left ← accept (tight (spot_if (is_mark mark.OpenParen)))
     value ← (expr names run true).parser
     value_right ← accept (spot_if (is_mark mark.CloseParen))
-    pure (an_atom.ArrayFill (record { array = array; left = left; right = right; size_left = size_left; size_right = size_right; dot = dot; fill = fill; value_left = value_left; value_right = value_right }) element size value)
+    pure (an_atom.ArrayFill
+        (record {
+          array = array;
+          left = left;
+          right = right;
+          size_left = size_left;
+          size_right = size_right;
+          dot = dot;
+          fill = fill;
+          value_left = value_left;
+          value_right = value_right;
+        }) element size value)
 
   unfoldable pub fill_size : Spot → Spot → TypeTree → Spot → Parser Atom n
   fill_size array left element right = do
@@ -252,7 +264,8 @@ module _ (names : Spellings) {n : ℕ} (run : Bool → Eater Run n) where
   unfoldable pub dotted : Spot → Parser Postfix n
   dotted dot = do
     name ← accept (tight name_of)
-    fork (sees_tight (is_mark mark.OpenParen)) (method_call dot name) (pure (a_postfix.Field dot name))
+    fork (sees_tight (is_mark mark.OpenParen)) (method_call dot name)
+        (pure (a_postfix.Field dot name))
 
   abbrev pub mark_postfix : Mark → Eater Postfix (suc n)
   mark_postfix mark.OpenBracket = token (spot_if (is_mark mark.OpenBracket)) >>> subscript
@@ -274,7 +287,9 @@ module _ (names : Spellings) {n : ℕ} (run : Bool → Eater Run n) where
   -- ---- runs
 
   unfoldable pub run_part : Bool → Eater RunPart (suc n)
-  run_part blocks = fork_eater (sees begins_postfix) (postfix blocks >>| λ p. pure (a_run_part.Postfix p)) (atom blocks >>| λ a. pure (a_run_part.Atom a))
+  run_part blocks =
+      fork_eater (sees begins_postfix) (postfix blocks >>| λ p. pure (a_run_part.Postfix p))
+      (atom blocks >>| λ a. pure (a_run_part.Atom a))
 
   unfoldable pub run_parts : Bool → Parser (List RunPart) n
   run_parts blocks = many_more (begins_run_part blocks) (run_part blocks)

@@ -54,8 +54,11 @@ impl<F: Fn(Global, &[Bytes], usize, usize, &mut Cursor<'_>, bool) -> Result<Run,
         colon: Spot,
         ty: TypeTree,
     ) -> Result<Variable, Fault>
-        requires { Nests self.now.names.now self.now.depth (F.pre self.now.inner) (F.post self.now.inner) }
-        ensures { Reads ((block_spec.initialised self.now.names.now (run_at self.now.names.now self.now.depth) var name colon ty).run tokens.old) result tokens.new }
+        requires { Nests self.now.names.now self.now.depth (F.pre self.now.inner)
+            (F.post self.now.inner) }
+        ensures { Reads
+            ((block_spec.initialised self.now.names.now (run_at self.now.names.now self.now.depth)
+            var name colon ty).run tokens.old) result tokens.new }
     {
         let sign = tokens.initial_sign()?;
         let value = self.expr(tokens, false)?;
@@ -76,8 +79,11 @@ impl<F: Fn(Global, &[Bytes], usize, usize, &mut Cursor<'_>, bool) -> Result<Run,
         var: Option<Spot>,
         name: Name,
     ) -> Result<Variable, Fault>
-        requires { Nests self.now.names.now self.now.depth (F.pre self.now.inner) (F.post self.now.inner) }
-        ensures { Reads ((block_spec.variable_from self.now.names.now (run_at self.now.names.now self.now.depth) var name).run tokens.old) result tokens.new }
+        requires { Nests self.now.names.now self.now.depth (F.pre self.now.inner)
+            (F.post self.now.inner) }
+        ensures { Reads
+            ((block_spec.variable_from self.now.names.now (run_at self.now.names.now self.now.depth)
+            var name).run tokens.old) result tokens.new }
     {
         let colon = tokens.colon()?;
         let ty = self.types().type_tree(tokens)?;
@@ -86,8 +92,12 @@ impl<F: Fn(Global, &[Bytes], usize, usize, &mut Cursor<'_>, bool) -> Result<Run,
 
     #[tactic(auto, unfolding(crate::specs::Blocks::var_item))]
     fn var_item(&self, tokens: &mut Cursor<'_>) -> Result<Item, Fault>
-        requires { Nests self.now.names.now self.now.depth (F.pre self.now.inner) (F.post self.now.inner) }
-        ensures { Reads ((block_spec.var_item self.now.names.now (run_at self.now.names.now self.now.depth)).parser.run tokens.old) result tokens.new }
+        requires { Nests self.now.names.now self.now.depth (F.pre self.now.inner)
+            (F.post self.now.inner) }
+        ensures { Reads
+            ((block_spec.var_item self.now.names.now
+            (run_at self.now.names.now self.now.depth)).parser.run tokens.old) result
+            tokens.new }
     {
         let var = tokens.word(Reserved::Var)?;
         let name = tokens.name()?;
@@ -97,8 +107,11 @@ impl<F: Fn(Global, &[Bytes], usize, usize, &mut Cursor<'_>, bool) -> Result<Run,
 
     #[tactic(auto, unfolding(crate::specs::Blocks::names_from))]
     fn names_from(&self, tokens: &mut Cursor<'_>, names: PlainNames) -> Result<Item, Fault>
-        requires { Nests self.now.names.now self.now.depth (F.pre self.now.inner) (F.post self.now.inner) }
-        ensures { Reads ((block_spec.names_from self.now.names.now (run_at self.now.names.now self.now.depth) names).run tokens.old) result tokens.new }
+        requires { Nests self.now.names.now self.now.depth (F.pre self.now.inner)
+            (F.post self.now.inner) }
+        ensures { Reads
+            ((block_spec.names_from self.now.names.now (run_at self.now.names.now self.now.depth)
+            names).run tokens.old) result tokens.new }
     {
         let colon = tokens.colon()?;
         let ty = Boxed::new(self.alloc, self.types().type_tree(tokens)?)?;
@@ -118,8 +131,11 @@ impl<F: Fn(Global, &[Bytes], usize, usize, &mut Cursor<'_>, bool) -> Result<Run,
 
     #[tactic(auto, unfolding(crate::specs::Blocks::flat_item))]
     fn flat_item(&self, tokens: &mut Cursor<'_>, first: Operand) -> Result<Item, Fault>
-        requires { Nests self.now.names.now self.now.depth (F.pre self.now.inner) (F.post self.now.inner) }
-        ensures { Reads ((block_spec.flat_item self.now.names.now (run_at self.now.names.now self.now.depth) first).run tokens.old) result tokens.new }
+        requires { Nests self.now.names.now self.now.depth (F.pre self.now.inner)
+            (F.post self.now.inner) }
+        ensures { Reads
+            ((block_spec.flat_item self.now.names.now (run_at self.now.names.now self.now.depth)
+            first).run tokens.old) result tokens.new }
     {
         let expr = self.expr_from(tokens, false, first)?;
         Ok(Item::Expr(expr))
@@ -127,8 +143,11 @@ impl<F: Fn(Global, &[Bytes], usize, usize, &mut Cursor<'_>, bool) -> Result<Run,
 
     #[tactic(auto, unfolding(crate::specs::Blocks::declared))]
     fn declared(&self, tokens: &mut Cursor<'_>, first: Operand) -> Result<Item, Fault>
-        requires { Nests self.now.names.now self.now.depth (F.pre self.now.inner) (F.post self.now.inner) }
-        ensures { Reads ((block_spec.declared self.now.names.now (run_at self.now.names.now self.now.depth) first).run tokens.old) result tokens.new }
+        requires { Nests self.now.names.now self.now.depth (F.pre self.now.inner)
+            (F.post self.now.inner) }
+        ensures { Reads
+            ((block_spec.declared self.now.names.now (run_at self.now.names.now self.now.depth)
+            first).run tokens.old) result tokens.new }
     {
         if let Some(name) = plain_name(&first) {
             let variable = self.variable_from(tokens, None, name)?;
@@ -142,8 +161,11 @@ impl<F: Fn(Global, &[Bytes], usize, usize, &mut Cursor<'_>, bool) -> Result<Run,
 
     #[tactic(auto, unfolding(crate::specs::Blocks::item_from))]
     fn item_from(&self, tokens: &mut Cursor<'_>, first: Operand) -> Result<Item, Fault>
-        requires { Nests self.now.names.now self.now.depth (F.pre self.now.inner) (F.post self.now.inner) }
-        ensures { Reads ((block_spec.item_from self.now.names.now (run_at self.now.names.now self.now.depth) first).run tokens.old) result tokens.new }
+        requires { Nests self.now.names.now self.now.depth (F.pre self.now.inner)
+            (F.post self.now.inner) }
+        ensures { Reads
+            ((block_spec.item_from self.now.names.now (run_at self.now.names.now self.now.depth)
+            first).run tokens.old) result tokens.new }
     {
         if tokens.sees_range() {
             self.declared(tokens, first)
@@ -154,8 +176,12 @@ impl<F: Fn(Global, &[Bytes], usize, usize, &mut Cursor<'_>, bool) -> Result<Run,
 
     #[tactic(auto, unfolding(crate::specs::Blocks::head_item))]
     fn head_item(&self, tokens: &mut Cursor<'_>) -> Result<Item, Fault>
-        requires { Nests self.now.names.now self.now.depth (F.pre self.now.inner) (F.post self.now.inner) }
-        ensures { Reads ((block_spec.head_item self.now.names.now (run_at self.now.names.now self.now.depth)).parser.run tokens.old) result tokens.new }
+        requires { Nests self.now.names.now self.now.depth (F.pre self.now.inner)
+            (F.post self.now.inner) }
+        ensures { Reads
+            ((block_spec.head_item self.now.names.now
+            (run_at self.now.names.now self.now.depth)).parser.run tokens.old) result
+            tokens.new }
     {
         let head = Boxed::new(self.alloc, self.head(tokens)?)?;
         let expr = self.opened(tokens, head)?;
@@ -164,8 +190,12 @@ impl<F: Fn(Global, &[Bytes], usize, usize, &mut Cursor<'_>, bool) -> Result<Run,
 
     #[tactic(auto, unfolding(crate::specs::Blocks::item))]
     fn item(&self, tokens: &mut Cursor<'_>) -> Result<Item, Fault>
-        requires { Nests self.now.names.now self.now.depth (F.pre self.now.inner) (F.post self.now.inner) }
-        ensures { Reads ((block_spec.item self.now.names.now (run_at self.now.names.now self.now.depth)).parser.run tokens.old) result tokens.new }
+        requires { Nests self.now.names.now self.now.depth (F.pre self.now.inner)
+            (F.post self.now.inner) }
+        ensures { Reads
+            ((block_spec.item self.now.names.now
+            (run_at self.now.names.now self.now.depth)).parser.run tokens.old) result
+            tokens.new }
     {
         if tokens.sees_word(Reserved::Var) {
             return self.var_item(tokens);
@@ -179,8 +209,12 @@ impl<F: Fn(Global, &[Bytes], usize, usize, &mut Cursor<'_>, bool) -> Result<Run,
 
     #[tactic(auto, unfolding(crate::specs::Blocks::block_item))]
     fn block_item(&self, tokens: &mut Cursor<'_>) -> Result<BlockItem, Fault>
-        requires { Nests self.now.names.now self.now.depth (F.pre self.now.inner) (F.post self.now.inner) }
-        ensures { Reads ((block_spec.block_item self.now.names.now (run_at self.now.names.now self.now.depth)).parser.run tokens.old) result tokens.new }
+        requires { Nests self.now.names.now self.now.depth (F.pre self.now.inner)
+            (F.post self.now.inner) }
+        ensures { Reads
+            ((block_spec.block_item self.now.names.now
+            (run_at self.now.names.now self.now.depth)).parser.run tokens.old) result
+            tokens.new }
     {
         let item = self.item(tokens)?;
         let semicolon = semicolon(tokens)?;
@@ -188,8 +222,11 @@ impl<F: Fn(Global, &[Bytes], usize, usize, &mut Cursor<'_>, bool) -> Result<Run,
     }
 
     pub fn block(&self, tokens: &mut Cursor<'_>) -> Result<Block, Fault>
-        requires { Nests self.now.names.now self.now.depth (F.pre self.now.inner) (F.post self.now.inner) }
-        ensures { Reads ((block_spec.block self.now.names.now (run_at self.now.names.now self.now.depth)).run tokens.old) result tokens.new }
+        requires { Nests self.now.names.now self.now.depth (F.pre self.now.inner)
+            (F.post self.now.inner) }
+        ensures { Reads
+            ((block_spec.block self.now.names.now (run_at self.now.names.now self.now.depth)).run
+            tokens.old) result tokens.new }
     {
         let mut found = List::new(self.alloc);
         let mut ready = true;
@@ -206,8 +243,12 @@ impl<F: Fn(Global, &[Bytes], usize, usize, &mut Cursor<'_>, bool) -> Result<Run,
 
     #[tactic(auto, unfolding(crate::specs::Blocks::case_clause))]
     fn case_clause(&self, tokens: &mut Cursor<'_>) -> Result<CaseClause, Fault>
-        requires { Nests self.now.names.now self.now.depth (F.pre self.now.inner) (F.post self.now.inner) }
-        ensures { Reads ((block_spec.case_clause self.now.names.now (run_at self.now.names.now self.now.depth)).parser.run tokens.old) result tokens.new }
+        requires { Nests self.now.names.now self.now.depth (F.pre self.now.inner)
+            (F.post self.now.inner) }
+        ensures { Reads
+            ((block_spec.case_clause self.now.names.now
+            (run_at self.now.names.now self.now.depth)).parser.run tokens.old) result
+            tokens.new }
     {
         let subject = self.flat(tokens, true)?;
         let arrow = tokens.mark(Mark::DoubleArrow)?;
@@ -222,8 +263,11 @@ impl<F: Fn(Global, &[Bytes], usize, usize, &mut Cursor<'_>, bool) -> Result<Run,
     }
 
     fn case_list(&self, tokens: &mut Cursor<'_>) -> Result<List<CaseClause>, Fault>
-        requires { Nests self.now.names.now self.now.depth (F.pre self.now.inner) (F.post self.now.inner) }
-        ensures { Reads ((block_spec.case_list self.now.names.now (run_at self.now.names.now self.now.depth)).run tokens.old) result tokens.new }
+        requires { Nests self.now.names.now self.now.depth (F.pre self.now.inner)
+            (F.post self.now.inner) }
+        ensures { Reads
+            ((block_spec.case_list self.now.names.now
+            (run_at self.now.names.now self.now.depth)).run tokens.old) result tokens.new }
     {
         let mut found = List::new(self.alloc);
         let mut ready = true;
@@ -240,8 +284,11 @@ impl<F: Fn(Global, &[Bytes], usize, usize, &mut Cursor<'_>, bool) -> Result<Run,
 
     #[tactic(auto, unfolding(crate::specs::Blocks::case_clauses))]
     pub fn case_clauses(&self, tokens: &mut Cursor<'_>) -> Result<List<CaseClause>, Fault>
-        requires { Nests self.now.names.now self.now.depth (F.pre self.now.inner) (F.post self.now.inner) }
-        ensures { Reads ((block_spec.case_clauses self.now.names.now (run_at self.now.names.now self.now.depth)).run tokens.old) result tokens.new }
+        requires { Nests self.now.names.now self.now.depth (F.pre self.now.inner)
+            (F.post self.now.inner) }
+        ensures { Reads
+            ((block_spec.case_clauses self.now.names.now
+            (run_at self.now.names.now self.now.depth)).run tokens.old) result tokens.new }
     {
         let clauses = self.case_list(tokens)?;
         if clauses.is_empty() {
@@ -252,8 +299,12 @@ impl<F: Fn(Global, &[Bytes], usize, usize, &mut Cursor<'_>, bool) -> Result<Run,
 
     #[tactic(auto, unfolding(crate::specs::Blocks::type_clause))]
     fn type_clause(&self, tokens: &mut Cursor<'_>) -> Result<TypeClause, Fault>
-        requires { Nests self.now.names.now self.now.depth (F.pre self.now.inner) (F.post self.now.inner) }
-        ensures { Reads ((block_spec.type_clause self.now.names.now (run_at self.now.names.now self.now.depth)).parser.run tokens.old) result tokens.new }
+        requires { Nests self.now.names.now self.now.depth (F.pre self.now.inner)
+            (F.post self.now.inner) }
+        ensures { Reads
+            ((block_spec.type_clause self.now.names.now
+            (run_at self.now.names.now self.now.depth)).parser.run tokens.old) result
+            tokens.new }
     {
         let ty = self.types().type_tree(tokens)?;
         let arrow = tokens.mark(Mark::DoubleArrow)?;
@@ -268,8 +319,11 @@ impl<F: Fn(Global, &[Bytes], usize, usize, &mut Cursor<'_>, bool) -> Result<Run,
     }
 
     fn type_clause_list(&self, tokens: &mut Cursor<'_>) -> Result<List<TypeClause>, Fault>
-        requires { Nests self.now.names.now self.now.depth (F.pre self.now.inner) (F.post self.now.inner) }
-        ensures { Reads ((block_spec.type_clause_list self.now.names.now (run_at self.now.names.now self.now.depth)).run tokens.old) result tokens.new }
+        requires { Nests self.now.names.now self.now.depth (F.pre self.now.inner)
+            (F.post self.now.inner) }
+        ensures { Reads
+            ((block_spec.type_clause_list self.now.names.now
+            (run_at self.now.names.now self.now.depth)).run tokens.old) result tokens.new }
     {
         let mut found = List::new(self.alloc);
         let mut ready = true;
@@ -286,8 +340,11 @@ impl<F: Fn(Global, &[Bytes], usize, usize, &mut Cursor<'_>, bool) -> Result<Run,
 
     #[tactic(auto, unfolding(crate::specs::Blocks::type_clauses))]
     pub fn type_clauses(&self, tokens: &mut Cursor<'_>) -> Result<List<TypeClause>, Fault>
-        requires { Nests self.now.names.now self.now.depth (F.pre self.now.inner) (F.post self.now.inner) }
-        ensures { Reads ((block_spec.type_clauses self.now.names.now (run_at self.now.names.now self.now.depth)).run tokens.old) result tokens.new }
+        requires { Nests self.now.names.now self.now.depth (F.pre self.now.inner)
+            (F.post self.now.inner) }
+        ensures { Reads
+            ((block_spec.type_clauses self.now.names.now
+            (run_at self.now.names.now self.now.depth)).run tokens.old) result tokens.new }
     {
         let clauses = self.type_clause_list(tokens)?;
         if clauses.is_empty() {
@@ -302,8 +359,11 @@ impl<F: Fn(Global, &[Bytes], usize, usize, &mut Cursor<'_>, bool) -> Result<Run,
         tokens: &mut Cursor<'_>,
         semicolon: Option<Spot>,
     ) -> Result<Option<Boxed<ElseClause>>, Fault>
-        requires { Nests self.now.names.now self.now.depth (F.pre self.now.inner) (F.post self.now.inner) }
-        ensures { Reads ((block_spec.else_from self.now.names.now (run_at self.now.names.now self.now.depth) semicolon).run tokens.old) result tokens.new }
+        requires { Nests self.now.names.now self.now.depth (F.pre self.now.inner)
+            (F.post self.now.inner) }
+        ensures { Reads
+            ((block_spec.else_from self.now.names.now (run_at self.now.names.now self.now.depth)
+            semicolon).run tokens.old) result tokens.new }
     {
         let else_ = tokens.word(Reserved::Else)?;
         let arrow = tokens.mark(Mark::DoubleArrow)?;
@@ -319,8 +379,11 @@ impl<F: Fn(Global, &[Bytes], usize, usize, &mut Cursor<'_>, bool) -> Result<Run,
 
     #[tactic(auto, unfolding(crate::specs::Blocks::second_else))]
     fn second_else(&self, tokens: &mut Cursor<'_>) -> Result<Option<Boxed<ElseClause>>, Fault>
-        requires { Nests self.now.names.now self.now.depth (F.pre self.now.inner) (F.post self.now.inner) }
-        ensures { Reads ((block_spec.second_else self.now.names.now (run_at self.now.names.now self.now.depth)).run tokens.old) result tokens.new }
+        requires { Nests self.now.names.now self.now.depth (F.pre self.now.inner)
+            (F.post self.now.inner) }
+        ensures { Reads
+            ((block_spec.second_else self.now.names.now
+            (run_at self.now.names.now self.now.depth)).run tokens.old) result tokens.new }
     {
         let second = tokens.mark(Mark::Semicolon)?;
         self.else_from(tokens, Some(second))
@@ -332,8 +395,11 @@ impl<F: Fn(Global, &[Bytes], usize, usize, &mut Cursor<'_>, bool) -> Result<Run,
         tokens: &mut Cursor<'_>,
         ended: bool,
     ) -> Result<Option<Boxed<ElseClause>>, Fault>
-        requires { Nests self.now.names.now self.now.depth (F.pre self.now.inner) (F.post self.now.inner) }
-        ensures { Reads ((block_spec.else_clause self.now.names.now (run_at self.now.names.now self.now.depth) ended).run tokens.old) result tokens.new }
+        requires { Nests self.now.names.now self.now.depth (F.pre self.now.inner)
+            (F.post self.now.inner) }
+        ensures { Reads
+            ((block_spec.else_clause self.now.names.now (run_at self.now.names.now self.now.depth)
+            ended).run tokens.old) result tokens.new }
     {
         if ended && tokens.sees_mark(Mark::Semicolon) {
             self.second_else(tokens)
@@ -346,8 +412,12 @@ impl<F: Fn(Global, &[Bytes], usize, usize, &mut Cursor<'_>, bool) -> Result<Run,
 
     #[tactic(auto, unfolding(crate::specs::Blocks::also_block))]
     fn also_block(&self, tokens: &mut Cursor<'_>) -> Result<Also, Fault>
-        requires { Nests self.now.names.now self.now.depth (F.pre self.now.inner) (F.post self.now.inner) }
-        ensures { Reads ((block_spec.also_block self.now.names.now (run_at self.now.names.now self.now.depth)).parser.run tokens.old) result tokens.new }
+        requires { Nests self.now.names.now self.now.depth (F.pre self.now.inner)
+            (F.post self.now.inner) }
+        ensures { Reads
+            ((block_spec.also_block self.now.names.now
+            (run_at self.now.names.now self.now.depth)).parser.run tokens.old) result
+            tokens.new }
     {
         let also = tokens.word(Reserved::Also)?;
         let do_ = tokens.word(Reserved::Do)?;
@@ -356,8 +426,11 @@ impl<F: Fn(Global, &[Bytes], usize, usize, &mut Cursor<'_>, bool) -> Result<Run,
     }
 
     pub fn also_blocks(&self, tokens: &mut Cursor<'_>) -> Result<List<Also>, Fault>
-        requires { Nests self.now.names.now self.now.depth (F.pre self.now.inner) (F.post self.now.inner) }
-        ensures { Reads ((block_spec.also_blocks self.now.names.now (run_at self.now.names.now self.now.depth)).run tokens.old) result tokens.new }
+        requires { Nests self.now.names.now self.now.depth (F.pre self.now.inner)
+            (F.post self.now.inner) }
+        ensures { Reads
+            ((block_spec.also_blocks self.now.names.now
+            (run_at self.now.names.now self.now.depth)).run tokens.old) result tokens.new }
     {
         let mut found = List::new(self.alloc);
         for _turn in 0..self.depth {
@@ -371,8 +444,12 @@ impl<F: Fn(Global, &[Bytes], usize, usize, &mut Cursor<'_>, bool) -> Result<Run,
 
     #[tactic(auto, unfolding(crate::specs::Blocks::elif))]
     fn elif(&self, tokens: &mut Cursor<'_>) -> Result<Elif, Fault>
-        requires { Nests self.now.names.now self.now.depth (F.pre self.now.inner) (F.post self.now.inner) }
-        ensures { Reads ((block_spec.elif self.now.names.now (run_at self.now.names.now self.now.depth)).parser.run tokens.old) result tokens.new }
+        requires { Nests self.now.names.now self.now.depth (F.pre self.now.inner)
+            (F.post self.now.inner) }
+        ensures { Reads
+            ((block_spec.elif self.now.names.now
+            (run_at self.now.names.now self.now.depth)).parser.run tokens.old) result
+            tokens.new }
     {
         let elif = tokens.word(Reserved::Elif)?;
         let condition = self.flat(tokens, true)?;
@@ -387,8 +464,11 @@ impl<F: Fn(Global, &[Bytes], usize, usize, &mut Cursor<'_>, bool) -> Result<Run,
     }
 
     pub fn elifs(&self, tokens: &mut Cursor<'_>) -> Result<List<Elif>, Fault>
-        requires { Nests self.now.names.now self.now.depth (F.pre self.now.inner) (F.post self.now.inner) }
-        ensures { Reads ((block_spec.elifs self.now.names.now (run_at self.now.names.now self.now.depth)).run tokens.old) result tokens.new }
+        requires { Nests self.now.names.now self.now.depth (F.pre self.now.inner)
+            (F.post self.now.inner) }
+        ensures { Reads
+            ((block_spec.elifs self.now.names.now (run_at self.now.names.now self.now.depth)).run
+            tokens.old) result tokens.new }
     {
         let mut found = List::new(self.alloc);
         for _turn in 0..self.depth {
@@ -402,8 +482,11 @@ impl<F: Fn(Global, &[Bytes], usize, usize, &mut Cursor<'_>, bool) -> Result<Run,
 
     #[tactic(auto, unfolding(crate::specs::Blocks::else_block))]
     pub fn else_block(&self, tokens: &mut Cursor<'_>) -> Result<Option<ElseBlock>, Fault>
-        requires { Nests self.now.names.now self.now.depth (F.pre self.now.inner) (F.post self.now.inner) }
-        ensures { Reads ((block_spec.else_block self.now.names.now (run_at self.now.names.now self.now.depth)).run tokens.old) result tokens.new }
+        requires { Nests self.now.names.now self.now.depth (F.pre self.now.inner)
+            (F.post self.now.inner) }
+        ensures { Reads
+            ((block_spec.else_block self.now.names.now
+            (run_at self.now.names.now self.now.depth)).run tokens.old) result tokens.new }
     {
         if tokens.sees_word(Reserved::Else) {
             let else_ = tokens.word(Reserved::Else)?;
@@ -416,8 +499,11 @@ impl<F: Fn(Global, &[Bytes], usize, usize, &mut Cursor<'_>, bool) -> Result<Run,
 
     #[tactic(auto, unfolding(crate::specs::Blocks::catch_from))]
     fn catch_from(&self, tokens: &mut Cursor<'_>) -> Result<Option<Catch>, Fault>
-        requires { Nests self.now.names.now self.now.depth (F.pre self.now.inner) (F.post self.now.inner) }
-        ensures { Reads ((block_spec.catch_from self.now.names.now (run_at self.now.names.now self.now.depth)).run tokens.old) result tokens.new }
+        requires { Nests self.now.names.now self.now.depth (F.pre self.now.inner)
+            (F.post self.now.inner) }
+        ensures { Reads
+            ((block_spec.catch_from self.now.names.now
+            (run_at self.now.names.now self.now.depth)).run tokens.old) result tokens.new }
     {
         let catch = tokens.word(Reserved::Catch)?;
         let name = tokens.name()?;
@@ -431,8 +517,11 @@ impl<F: Fn(Global, &[Bytes], usize, usize, &mut Cursor<'_>, bool) -> Result<Run,
 
     #[tactic(auto, unfolding(crate::specs::Blocks::catch))]
     pub fn catch(&self, tokens: &mut Cursor<'_>) -> Result<Option<Catch>, Fault>
-        requires { Nests self.now.names.now self.now.depth (F.pre self.now.inner) (F.post self.now.inner) }
-        ensures { Reads ((block_spec.catch self.now.names.now (run_at self.now.names.now self.now.depth)).run tokens.old) result tokens.new }
+        requires { Nests self.now.names.now self.now.depth (F.pre self.now.inner)
+            (F.post self.now.inner) }
+        ensures { Reads
+            ((block_spec.catch self.now.names.now (run_at self.now.names.now self.now.depth)).run
+            tokens.old) result tokens.new }
     {
         if tokens.sees_word(Reserved::Catch) {
             self.catch_from(tokens)
@@ -443,8 +532,11 @@ impl<F: Fn(Global, &[Bytes], usize, usize, &mut Cursor<'_>, bool) -> Result<Run,
 
     #[tactic(auto, unfolding(crate::specs::Blocks::finally))]
     pub fn finally(&self, tokens: &mut Cursor<'_>, optional: bool) -> Result<Option<Finally>, Fault>
-        requires { Nests self.now.names.now self.now.depth (F.pre self.now.inner) (F.post self.now.inner) }
-        ensures { Reads ((block_spec.finally self.now.names.now (run_at self.now.names.now self.now.depth) optional).run tokens.old) result tokens.new }
+        requires { Nests self.now.names.now self.now.depth (F.pre self.now.inner)
+            (F.post self.now.inner) }
+        ensures { Reads
+            ((block_spec.finally self.now.names.now (run_at self.now.names.now self.now.depth)
+            optional).run tokens.old) result tokens.new }
     {
         if tokens.sees_word(Reserved::Finally) {
             let finally = tokens.word(Reserved::Finally)?;
@@ -459,8 +551,12 @@ impl<F: Fn(Global, &[Bytes], usize, usize, &mut Cursor<'_>, bool) -> Result<Run,
 
     #[tactic(auto, unfolding(crate::specs::Blocks::next_generator))]
     fn next_generator(&self, tokens: &mut Cursor<'_>) -> Result<NextGenerator, Fault>
-        requires { Nests self.now.names.now self.now.depth (F.pre self.now.inner) (F.post self.now.inner) }
-        ensures { Reads ((block_spec.next_generator self.now.names.now (run_at self.now.names.now self.now.depth)).parser.run tokens.old) result tokens.new }
+        requires { Nests self.now.names.now self.now.depth (F.pre self.now.inner)
+            (F.post self.now.inner) }
+        ensures { Reads
+            ((block_spec.next_generator self.now.names.now
+            (run_at self.now.names.now self.now.depth)).parser.run tokens.old) result
+            tokens.new }
     {
         let comma = tokens.mark(Mark::Comma)?;
         let generator = self.generator(tokens, false)?;
@@ -468,8 +564,11 @@ impl<F: Fn(Global, &[Bytes], usize, usize, &mut Cursor<'_>, bool) -> Result<Run,
     }
 
     pub fn next_generators(&self, tokens: &mut Cursor<'_>) -> Result<List<NextGenerator>, Fault>
-        requires { Nests self.now.names.now self.now.depth (F.pre self.now.inner) (F.post self.now.inner) }
-        ensures { Reads ((block_spec.next_generators self.now.names.now (run_at self.now.names.now self.now.depth)).run tokens.old) result tokens.new }
+        requires { Nests self.now.names.now self.now.depth (F.pre self.now.inner)
+            (F.post self.now.inner) }
+        ensures { Reads
+            ((block_spec.next_generators self.now.names.now
+            (run_at self.now.names.now self.now.depth)).run tokens.old) result tokens.new }
     {
         let mut found = List::new(self.alloc);
         for _turn in 0..self.depth {

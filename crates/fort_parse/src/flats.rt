@@ -22,8 +22,11 @@ impl<F: Fn(Global, &[Bytes], usize, usize, &mut Cursor<'_>, bool) -> Result<Run,
 > {
     #[tactic(auto, unfolding(crate::specs::Flats::prefixed))]
     fn prefixed(&self, tokens: &mut Cursor<'_>, blocks: bool) -> Result<Operand, Fault>
-        requires { Nests self.now.names.now self.now.depth (F.pre self.now.inner) (F.post self.now.inner) }
-        ensures { Reads ((flats.prefixed self.now.names.now (run_at self.now.names.now self.now.depth) blocks).parser.run tokens.old) result tokens.new }
+        requires { Nests self.now.names.now self.now.depth (F.pre self.now.inner)
+            (F.post self.now.inner) }
+        ensures { Reads
+            ((flats.prefixed self.now.names.now (run_at self.now.names.now self.now.depth)
+            blocks).parser.run tokens.old) result tokens.new }
     {
         let prefix = Some(tokens.prefix()?);
         let run = self.run(tokens, blocks)?;
@@ -32,8 +35,11 @@ impl<F: Fn(Global, &[Bytes], usize, usize, &mut Cursor<'_>, bool) -> Result<Run,
 
     #[tactic(auto, unfolding(crate::specs::Flats::operand))]
     pub fn operand(&self, tokens: &mut Cursor<'_>, blocks: bool) -> Result<Operand, Fault>
-        requires { Nests self.now.names.now self.now.depth (F.pre self.now.inner) (F.post self.now.inner) }
-        ensures { Reads ((flats.operand self.now.names.now (run_at self.now.names.now self.now.depth) blocks).parser.run tokens.old) result tokens.new }
+        requires { Nests self.now.names.now self.now.depth (F.pre self.now.inner)
+            (F.post self.now.inner) }
+        ensures { Reads
+            ((flats.operand self.now.names.now (run_at self.now.names.now self.now.depth)
+            blocks).parser.run tokens.old) result tokens.new }
     {
         if sees_prefix(tokens.next()) {
             return self.prefixed(tokens, blocks);
@@ -44,8 +50,11 @@ impl<F: Fn(Global, &[Bytes], usize, usize, &mut Cursor<'_>, bool) -> Result<Run,
 
     #[tactic(auto, unfolding(crate::specs::Flats::infix_part))]
     fn infix_part(&self, tokens: &mut Cursor<'_>, blocks: bool) -> Result<FlatPart, Fault>
-        requires { Nests self.now.names.now self.now.depth (F.pre self.now.inner) (F.post self.now.inner) }
-        ensures { Reads ((flats.infix_part self.now.names.now (run_at self.now.names.now self.now.depth) blocks).parser.run tokens.old) result tokens.new }
+        requires { Nests self.now.names.now self.now.depth (F.pre self.now.inner)
+            (F.post self.now.inner) }
+        ensures { Reads
+            ((flats.infix_part self.now.names.now (run_at self.now.names.now self.now.depth)
+            blocks).parser.run tokens.old) result tokens.new }
     {
         let sign = tokens.sign()?;
         let operand = self.operand(tokens, blocks)?;
@@ -54,8 +63,11 @@ impl<F: Fn(Global, &[Bytes], usize, usize, &mut Cursor<'_>, bool) -> Result<Run,
 
     #[tactic(auto, unfolding(crate::specs::Flats::flat_part))]
     fn flat_part(&self, tokens: &mut Cursor<'_>, blocks: bool) -> Result<FlatPart, Fault>
-        requires { Nests self.now.names.now self.now.depth (F.pre self.now.inner) (F.post self.now.inner) }
-        ensures { Reads ((flats.flat_part self.now.names.now (run_at self.now.names.now self.now.depth) blocks).parser.run tokens.old) result tokens.new }
+        requires { Nests self.now.names.now self.now.depth (F.pre self.now.inner)
+            (F.post self.now.inner) }
+        ensures { Reads
+            ((flats.flat_part self.now.names.now (run_at self.now.names.now self.now.depth)
+            blocks).parser.run tokens.old) result tokens.new }
     {
         if sees_infix(tokens.next()) {
             return self.infix_part(tokens, blocks);
@@ -70,8 +82,11 @@ impl<F: Fn(Global, &[Bytes], usize, usize, &mut Cursor<'_>, bool) -> Result<Run,
         lines: bool,
         blocks: bool,
     ) -> Result<List<FlatPart>, Fault>
-        requires { Nests self.now.names.now self.now.depth (F.pre self.now.inner) (F.post self.now.inner) }
-        ensures { Reads ((flats.flat_parts self.now.names.now (run_at self.now.names.now self.now.depth) found lines blocks).run tokens.old) result tokens.new }
+        requires { Nests self.now.names.now self.now.depth (F.pre self.now.inner)
+            (F.post self.now.inner) }
+        ensures { Reads
+            ((flats.flat_parts self.now.names.now (run_at self.now.names.now self.now.depth) found
+            lines blocks).run tokens.old) result tokens.new }
     {
         let mut found = found;
         for _turn in 0..self.depth {
@@ -85,8 +100,11 @@ impl<F: Fn(Global, &[Bytes], usize, usize, &mut Cursor<'_>, bool) -> Result<Run,
 
     #[tactic(auto, unfolding(crate::specs::Flats::flat))]
     pub fn flat(&self, tokens: &mut Cursor<'_>, blocks: bool) -> Result<Flat, Fault>
-        requires { Nests self.now.names.now self.now.depth (F.pre self.now.inner) (F.post self.now.inner) }
-        ensures { Reads ((flats.flat self.now.names.now (run_at self.now.names.now self.now.depth) blocks).parser.run tokens.old) result tokens.new }
+        requires { Nests self.now.names.now self.now.depth (F.pre self.now.inner)
+            (F.post self.now.inner) }
+        ensures { Reads
+            ((flats.flat self.now.names.now (run_at self.now.names.now self.now.depth)
+            blocks).parser.run tokens.old) result tokens.new }
     {
         let first = self.operand(tokens, blocks)?;
         let rest = self.flat_parts(tokens, List::new(self.alloc), false, blocks)?;
@@ -100,8 +118,11 @@ impl<F: Fn(Global, &[Bytes], usize, usize, &mut Cursor<'_>, bool) -> Result<Run,
         name: Name,
         arrow: Spot,
     ) -> Result<Generator, Fault>
-        requires { Nests self.now.names.now self.now.depth (F.pre self.now.inner) (F.post self.now.inner) }
-        ensures { Reads ((flats.sequential self.now.names.now (run_at self.now.names.now self.now.depth) name arrow).run tokens.old) result tokens.new }
+        requires { Nests self.now.names.now self.now.depth (F.pre self.now.inner)
+            (F.post self.now.inner) }
+        ensures { Reads
+            ((flats.sequential self.now.names.now (run_at self.now.names.now self.now.depth) name
+            arrow).run tokens.old) result tokens.new }
     {
         let seq = tokens.word(Reserved::Seq)?;
         let left = tokens.mark(Mark::OpenParen)?;
@@ -125,8 +146,11 @@ impl<F: Fn(Global, &[Bytes], usize, usize, &mut Cursor<'_>, bool) -> Result<Run,
         name: Name,
         arrow: Spot,
     ) -> Result<Generator, Fault>
-        requires { Nests self.now.names.now self.now.depth (F.pre self.now.inner) (F.post self.now.inner) }
-        ensures { Reads ((flats.parallel self.now.names.now (run_at self.now.names.now self.now.depth) blocks name arrow).run tokens.old) result tokens.new }
+        requires { Nests self.now.names.now self.now.depth (F.pre self.now.inner)
+            (F.post self.now.inner) }
+        ensures { Reads
+            ((flats.parallel self.now.names.now (run_at self.now.names.now self.now.depth) blocks
+            name arrow).run tokens.old) result tokens.new }
     {
         let source = self.flat(tokens, blocks)?;
         Ok(Generator::Parallel {
@@ -138,8 +162,11 @@ impl<F: Fn(Global, &[Bytes], usize, usize, &mut Cursor<'_>, bool) -> Result<Run,
 
     #[tactic(auto, unfolding(crate::specs::Flats::generator))]
     pub fn generator(&self, tokens: &mut Cursor<'_>, blocks: bool) -> Result<Generator, Fault>
-        requires { Nests self.now.names.now self.now.depth (F.pre self.now.inner) (F.post self.now.inner) }
-        ensures { Reads ((flats.generator self.now.names.now (run_at self.now.names.now self.now.depth) blocks).parser.run tokens.old) result tokens.new }
+        requires { Nests self.now.names.now self.now.depth (F.pre self.now.inner)
+            (F.post self.now.inner) }
+        ensures { Reads
+            ((flats.generator self.now.names.now (run_at self.now.names.now self.now.depth)
+            blocks).parser.run tokens.old) result tokens.new }
     {
         let name = tokens.name()?;
         let arrow = tokens.mark(Mark::LeftArrow)?;
@@ -152,8 +179,11 @@ impl<F: Fn(Global, &[Bytes], usize, usize, &mut Cursor<'_>, bool) -> Result<Run,
 
     #[tactic(auto, unfolding(crate::specs::Flats::reduction))]
     fn reduction(&self, tokens: &mut Cursor<'_>, big: Big) -> Result<Head, Fault>
-        requires { Nests self.now.names.now self.now.depth (F.pre self.now.inner) (F.post self.now.inner) }
-        ensures { Reads ((flats.reduction self.now.names.now (run_at self.now.names.now self.now.depth) big).run tokens.old) result tokens.new }
+        requires { Nests self.now.names.now self.now.depth (F.pre self.now.inner)
+            (F.post self.now.inner) }
+        ensures { Reads
+            ((flats.reduction self.now.names.now (run_at self.now.names.now self.now.depth) big).run
+            tokens.old) result tokens.new }
     {
         let left = tokens.mark(Mark::OpenBracket)?;
         let generator = self.generator(tokens, true)?;
@@ -168,8 +198,11 @@ impl<F: Fn(Global, &[Bytes], usize, usize, &mut Cursor<'_>, bool) -> Result<Run,
 
     #[tactic(auto, unfolding(crate::specs::Flats::big_reduction))]
     fn big_reduction(&self, tokens: &mut Cursor<'_>, spot: Spot) -> Result<Head, Fault>
-        requires { Nests self.now.names.now self.now.depth (F.pre self.now.inner) (F.post self.now.inner) }
-        ensures { Reads ((flats.big_reduction self.now.names.now (run_at self.now.names.now self.now.depth) spot).run tokens.old) result tokens.new }
+        requires { Nests self.now.names.now self.now.depth (F.pre self.now.inner)
+            (F.post self.now.inner) }
+        ensures { Reads
+            ((flats.big_reduction self.now.names.now (run_at self.now.names.now self.now.depth)
+            spot).run tokens.old) result tokens.new }
     {
         let big = tokens.big_operator(spot)?;
         self.reduction(tokens, big)
@@ -177,8 +210,11 @@ impl<F: Fn(Global, &[Bytes], usize, usize, &mut Cursor<'_>, bool) -> Result<Run,
 
     #[tactic(auto, unfolding(crate::specs::Flats::function))]
     fn function(&self, tokens: &mut Cursor<'_>, fn_: Spot) -> Result<Head, Fault>
-        requires { Nests self.now.names.now self.now.depth (F.pre self.now.inner) (F.post self.now.inner) }
-        ensures { Reads ((flats.function self.now.names.now (run_at self.now.names.now self.now.depth) fn_).run tokens.old) result tokens.new }
+        requires { Nests self.now.names.now self.now.depth (F.pre self.now.inner)
+            (F.post self.now.inner) }
+        ensures { Reads
+            ((flats.function self.now.names.now (run_at self.now.names.now self.now.depth) fn_).run
+            tokens.old) result tokens.new }
     {
         let left = tokens.mark(Mark::OpenParen)?;
         let parameters = self.types().maybe_parameters(tokens)?;
@@ -195,8 +231,11 @@ impl<F: Fn(Global, &[Bytes], usize, usize, &mut Cursor<'_>, bool) -> Result<Run,
 
     #[tactic(auto, unfolding(crate::specs::Flats::head))]
     pub fn head(&self, tokens: &mut Cursor<'_>) -> Result<Head, Fault>
-        requires { Nests self.now.names.now self.now.depth (F.pre self.now.inner) (F.post self.now.inner) }
-        ensures { Reads ((flats.head self.now.names.now (run_at self.now.names.now self.now.depth)).parser.run tokens.old) result tokens.new }
+        requires { Nests self.now.names.now self.now.depth (F.pre self.now.inner)
+            (F.post self.now.inner) }
+        ensures { Reads
+            ((flats.head self.now.names.now (run_at self.now.names.now self.now.depth)).parser.run
+            tokens.old) result tokens.new }
     {
         let Some(next) = tokens.next() else {
             return Err(Fault::Syntax);
@@ -234,8 +273,11 @@ impl<F: Fn(Global, &[Bytes], usize, usize, &mut Cursor<'_>, bool) -> Result<Run,
         head: Boxed<Head>,
         target: Boxed<Flat>,
     ) -> Result<Expr, Fault>
-        requires { Nests self.now.names.now self.now.depth (F.pre self.now.inner) (F.post self.now.inner) }
-        ensures { Reads ((flats.open_assign self.now.names.now (run_at self.now.names.now self.now.depth) head target).run tokens.old) result tokens.new }
+        requires { Nests self.now.names.now self.now.depth (F.pre self.now.inner)
+            (F.post self.now.inner) }
+        ensures { Reads
+            ((flats.open_assign self.now.names.now (run_at self.now.names.now self.now.depth) head
+            target).run tokens.old) result tokens.new }
     {
         let sign = tokens.assign_sign()?;
         let value = Boxed::new(self.alloc, self.flat(tokens, true)?)?;
@@ -249,8 +291,11 @@ impl<F: Fn(Global, &[Bytes], usize, usize, &mut Cursor<'_>, bool) -> Result<Run,
 
     #[tactic(auto, unfolding(crate::specs::Flats::opened))]
     pub fn opened(&self, tokens: &mut Cursor<'_>, head: Boxed<Head>) -> Result<Expr, Fault>
-        requires { Nests self.now.names.now self.now.depth (F.pre self.now.inner) (F.post self.now.inner) }
-        ensures { Reads ((flats.opened self.now.names.now (run_at self.now.names.now self.now.depth) head).run tokens.old) result tokens.new }
+        requires { Nests self.now.names.now self.now.depth (F.pre self.now.inner)
+            (F.post self.now.inner) }
+        ensures { Reads
+            ((flats.opened self.now.names.now (run_at self.now.names.now self.now.depth) head).run
+            tokens.old) result tokens.new }
     {
         let body = Boxed::new(self.alloc, self.flat(tokens, true)?)?;
         if sees_assign(tokens.next()) {
@@ -267,8 +312,11 @@ impl<F: Fn(Global, &[Bytes], usize, usize, &mut Cursor<'_>, bool) -> Result<Run,
         target: Boxed<Flat>,
         sign: AssignSign,
     ) -> Result<Expr, Fault>
-        requires { Nests self.now.names.now self.now.depth (F.pre self.now.inner) (F.post self.now.inner) }
-        ensures { Reads ((flats.assigned self.now.names.now (run_at self.now.names.now self.now.depth) target sign).run tokens.old) result tokens.new }
+        requires { Nests self.now.names.now self.now.depth (F.pre self.now.inner)
+            (F.post self.now.inner) }
+        ensures { Reads
+            ((flats.assigned self.now.names.now (run_at self.now.names.now self.now.depth) target
+            sign).run tokens.old) result tokens.new }
     {
         if sees_head(tokens.next()) {
             let head = Some(Boxed::new(self.alloc, self.head(tokens)?)?);
@@ -292,8 +340,11 @@ impl<F: Fn(Global, &[Bytes], usize, usize, &mut Cursor<'_>, bool) -> Result<Run,
 
     #[tactic(auto, unfolding(crate::specs::Flats::assign))]
     fn assign(&self, tokens: &mut Cursor<'_>, target: Boxed<Flat>) -> Result<Expr, Fault>
-        requires { Nests self.now.names.now self.now.depth (F.pre self.now.inner) (F.post self.now.inner) }
-        ensures { Reads ((flats.assign self.now.names.now (run_at self.now.names.now self.now.depth) target).run tokens.old) result tokens.new }
+        requires { Nests self.now.names.now self.now.depth (F.pre self.now.inner)
+            (F.post self.now.inner) }
+        ensures { Reads
+            ((flats.assign self.now.names.now (run_at self.now.names.now self.now.depth) target).run
+            tokens.old) result tokens.new }
     {
         let sign = tokens.assign_sign()?;
         self.assigned(tokens, target, sign)
@@ -307,8 +358,11 @@ impl<F: Fn(Global, &[Bytes], usize, usize, &mut Cursor<'_>, bool) -> Result<Run,
         first: Operand,
         found: List<FlatPart>,
     ) -> Result<Expr, Fault>
-        requires { Nests self.now.names.now self.now.depth (F.pre self.now.inner) (F.post self.now.inner) }
-        ensures { Reads ((flats.flat_more self.now.names.now (run_at self.now.names.now self.now.depth) lines first found).run tokens.old) result tokens.new }
+        requires { Nests self.now.names.now self.now.depth (F.pre self.now.inner)
+            (F.post self.now.inner) }
+        ensures { Reads
+            ((flats.flat_more self.now.names.now (run_at self.now.names.now self.now.depth) lines
+            first found).run tokens.old) result tokens.new }
     {
         let rest = self.flat_parts(tokens, found, lines, true)?;
         Ok(Expr::Flat(Flat { first, rest }))
@@ -321,8 +375,11 @@ impl<F: Fn(Global, &[Bytes], usize, usize, &mut Cursor<'_>, bool) -> Result<Run,
         lines: bool,
         first: Operand,
     ) -> Result<Expr, Fault>
-        requires { Nests self.now.names.now self.now.depth (F.pre self.now.inner) (F.post self.now.inner) }
-        ensures { Reads ((flats.expr_from self.now.names.now (run_at self.now.names.now self.now.depth) lines first).run tokens.old) result tokens.new }
+        requires { Nests self.now.names.now self.now.depth (F.pre self.now.inner)
+            (F.post self.now.inner) }
+        ensures { Reads
+            ((flats.expr_from self.now.names.now (run_at self.now.names.now self.now.depth) lines
+            first).run tokens.old) result tokens.new }
     {
         let rest = self.flat_parts(tokens, List::new(self.alloc), false, true)?;
         if sees_assign(tokens.next()) {
@@ -335,8 +392,11 @@ impl<F: Fn(Global, &[Bytes], usize, usize, &mut Cursor<'_>, bool) -> Result<Run,
 
     #[tactic(auto, unfolding(crate::specs::Flats::expr))]
     pub fn expr(&self, tokens: &mut Cursor<'_>, lines: bool) -> Result<Expr, Fault>
-        requires { Nests self.now.names.now self.now.depth (F.pre self.now.inner) (F.post self.now.inner) }
-        ensures { Reads ((flats.expr self.now.names.now (run_at self.now.names.now self.now.depth) lines).parser.run tokens.old) result tokens.new }
+        requires { Nests self.now.names.now self.now.depth (F.pre self.now.inner)
+            (F.post self.now.inner) }
+        ensures { Reads
+            ((flats.expr self.now.names.now (run_at self.now.names.now self.now.depth)
+            lines).parser.run tokens.old) result tokens.new }
     {
         if sees_head(tokens.next()) {
             let head = Boxed::new(self.alloc, self.head(tokens)?)?;
@@ -349,8 +409,12 @@ impl<F: Fn(Global, &[Bytes], usize, usize, &mut Cursor<'_>, bool) -> Result<Run,
 
     #[tactic(auto, unfolding(crate::specs::Flats::next_expr))]
     fn next_expr(&self, tokens: &mut Cursor<'_>) -> Result<NextExpr, Fault>
-        requires { Nests self.now.names.now self.now.depth (F.pre self.now.inner) (F.post self.now.inner) }
-        ensures { Reads ((flats.next_expr self.now.names.now (run_at self.now.names.now self.now.depth)).parser.run tokens.old) result tokens.new }
+        requires { Nests self.now.names.now self.now.depth (F.pre self.now.inner)
+            (F.post self.now.inner) }
+        ensures { Reads
+            ((flats.next_expr self.now.names.now
+            (run_at self.now.names.now self.now.depth)).parser.run tokens.old) result
+            tokens.new }
     {
         let comma = tokens.mark(Mark::Comma)?;
         let expr = self.expr(tokens, true)?;
@@ -358,8 +422,11 @@ impl<F: Fn(Global, &[Bytes], usize, usize, &mut Cursor<'_>, bool) -> Result<Run,
     }
 
     fn next_exprs(&self, tokens: &mut Cursor<'_>) -> Result<List<NextExpr>, Fault>
-        requires { Nests self.now.names.now self.now.depth (F.pre self.now.inner) (F.post self.now.inner) }
-        ensures { Reads ((flats.next_exprs self.now.names.now (run_at self.now.names.now self.now.depth)).run tokens.old) result tokens.new }
+        requires { Nests self.now.names.now self.now.depth (F.pre self.now.inner)
+            (F.post self.now.inner) }
+        ensures { Reads
+            ((flats.next_exprs self.now.names.now (run_at self.now.names.now self.now.depth)).run
+            tokens.old) result tokens.new }
     {
         let mut found = List::new(self.alloc);
         for _turn in 0..self.depth {
@@ -373,8 +440,12 @@ impl<F: Fn(Global, &[Bytes], usize, usize, &mut Cursor<'_>, bool) -> Result<Run,
 
     #[tactic(auto, unfolding(crate::specs::Flats::expr_list))]
     fn expr_list(&self, tokens: &mut Cursor<'_>) -> Result<ExprList, Fault>
-        requires { Nests self.now.names.now self.now.depth (F.pre self.now.inner) (F.post self.now.inner) }
-        ensures { Reads ((flats.expr_list self.now.names.now (run_at self.now.names.now self.now.depth)).parser.run tokens.old) result tokens.new }
+        requires { Nests self.now.names.now self.now.depth (F.pre self.now.inner)
+            (F.post self.now.inner) }
+        ensures { Reads
+            ((flats.expr_list self.now.names.now
+            (run_at self.now.names.now self.now.depth)).parser.run tokens.old) result
+            tokens.new }
     {
         let first = Boxed::new(self.alloc, self.expr(tokens, true)?)?;
         let others = self.next_exprs(tokens)?;
@@ -383,8 +454,11 @@ impl<F: Fn(Global, &[Bytes], usize, usize, &mut Cursor<'_>, bool) -> Result<Run,
 
     #[tactic(auto, unfolding(crate::specs::Flats::maybe_list))]
     pub fn maybe_list(&self, tokens: &mut Cursor<'_>) -> Result<Option<ExprList>, Fault>
-        requires { Nests self.now.names.now self.now.depth (F.pre self.now.inner) (F.post self.now.inner) }
-        ensures { Reads ((flats.maybe_list self.now.names.now (run_at self.now.names.now self.now.depth)).run tokens.old) result tokens.new }
+        requires { Nests self.now.names.now self.now.depth (F.pre self.now.inner)
+            (F.post self.now.inner) }
+        ensures { Reads
+            ((flats.maybe_list self.now.names.now (run_at self.now.names.now self.now.depth)).run
+            tokens.old) result tokens.new }
     {
         if tokens.sees_mark(Mark::CloseParen) {
             Ok(None)

@@ -70,8 +70,11 @@ impl<F: Fn(Global, &[Bytes], usize, usize, &mut Cursor<'_>, bool) -> Result<Run,
 > {
     #[tactic(auto, unfolding(crate::specs::Runs::do_form))]
     fn do_form(&self, tokens: &mut Cursor<'_>, do_: Spot) -> Result<Delimited, Fault>
-        requires { Nests self.now.names.now self.now.depth (F.pre self.now.inner) (F.post self.now.inner) }
-        ensures { Reads ((runs.do_form self.now.names.now (run_at self.now.names.now self.now.depth) do_).run tokens.old) result tokens.new }
+        requires { Nests self.now.names.now self.now.depth (F.pre self.now.inner)
+            (F.post self.now.inner) }
+        ensures { Reads
+            ((runs.do_form self.now.names.now (run_at self.now.names.now self.now.depth) do_).run
+            tokens.old) result tokens.new }
     {
         let block = self.block(tokens)?;
         let others = self.also_blocks(tokens)?;
@@ -93,8 +96,11 @@ impl<F: Fn(Global, &[Bytes], usize, usize, &mut Cursor<'_>, bool) -> Result<Run,
         then: Spot,
         block: Block,
     ) -> Result<Delimited, Fault>
-        requires { Nests self.now.names.now self.now.depth (F.pre self.now.inner) (F.post self.now.inner) }
-        ensures { Reads ((runs.if_rest self.now.names.now (run_at self.now.names.now self.now.depth) if_ condition then block).run tokens.old) result tokens.new }
+        requires { Nests self.now.names.now self.now.depth (F.pre self.now.inner)
+            (F.post self.now.inner) }
+        ensures { Reads
+            ((runs.if_rest self.now.names.now (run_at self.now.names.now self.now.depth) if_
+            condition then block).run tokens.old) result tokens.new }
     {
         let elifs = self.elifs(tokens)?;
         let otherwise = self.else_block(tokens)?;
@@ -112,8 +118,11 @@ impl<F: Fn(Global, &[Bytes], usize, usize, &mut Cursor<'_>, bool) -> Result<Run,
 
     #[tactic(auto, unfolding(crate::specs::Runs::if_form))]
     fn if_form(&self, tokens: &mut Cursor<'_>, if_: Spot) -> Result<Delimited, Fault>
-        requires { Nests self.now.names.now self.now.depth (F.pre self.now.inner) (F.post self.now.inner) }
-        ensures { Reads ((runs.if_form self.now.names.now (run_at self.now.names.now self.now.depth) if_).run tokens.old) result tokens.new }
+        requires { Nests self.now.names.now self.now.depth (F.pre self.now.inner)
+            (F.post self.now.inner) }
+        ensures { Reads
+            ((runs.if_form self.now.names.now (run_at self.now.names.now self.now.depth) if_).run
+            tokens.old) result tokens.new }
     {
         let condition = self.flat(tokens, true)?;
         let then = tokens.word(Reserved::Then)?;
@@ -123,8 +132,11 @@ impl<F: Fn(Global, &[Bytes], usize, usize, &mut Cursor<'_>, bool) -> Result<Run,
 
     #[tactic(auto, unfolding(crate::specs::Runs::while_form))]
     fn while_form(&self, tokens: &mut Cursor<'_>, while_: Spot) -> Result<Delimited, Fault>
-        requires { Nests self.now.names.now self.now.depth (F.pre self.now.inner) (F.post self.now.inner) }
-        ensures { Reads ((runs.while_form self.now.names.now (run_at self.now.names.now self.now.depth) while_).run tokens.old) result tokens.new }
+        requires { Nests self.now.names.now self.now.depth (F.pre self.now.inner)
+            (F.post self.now.inner) }
+        ensures { Reads
+            ((runs.while_form self.now.names.now (run_at self.now.names.now self.now.depth)
+            while_).run tokens.old) result tokens.new }
     {
         let condition = self.flat(tokens, false)?;
         let do_ = tokens.word(Reserved::Do)?;
@@ -147,8 +159,11 @@ impl<F: Fn(Global, &[Bytes], usize, usize, &mut Cursor<'_>, bool) -> Result<Run,
         generator: Boxed<Generator>,
         others: List<NextGenerator>,
     ) -> Result<Delimited, Fault>
-        requires { Nests self.now.names.now self.now.depth (F.pre self.now.inner) (F.post self.now.inner) }
-        ensures { Reads ((runs.for_rest self.now.names.now (run_at self.now.names.now self.now.depth) for_ generator others).run tokens.old) result tokens.new }
+        requires { Nests self.now.names.now self.now.depth (F.pre self.now.inner)
+            (F.post self.now.inner) }
+        ensures { Reads
+            ((runs.for_rest self.now.names.now (run_at self.now.names.now self.now.depth) for_
+            generator others).run tokens.old) result tokens.new }
     {
         let do_ = tokens.word(Reserved::Do)?;
         let block = self.block(tokens)?;
@@ -165,8 +180,11 @@ impl<F: Fn(Global, &[Bytes], usize, usize, &mut Cursor<'_>, bool) -> Result<Run,
 
     #[tactic(auto, unfolding(crate::specs::Runs::for_form))]
     fn for_form(&self, tokens: &mut Cursor<'_>, for_: Spot) -> Result<Delimited, Fault>
-        requires { Nests self.now.names.now self.now.depth (F.pre self.now.inner) (F.post self.now.inner) }
-        ensures { Reads ((runs.for_form self.now.names.now (run_at self.now.names.now self.now.depth) for_).run tokens.old) result tokens.new }
+        requires { Nests self.now.names.now self.now.depth (F.pre self.now.inner)
+            (F.post self.now.inner) }
+        ensures { Reads
+            ((runs.for_form self.now.names.now (run_at self.now.names.now self.now.depth) for_).run
+            tokens.old) result tokens.new }
     {
         let generator = Boxed::new(self.alloc, self.generator(tokens, false)?)?;
         let others = self.next_generators(tokens)?;
@@ -181,8 +199,11 @@ impl<F: Fn(Global, &[Bytes], usize, usize, &mut Cursor<'_>, bool) -> Result<Run,
         subject: Flat,
         of: Spot,
     ) -> Result<Delimited, Fault>
-        requires { Nests self.now.names.now self.now.depth (F.pre self.now.inner) (F.post self.now.inner) }
-        ensures { Reads ((runs.case_rest self.now.names.now (run_at self.now.names.now self.now.depth) case subject of).run tokens.old) result tokens.new }
+        requires { Nests self.now.names.now self.now.depth (F.pre self.now.inner)
+            (F.post self.now.inner) }
+        ensures { Reads
+            ((runs.case_rest self.now.names.now (run_at self.now.names.now self.now.depth)
+            case subject of).run tokens.old) result tokens.new }
     {
         let clauses = self.case_clauses(tokens)?;
         let otherwise = self.else_clause(tokens, case_ended(clauses.as_slice()))?;
@@ -199,8 +220,11 @@ impl<F: Fn(Global, &[Bytes], usize, usize, &mut Cursor<'_>, bool) -> Result<Run,
 
     #[tactic(auto, unfolding(crate::specs::Runs::case_form))]
     fn case_form(&self, tokens: &mut Cursor<'_>, case: Spot) -> Result<Delimited, Fault>
-        requires { Nests self.now.names.now self.now.depth (F.pre self.now.inner) (F.post self.now.inner) }
-        ensures { Reads ((runs.case_form self.now.names.now (run_at self.now.names.now self.now.depth) case).run tokens.old) result tokens.new }
+        requires { Nests self.now.names.now self.now.depth (F.pre self.now.inner)
+            (F.post self.now.inner) }
+        ensures { Reads
+            ((runs.case_form self.now.names.now (run_at self.now.names.now self.now.depth) case).run
+            tokens.old) result tokens.new }
     {
         let subject = self.flat(tokens, true)?;
         let of = tokens.word(Reserved::Of)?;
@@ -217,8 +241,11 @@ impl<F: Fn(Global, &[Bytes], usize, usize, &mut Cursor<'_>, bool) -> Result<Run,
         subject: Flat,
         of: Spot,
     ) -> Result<Delimited, Fault>
-        requires { Nests self.now.names.now self.now.depth (F.pre self.now.inner) (F.post self.now.inner) }
-        ensures { Reads ((runs.typecase_rest self.now.names.now (run_at self.now.names.now self.now.depth) typecase name equals subject of).run tokens.old) result tokens.new }
+        requires { Nests self.now.names.now self.now.depth (F.pre self.now.inner)
+            (F.post self.now.inner) }
+        ensures { Reads
+            ((runs.typecase_rest self.now.names.now (run_at self.now.names.now self.now.depth)
+            typecase name equals subject of).run tokens.old) result tokens.new }
     {
         let clauses = self.type_clauses(tokens)?;
         let otherwise = self.else_clause(tokens, type_ended(clauses.as_slice()))?;
@@ -237,8 +264,11 @@ impl<F: Fn(Global, &[Bytes], usize, usize, &mut Cursor<'_>, bool) -> Result<Run,
 
     #[tactic(auto, unfolding(crate::specs::Runs::typecase_form))]
     fn typecase_form(&self, tokens: &mut Cursor<'_>, typecase: Spot) -> Result<Delimited, Fault>
-        requires { Nests self.now.names.now self.now.depth (F.pre self.now.inner) (F.post self.now.inner) }
-        ensures { Reads ((runs.typecase_form self.now.names.now (run_at self.now.names.now self.now.depth) typecase).run tokens.old) result tokens.new }
+        requires { Nests self.now.names.now self.now.depth (F.pre self.now.inner)
+            (F.post self.now.inner) }
+        ensures { Reads
+            ((runs.typecase_form self.now.names.now (run_at self.now.names.now self.now.depth)
+            typecase).run tokens.old) result tokens.new }
     {
         let name = tokens.name()?;
         let equals = tokens.equals()?;
@@ -249,8 +279,11 @@ impl<F: Fn(Global, &[Bytes], usize, usize, &mut Cursor<'_>, bool) -> Result<Run,
 
     #[tactic(auto, unfolding(crate::specs::Runs::try_form))]
     fn try_form(&self, tokens: &mut Cursor<'_>, try_: Spot) -> Result<Delimited, Fault>
-        requires { Nests self.now.names.now self.now.depth (F.pre self.now.inner) (F.post self.now.inner) }
-        ensures { Reads ((runs.try_form self.now.names.now (run_at self.now.names.now self.now.depth) try_).run tokens.old) result tokens.new }
+        requires { Nests self.now.names.now self.now.depth (F.pre self.now.inner)
+            (F.post self.now.inner) }
+        ensures { Reads
+            ((runs.try_form self.now.names.now (run_at self.now.names.now self.now.depth) try_).run
+            tokens.old) result tokens.new }
     {
         let block = self.block(tokens)?;
         let catch = self.catch(tokens)?;
@@ -267,8 +300,12 @@ impl<F: Fn(Global, &[Bytes], usize, usize, &mut Cursor<'_>, bool) -> Result<Run,
 
     #[tactic(auto, unfolding(crate::specs::Runs::delimited))]
     fn delimited(&self, tokens: &mut Cursor<'_>) -> Result<Delimited, Fault>
-        requires { Nests self.now.names.now self.now.depth (F.pre self.now.inner) (F.post self.now.inner) }
-        ensures { Reads ((runs.delimited self.now.names.now (run_at self.now.names.now self.now.depth)).parser.run tokens.old) result tokens.new }
+        requires { Nests self.now.names.now self.now.depth (F.pre self.now.inner)
+            (F.post self.now.inner) }
+        ensures { Reads
+            ((runs.delimited self.now.names.now
+            (run_at self.now.names.now self.now.depth)).parser.run tokens.old) result
+            tokens.new }
     {
         let Some(next) = tokens.next() else {
             return Err(Fault::Syntax);
@@ -308,8 +345,11 @@ impl<F: Fn(Global, &[Bytes], usize, usize, &mut Cursor<'_>, bool) -> Result<Run,
 
     #[tactic(auto, unfolding(crate::specs::Runs::parens))]
     fn parens(&self, tokens: &mut Cursor<'_>, left: Spot) -> Result<Atom, Fault>
-        requires { Nests self.now.names.now self.now.depth (F.pre self.now.inner) (F.post self.now.inner) }
-        ensures { Reads ((runs.parens self.now.names.now (run_at self.now.names.now self.now.depth) left).run tokens.old) result tokens.new }
+        requires { Nests self.now.names.now self.now.depth (F.pre self.now.inner)
+            (F.post self.now.inner) }
+        ensures { Reads
+            ((runs.parens self.now.names.now (run_at self.now.names.now self.now.depth) left).run
+            tokens.old) result tokens.new }
     {
         let contents = self.maybe_list(tokens)?;
         let right = tokens.mark(Mark::CloseParen)?;
@@ -327,8 +367,12 @@ impl<F: Fn(Global, &[Bytes], usize, usize, &mut Cursor<'_>, bool) -> Result<Run,
         head: ArrayHead,
         size: ArraySize,
     ) -> Result<Atom, Fault>
-        requires { Nests self.now.names.now self.now.depth (F.pre self.now.inner) (F.post self.now.inner) }
-        ensures { Reads ((runs.fill_value self.now.names.now (run_at self.now.names.now self.now.depth) head.array head.left head.element head.right size.left size.size size.right).run tokens.old) result tokens.new }
+        requires { Nests self.now.names.now self.now.depth (F.pre self.now.inner)
+            (F.post self.now.inner) }
+        ensures { Reads
+            ((runs.fill_value self.now.names.now (run_at self.now.names.now self.now.depth)
+            head.array head.left head.element head.right size.left size.size size.right).run
+            tokens.old) result tokens.new }
     {
         let dot = tokens.tight_mark(Mark::Dot)?;
         let fill = tokens.tight_called(b"fill", self.names)?;
@@ -356,8 +400,11 @@ impl<F: Fn(Global, &[Bytes], usize, usize, &mut Cursor<'_>, bool) -> Result<Run,
 
     #[tactic(auto, unfolding(crate::specs::Runs::fill_size))]
     fn fill_size(&self, tokens: &mut Cursor<'_>, head: ArrayHead) -> Result<Atom, Fault>
-        requires { Nests self.now.names.now self.now.depth (F.pre self.now.inner) (F.post self.now.inner) }
-        ensures { Reads ((runs.fill_size self.now.names.now (run_at self.now.names.now self.now.depth) head.array head.left head.element head.right).run tokens.old) result tokens.new }
+        requires { Nests self.now.names.now self.now.depth (F.pre self.now.inner)
+            (F.post self.now.inner) }
+        ensures { Reads
+            ((runs.fill_size self.now.names.now (run_at self.now.names.now self.now.depth)
+            head.array head.left head.element head.right).run tokens.old) result tokens.new }
     {
         let left = tokens.tight_mark(Mark::OpenParen)?;
         let size = Boxed::new(self.alloc, self.expr(tokens, true)?)?;
@@ -367,8 +414,11 @@ impl<F: Fn(Global, &[Bytes], usize, usize, &mut Cursor<'_>, bool) -> Result<Run,
 
     #[tactic(auto, unfolding(crate::specs::Runs::array_fill))]
     fn array_fill(&self, tokens: &mut Cursor<'_>, array: Spot) -> Result<Atom, Fault>
-        requires { Nests self.now.names.now self.now.depth (F.pre self.now.inner) (F.post self.now.inner) }
-        ensures { Reads ((runs.array_fill self.now.names.now (run_at self.now.names.now self.now.depth) array).run tokens.old) result tokens.new }
+        requires { Nests self.now.names.now self.now.depth (F.pre self.now.inner)
+            (F.post self.now.inner) }
+        ensures { Reads
+            ((runs.array_fill self.now.names.now (run_at self.now.names.now self.now.depth)
+            array).run tokens.old) result tokens.new }
     {
         let left = tokens.tight_mark(Mark::OpenStatic)?;
         let element = Boxed::new(self.alloc, self.types().type_tree(tokens)?)?;
@@ -383,8 +433,12 @@ impl<F: Fn(Global, &[Bytes], usize, usize, &mut Cursor<'_>, bool) -> Result<Run,
     }
 
     fn form_atom(&self, tokens: &mut Cursor<'_>) -> Result<Atom, Fault>
-        requires { Nests self.now.names.now self.now.depth (F.pre self.now.inner) (F.post self.now.inner) }
-        ensures { Reads ((runs.form_atom self.now.names.now (run_at self.now.names.now self.now.depth)).parser.run tokens.old) result tokens.new }
+        requires { Nests self.now.names.now self.now.depth (F.pre self.now.inner)
+            (F.post self.now.inner) }
+        ensures { Reads
+            ((runs.form_atom self.now.names.now
+            (run_at self.now.names.now self.now.depth)).parser.run tokens.old) result
+            tokens.new }
     {
         let form = self.delimited(tokens)?;
         Ok(Atom::Delimited(Boxed::new(self.alloc, form)?))
@@ -396,8 +450,11 @@ impl<F: Fn(Global, &[Bytes], usize, usize, &mut Cursor<'_>, bool) -> Result<Run,
         blocks: bool,
         word: Reserved,
     ) -> Result<Atom, Fault>
-        requires { Nests self.now.names.now self.now.depth (F.pre self.now.inner) (F.post self.now.inner) }
-        ensures { Reads ((runs.word_atom self.now.names.now (run_at self.now.names.now self.now.depth) blocks word).parser.run tokens.old) result tokens.new }
+        requires { Nests self.now.names.now self.now.depth (F.pre self.now.inner)
+            (F.post self.now.inner) }
+        ensures { Reads
+            ((runs.word_atom self.now.names.now (run_at self.now.names.now self.now.depth) blocks
+            word).parser.run tokens.old) result tokens.new }
     {
         match word {
             Reserved::True | Reserved::False | Reserved::Self_ => literal(tokens),
@@ -419,8 +476,11 @@ impl<F: Fn(Global, &[Bytes], usize, usize, &mut Cursor<'_>, bool) -> Result<Run,
 
     #[tactic(auto, unfolding(crate::specs::Runs::atom))]
     fn atom(&self, tokens: &mut Cursor<'_>, blocks: bool) -> Result<Atom, Fault>
-        requires { Nests self.now.names.now self.now.depth (F.pre self.now.inner) (F.post self.now.inner) }
-        ensures { Reads ((runs.atom self.now.names.now (run_at self.now.names.now self.now.depth) blocks).parser.run tokens.old) result tokens.new }
+        requires { Nests self.now.names.now self.now.depth (F.pre self.now.inner)
+            (F.post self.now.inner) }
+        ensures { Reads
+            ((runs.atom self.now.names.now (run_at self.now.names.now self.now.depth)
+            blocks).parser.run tokens.old) result tokens.new }
     {
         let Some(next) = tokens.next() else {
             return Err(Fault::Syntax);
@@ -438,8 +498,11 @@ impl<F: Fn(Global, &[Bytes], usize, usize, &mut Cursor<'_>, bool) -> Result<Run,
 
     #[tactic(auto, unfolding(crate::specs::Runs::subscript))]
     fn subscript(&self, tokens: &mut Cursor<'_>, left: Spot) -> Result<Postfix, Fault>
-        requires { Nests self.now.names.now self.now.depth (F.pre self.now.inner) (F.post self.now.inner) }
-        ensures { Reads ((runs.subscript self.now.names.now (run_at self.now.names.now self.now.depth) left).run tokens.old) result tokens.new }
+        requires { Nests self.now.names.now self.now.depth (F.pre self.now.inner)
+            (F.post self.now.inner) }
+        ensures { Reads
+            ((runs.subscript self.now.names.now (run_at self.now.names.now self.now.depth) left).run
+            tokens.old) result tokens.new }
     {
         let index = Boxed::new(self.alloc, self.expr(tokens, true)?)?;
         let right = tokens.mark(Mark::CloseBracket)?;
@@ -448,8 +511,11 @@ impl<F: Fn(Global, &[Bytes], usize, usize, &mut Cursor<'_>, bool) -> Result<Run,
 
     #[tactic(auto, unfolding(crate::specs::Runs::tight_atom))]
     fn tight_atom(&self, tokens: &mut Cursor<'_>, blocks: bool) -> Result<Atom, Fault>
-        requires { Nests self.now.names.now self.now.depth (F.pre self.now.inner) (F.post self.now.inner) }
-        ensures { Reads ((runs.tight_atom self.now.names.now (run_at self.now.names.now self.now.depth) blocks).run tokens.old) result tokens.new }
+        requires { Nests self.now.names.now self.now.depth (F.pre self.now.inner)
+            (F.post self.now.inner) }
+        ensures { Reads
+            ((runs.tight_atom self.now.names.now (run_at self.now.names.now self.now.depth)
+            blocks).run tokens.old) result tokens.new }
     {
         if is_next_tight(tokens.next()) {
             self.atom(tokens, blocks)
@@ -460,8 +526,11 @@ impl<F: Fn(Global, &[Bytes], usize, usize, &mut Cursor<'_>, bool) -> Result<Run,
 
     #[tactic(auto, unfolding(crate::specs::Runs::method_call))]
     fn method_call(&self, tokens: &mut Cursor<'_>, dot: Spot, name: Name) -> Result<Postfix, Fault>
-        requires { Nests self.now.names.now self.now.depth (F.pre self.now.inner) (F.post self.now.inner) }
-        ensures { Reads ((runs.method_call self.now.names.now (run_at self.now.names.now self.now.depth) dot name).run tokens.old) result tokens.new }
+        requires { Nests self.now.names.now self.now.depth (F.pre self.now.inner)
+            (F.post self.now.inner) }
+        ensures { Reads
+            ((runs.method_call self.now.names.now (run_at self.now.names.now self.now.depth) dot
+            name).run tokens.old) result tokens.new }
     {
         let left = tokens.tight_mark(Mark::OpenParen)?;
         let arguments = self.maybe_list(tokens)?;
@@ -477,8 +546,11 @@ impl<F: Fn(Global, &[Bytes], usize, usize, &mut Cursor<'_>, bool) -> Result<Run,
 
     #[tactic(auto, unfolding(crate::specs::Runs::dotted))]
     fn dotted(&self, tokens: &mut Cursor<'_>, dot: Spot) -> Result<Postfix, Fault>
-        requires { Nests self.now.names.now self.now.depth (F.pre self.now.inner) (F.post self.now.inner) }
-        ensures { Reads ((runs.dotted self.now.names.now (run_at self.now.names.now self.now.depth) dot).run tokens.old) result tokens.new }
+        requires { Nests self.now.names.now self.now.depth (F.pre self.now.inner)
+            (F.post self.now.inner) }
+        ensures { Reads
+            ((runs.dotted self.now.names.now (run_at self.now.names.now self.now.depth) dot).run
+            tokens.old) result tokens.new }
     {
         let name = tokens.tight_name()?;
         if sees_arguments(tokens.next()) {
@@ -490,8 +562,11 @@ impl<F: Fn(Global, &[Bytes], usize, usize, &mut Cursor<'_>, bool) -> Result<Run,
 
     #[tactic(auto, unfolding(crate::specs::Runs::postfix))]
     fn postfix(&self, tokens: &mut Cursor<'_>, blocks: bool) -> Result<Postfix, Fault>
-        requires { Nests self.now.names.now self.now.depth (F.pre self.now.inner) (F.post self.now.inner) }
-        ensures { Reads ((runs.postfix self.now.names.now (run_at self.now.names.now self.now.depth) blocks).parser.run tokens.old) result tokens.new }
+        requires { Nests self.now.names.now self.now.depth (F.pre self.now.inner)
+            (F.post self.now.inner) }
+        ensures { Reads
+            ((runs.postfix self.now.names.now (run_at self.now.names.now self.now.depth)
+            blocks).parser.run tokens.old) result tokens.new }
     {
         let Some(next) = tokens.next() else {
             return Err(Fault::Syntax);
@@ -516,8 +591,11 @@ impl<F: Fn(Global, &[Bytes], usize, usize, &mut Cursor<'_>, bool) -> Result<Run,
 
     #[tactic(auto, unfolding(crate::specs::Runs::run_part))]
     fn run_part(&self, tokens: &mut Cursor<'_>, blocks: bool) -> Result<RunPart, Fault>
-        requires { Nests self.now.names.now self.now.depth (F.pre self.now.inner) (F.post self.now.inner) }
-        ensures { Reads ((runs.run_part self.now.names.now (run_at self.now.names.now self.now.depth) blocks).parser.run tokens.old) result tokens.new }
+        requires { Nests self.now.names.now self.now.depth (F.pre self.now.inner)
+            (F.post self.now.inner) }
+        ensures { Reads
+            ((runs.run_part self.now.names.now (run_at self.now.names.now self.now.depth)
+            blocks).parser.run tokens.old) result tokens.new }
     {
         if sees_postfix(tokens.next()) {
             Ok(RunPart::Postfix(self.postfix(tokens, blocks)?))
@@ -527,8 +605,11 @@ impl<F: Fn(Global, &[Bytes], usize, usize, &mut Cursor<'_>, bool) -> Result<Run,
     }
 
     fn run_parts(&self, tokens: &mut Cursor<'_>, blocks: bool) -> Result<List<RunPart>, Fault>
-        requires { Nests self.now.names.now self.now.depth (F.pre self.now.inner) (F.post self.now.inner) }
-        ensures { Reads ((runs.run_parts self.now.names.now (run_at self.now.names.now self.now.depth) blocks).run tokens.old) result tokens.new }
+        requires { Nests self.now.names.now self.now.depth (F.pre self.now.inner)
+            (F.post self.now.inner) }
+        ensures { Reads
+            ((runs.run_parts self.now.names.now (run_at self.now.names.now self.now.depth)
+            blocks).run tokens.old) result tokens.new }
     {
         let mut found = List::new(self.alloc);
         for _turn in 0..self.depth {
@@ -542,8 +623,11 @@ impl<F: Fn(Global, &[Bytes], usize, usize, &mut Cursor<'_>, bool) -> Result<Run,
 
     #[tactic(auto, unfolding(crate::specs::Runs::run_level))]
     fn run_level(&self, tokens: &mut Cursor<'_>, blocks: bool) -> Result<Run, Fault>
-        requires { Nests self.now.names.now self.now.depth (F.pre self.now.inner) (F.post self.now.inner) }
-        ensures { Reads ((runs.run_level self.now.names.now (run_at self.now.names.now self.now.depth) blocks).parser.run tokens.old) result tokens.new }
+        requires { Nests self.now.names.now self.now.depth (F.pre self.now.inner)
+            (F.post self.now.inner) }
+        ensures { Reads
+            ((runs.run_level self.now.names.now (run_at self.now.names.now self.now.depth)
+            blocks).parser.run tokens.old) result tokens.new }
     {
         let first = self.atom(tokens, blocks)?;
         let rest = self.run_parts(tokens, blocks)?;
@@ -552,8 +636,10 @@ impl<F: Fn(Global, &[Bytes], usize, usize, &mut Cursor<'_>, bool) -> Result<Run,
 
     /// A run; `blocks` says whether an atom of it may begin with `do`.
     pub fn run(&self, tokens: &mut Cursor<'_>, blocks: bool) -> Result<Run, Fault>
-        requires { Nests self.now.names.now self.now.depth (F.pre self.now.inner) (F.post self.now.inner) }
-        ensures { Reads ((run_at self.now.names.now self.now.depth blocks).parser.run tokens.old) result tokens.new }
+        requires { Nests self.now.names.now self.now.depth (F.pre self.now.inner)
+            (F.post self.now.inner) }
+        ensures { Reads ((run_at self.now.names.now self.now.depth blocks).parser.run tokens.old)
+            result tokens.new }
     {
         (self.inner)(
             self.alloc, self.names, self.depth, self.floor, tokens, blocks,
@@ -561,7 +647,8 @@ impl<F: Fn(Global, &[Bytes], usize, usize, &mut Cursor<'_>, bool) -> Result<Run,
     }
 }
 
-/// A run, where at most `depth` tokens are left; `blocks` says whether an atom of it may begin with `do`.
+/// A run, where at most `depth` tokens are left; `blocks` says whether an atom of it may begin with
+/// `do`.
 #[tactic(auto, unfolding(crate::specs::Runs::run_at))]
 pub fn run(
     alloc: Global,

@@ -1,5 +1,5 @@
--- The chapter "Grammar": the longest type that begins a row of tokens. The code runs a parser; where it fails it asks at
--- falling ends whether all tokens up to there are a type.
+-- The chapter "Grammar": the longest type that begins a row of tokens. The code runs a parser;
+-- where it fails it asks at falling ends whether all tokens up to there are a type.
 use Rattle.std.specs.Prelude.{◌≡◌, ℕ, List, Option, Some, None}
 use Rattle.fort_token.specs.declared.token.Token.{Token}
 use Rattle.fort_tree.specs.declared.types.TypeTree.{TypeTree}
@@ -21,7 +21,8 @@ TypeOf names ts (Some ty) = (HasType names ts ty) × ((y : TypeTree) → HasType
 abbrev pub NoLongerType : Spellings → List Token → ℕ → Type 0
 NoLongerType names ts k = NoneLonger names elsewhere said_type ts k
 
--- The longest type that begins the tokens, and how many of them it is; none where no type begins them.
+-- The longest type that begins the tokens, and how many of them it is; none where no type begins
+-- them.
 abbrev pub LongestType : Spellings → List Token → Option (TypeTree × ℕ) → Type 0
 LongestType names ts None = NoPart names elsewhere said_type ts
 LongestType names ts (Some found) = LongestPart names elsewhere said_type ts found.0 found.1

@@ -68,7 +68,8 @@ module _ (names : Spellings) {n : ℕ} (inner : Eater TypeTree n) where
     array_index array left element
 
   abbrev pub named_by : Name → Bool → Parser SimpleType n
-  named_by name true = fork (sees (is_mark mark.OpenStatic)) (array_type name) (pure (a_simple.Named name))
+  named_by name true =
+      fork (sees (is_mark mark.OpenStatic)) (array_type name) (pure (a_simple.Named name))
   named_by name false = pure (a_simple.Named name)
 
   unfoldable pub named_type : Name → Parser SimpleType n
@@ -97,7 +98,9 @@ module _ (names : Spellings) {n : ℕ} (inner : Eater TypeTree n) where
     pure (a_type.Arrow domain arrow result)
 
   unfoldable pub type_level : Eater TypeTree (suc n)
-  type_level = simple_type >>| λ domain. fork (sees (is_mark mark.RightArrow)) (arrow_from domain) (pure (a_type.Simple domain))
+  type_level =
+      simple_type >>| λ domain. fork (sees (is_mark mark.RightArrow)) (arrow_from domain)
+      (pure (a_type.Simple domain))
 
 -- a type, with that budget
 unfoldable pub type_tree : Spellings → (n : ℕ) → Eater TypeTree n

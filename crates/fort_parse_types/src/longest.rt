@@ -10,7 +10,8 @@ use fort_token::Token;
 use fort_tree::TypeTree;
 use std::alloc::Global;
 
-/// How deep types are read in one another; a token list that passes the test of rule 202 has none so deep.
+/// How deep types are read in one another; a token list that passes the test of rule 202 has none
+/// so deep.
 const MOST_NESTED: usize = 128;
 
 /// What reads a type from that many tokens.
@@ -67,9 +68,10 @@ fn shorter_type(
     Ok(None)
 }
 
-/// The longest type that begins the tokens, with the number of its tokens, or `None` where no type begins them. The names
-/// are the spellings of those that the tokens have, by their numbers. The error is want of memory, and parts that lie deeper
-/// in one another than [`MOST_NESTED`]. The chapter is "Grammar".
+/// The longest type that begins the tokens, with the number of its tokens, or `None` where no type
+/// begins them. The names are the spellings of those that the tokens have, by their numbers. The
+/// error is want of memory, and parts that lie deeper in one another than [`MOST_NESTED`]. The
+/// chapter is "Grammar".
 pub fn longest_type(
     alloc: Global,
     names: &[Bytes],

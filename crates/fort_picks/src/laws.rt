@@ -1,7 +1,8 @@
 //! What picks at a state's place are to a run.
 ghost use Rattle.fort_picks.specs.Picks.{AttemptIsBegun, AttemptIsPick, BegunWithin, InnerAbortEnds, NobodyAwake, StepIsNext, StepIsPick};
 
-/// A step of the form at a state's place is the run's next pick, with the state's own path; afterwards the clock has risen.
+/// A step of the form at a state's place is the run's next pick, with the state's own path;
+/// afterwards the clock has risen.
 pub fn step_is_pick()
     ensures { StepIsPick }
 {}

@@ -1,5 +1,6 @@
-//! Picks of a machine whose term is taken apart: what a step or an attempt at a state's place is to the run so far. Each law is
-//! named by a function that does nothing. The chapter "Runs" of docs/MACHINE.md.
+//! Picks of a machine whose term is taken apart: what a step or an attempt at a state's place is to
+//! the run so far. Each law is named by a function that does nothing. The chapter "Runs" of
+//! docs/MACHINE.md.
 #![tactic(auto)]
 
 mod laws;

@@ -1,4 +1,5 @@
--- Chapter "Terms and threads": the thread of a path. The code goes from a thread to another one by the first part in which their paths differ.
+-- Chapter "Terms and threads": the thread of a path. The code goes from a thread to another one by
+-- the first part in which their paths differ.
 use Rattle.std.specs.Prelude.{◌≡◌, ℕ, ◌<◌, ◌≤◌, Bool, true, false, List, length, take}
 use Rattle.fort_core.specs.declared.path.Path.{Path}
 use Rattle.fort_core.specs.declared.term.Term.{Term}
@@ -32,7 +33,8 @@ whole clock s = rebuilt clock (frames s.place.stack) (term_at s.«at»)
 
 -- No thread of a term that may go on has a path.
 pub record NoThread (t : Term) (path : Path) : Type 0 where
-  pub none : (fs : List Frame) (a : Term) → t ≡ plug fs a → passed fs a ≡ false → Ready a → path_to fs ≡ path → ⊥
+  pub none : (fs : List Frame) (a : Term) → t ≡ plug fs a → passed fs a ≡ false → Ready a
+      → path_to fs ≡ path → ⊥
 
 -- What has a path: a thread's form, an atomic form, or no thread.
 abbrev pub IsFound : ℕ → Term → Path → Found → Type 0
@@ -45,8 +47,10 @@ abbrev pub IsSought : ℕ → Term → Path → Seek → Type 0
 IsSought clock t path (seek.Moves s) = Stands clock t s
 IsSought clock t path (seek.Stops f) = IsFound clock t path f
 
--- At an open part of a term, inside more than so many numbers, the first of which are those of a path.
-pub record IsInside (clock : ℕ) (t : Term) (keep : ℕ) (path : Path) (place : Place) (part : Term) : Type 0 where
+-- At an open part of a term, inside more than so many numbers, the first of which are those of a
+-- path.
+pub record IsInside (clock : ℕ) (t : Term) (keep : ℕ) (path : Path) (place : Place)
+    (part : Term) : Type 0 where
   pub is_term : rebuilt clock (frames place.stack) part ≡ t
   pub reached : Reaches clock (frames place.stack) part
   pub is_open : standing part ≡ open_yet
@@ -54,17 +58,20 @@ pub record IsInside (clock : ℕ) (t : Term) (keep : ℕ) (path : Path) (place :
   pub same_first : take keep place.path.0 ≡ take keep path.0
 
 -- At a parallel form of a term, one part of which is open.
-pub record IsBeside (clock : ℕ) (t : Term) (keep : ℕ) (path : Path) (place : Place) (form : Term) : Type 0 where
+pub record IsBeside (clock : ℕ) (t : Term) (keep : ℕ) (path : Path) (place : Place)
+    (form : Term) : Type 0 where
   pub is_term : rebuilt clock (frames place.stack) form ≡ t
   pub reached : Reaches clock (frames place.stack) form
   pub is_open : standing form ≡ open_yet
   pub not_above : keep ≤ length place.path.0
   pub same_first : take keep place.path.0 ≡ take keep path.0
 
--- Out of one frame: at a form that goes from left to right, whose path is the same; or at a parallel form, by its parts.
+-- Out of one frame: at a form that goes from left to right, whose path is the same; or at a
+-- parallel form, by its parts.
 abbrev pub IsOut : ℕ → Term → ℕ → Path → Out → Type 0
 IsOut clock t keep path (out.Form place part) = IsInside clock t keep path place part
-IsOut clock t keep path (out.Node place head parts) = suits head parts ≡ true × IsBeside clock t keep path place (form_of head parts)
+IsOut clock t keep path (out.Node place head parts) = suits head parts ≡ true
+    × IsBeside clock t keep path place (form_of head parts)
 
 -- At an open part of a term.
 pub record IsOpenAt (clock : ℕ) (t : Term) (place : Place) (part : Term) : Type 0 where
@@ -75,7 +82,8 @@ pub record IsOpenAt (clock : ℕ) (t : Term) (place : Place) (part : Term) : Typ
 -- Out of one frame, whatever the paths: at an open form of the same term.
 abbrev pub IsOutOf : ℕ → Term → Out → Type 0
 IsOutOf clock t (out.Form place part) = IsOpenAt clock t place part
-IsOutOf clock t (out.Node place head parts) = suits head parts ≡ true × IsOpenAt clock t place (form_of head parts)
+IsOutOf clock t (out.Node place head parts) = suits head parts ≡ true
+    × IsOpenAt clock t place (form_of head parts)
 
 -- A term is settled: a value, a throw, or not finished.
 abbrev pub IsSettled : Term → Settled → Type 0

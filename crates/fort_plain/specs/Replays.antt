@@ -1,4 +1,5 @@
--- Chapter "Journals": what a replay of a journal says. The code has the machine's own rows and states, pick by pick; the definition takes the picks as they stand.
+-- Chapter "Journals": what a replay of a journal says. The code has the machine's own rows and
+-- states, pick by pick; the definition takes the picks as they stand.
 use Rattle.std.specs.Prelude.{◌≡◌, ℕ, ◌+◌, ◌<◌, ◌≤◌, List, length, take, ◌⊎◌}
 use Rattle.fort_core.specs.declared.journal.Ending.{Ending}
 use Rattle.fort_core.specs.declared.journal.Ending.TheVariants as ending
@@ -22,21 +23,25 @@ pub record RunsWithin (p : Program) (fuel : ℕ) (picks : List Pick) : Type 0 wh
   pub is_run : IsRun p picks term effect
   pub within_fuel : effect.cost ≤ fuel
 
--- A journal breaks at a number: so many of its picks are a run within its fuel, and with the next one they are none; or they are all its picks, and its ending is wrong.
+-- A journal breaks at a number: so many of its picks are a run within its fuel, and with the next
+-- one they are none; or they are all its picks, and its ending is wrong.
 pub record BreaksAt (p : Program) (j : Journal) (n : ℕ) : Type 0 where
   pub before : RunsWithin p j.fuel (take n j.picks)
-  pub cause : ((n < length j.picks) × (RunsWithin p j.fuel (take (n + 1) j.picks) → ⊥)) ⊎ ((n ≡ length j.picks) × (IsJournal p j → ⊥))
+  pub cause : ((n < length j.picks) × (RunsWithin p j.fuel (take (n + 1) j.picks) → ⊥))
+      ⊎ ((n ≡ length j.picks) × (IsJournal p j → ⊥))
 
 -- A replay answers the run's output and cost, or where the journal breaks.
 abbrev pub Replays : Program → Journal → Replayed → Type 0
 Replays p j (replayed.Run output cost) = HasRun p j.fuel j.picks j.ending output cost
 Replays p j (replayed.Broken n) = BreaksAt p j n
 
--- A journal that breaks is none of a run, so a replay that says `Broken` says it exactly where there is no run.
+-- A journal that breaks is none of a run, so a replay that says `Broken` says it exactly where
+-- there is no run.
 abbrev pub BrokenIsNone : Type 0
 BrokenIsNone = (p : Program) (j : Journal) (n : ℕ) → BreaksAt p j n → IsJournal p j → ⊥
 
--- How a term stands with which a run ends so: `()` where it is completed, the throw where that is uncaught.
+-- How a term stands with which a run ends so: `()` where it is completed, the throw where that is
+-- uncaught.
 abbrev pub EndsSo : Settled → Ending → Type 0
 EndsSo (settled.Value v) ending.Completed = v ≡ unit
 EndsSo (settled.Throw v) (ending.Uncaught w) = v ≡ w
@@ -50,4 +55,5 @@ IsNoPick e = Unit {0}
 -- A replay's answer behind all picks of a run within its fuel.
 abbrev pub EndsAt : Program → ℕ → List Pick → Ending → ℕ → Replayed → Type 0
 EndsAt p fuel picks e count (replayed.Run output cost) = HasRun p fuel picks e output cost
-EndsAt p fuel picks e count (replayed.Broken n) = (n ≡ count) × (IsJournal p (record { fuel = fuel; picks = picks; ending = e }) → ⊥)
+EndsAt p fuel picks e count (replayed.Broken n) = (n ≡ count)
+    × (IsJournal p (record { fuel = fuel; picks = picks; ending = e }) → ⊥)

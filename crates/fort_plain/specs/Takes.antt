@@ -1,4 +1,5 @@
--- Chapter "Runs": one pick of the innermost machine of a run. The code does what the form's row says; the definition asks for every legal pick.
+-- Chapter "Runs": one pick of the innermost machine of a run. The code does what the form's row
+-- says; the definition asks for every legal pick.
 use Rattle.std.specs.Prelude.{◌≡◌, ◌≢◌, ℕ, ◌+◌, Bool, true, false, List, [], ◌∷◌, ◌++◌, Option, Some, None}
 use Rattle.fort_core.specs.declared.pick.Pick.{Pick, Step, Attempt}
 use Rattle.fort_core.specs.declared.program.Program.{Program}
@@ -29,12 +30,16 @@ use Rattle.fort_plain.specs.declared.act.Acted.{Acted}
 use Rattle.fort_plain.specs.declared.act.Acted.TheVariants as acted
 use Rattle.fort_plain.specs.declared.act.Turn.{Turn}
 
--- The innermost machine can't go on with a pick within a fuel, whatever comes behind it; where it isn't the machine's last one, something does.
-pub record NoPick (p : Program) (c : Course) (t : Term) (fuel : ℕ) (turn : Turn) (pick : Pick) : Type 0 where
-  pub none : (ajar : Bool) (more : List Pick) → (turn.is_last ≡ false → more ≢ []) → NoWay p ajar (is_inner (around c)) (seen (levels_of c.layers)) t c.spent fuel (pick ∷ more)
+-- The innermost machine can't go on with a pick within a fuel, whatever comes behind it; where it
+-- isn't the machine's last one, something does.
+pub record NoPick (p : Program) (c : Course) (t : Term) (fuel : ℕ) (turn : Turn)
+    (pick : Pick) : Type 0 where
+  pub none : (ajar : Bool) (more : List Pick) → (turn.is_last ≡ false → more ≢ [])
+      → NoWay p ajar (is_inner (around c)) (seen (levels_of c.layers)) t c.spent fuel (pick ∷ more)
 
 -- Nor can it with any other fuel.
-pub record IsIllegal (p : Program) (c : Course) (t : Term) (turn : Turn) (pick : Pick) : Type 0 where
+pub record IsIllegal (p : Program) (c : Course) (t : Term) (turn : Turn)
+    (pick : Pick) : Type 0 where
   pub never : (fuel : ℕ) → NoPick p c t fuel turn pick
 
 -- The run goes on with one pick more of the innermost machine.
@@ -62,11 +67,13 @@ pub record Leaves (p : Program) (c : Course) (picks : List Pick) (g : Going) : T
   pub picked : PicksAttempt c picks g.course
 
 -- The machine's last pick ends it.
-pub record LeavesBy (p : Program) (c : Course) (turn : Turn) (pick : Pick) (g : Going) : Type 0 where
+pub record LeavesBy (p : Program) (c : Course) (turn : Turn) (pick : Pick)
+    (g : Going) : Type 0 where
   pub leaves : Leaves p c (c.picks ++ pick ∷ []) g
   pub last : turn.is_last ≡ true
 
--- The pick is a step of `abort()` that ends an attempt's machine, and the attempt has no end, since the program has no single object to throw.
+-- The pick is a step of `abort()` that ends an attempt's machine, and the attempt has no end, since
+-- the program has no single object to throw.
 pub record Stops (p : Program) (c : Course) (t : Term) (turn : Turn) (pick : Pick) : Type 0 where
   pub cannot : CannotThrow p (around c)
   pub runs : Runs p true true (seen (levels_of c.layers)) (pick ∷ []) t aborts (paid 1)
@@ -74,7 +81,8 @@ pub record Stops (p : Program) (c : Course) (t : Term) (turn : Turn) (pick : Pic
   pub not_end : turn.is_end ≡ false
 
 -- The pick is the last of all, and is legal; with it all has cost so much.
-pub record IsLast (p : Program) (c : Course) (t : Term) (turn : Turn) (pick : Pick) (d : Course) (cost : ℕ) : Type 0 where
+pub record IsLast (p : Program) (c : Course) (t : Term) (turn : Turn) (pick : Pick) (d : Course)
+    (cost : ℕ) : Type 0 where
   pub same : d ≡ c
   pub effect : Effect
   pub legal : AreLegal p true (is_inner (around c)) (seen (levels_of c.layers)) (pick ∷ []) t effect
@@ -109,10 +117,12 @@ pub record DoesOnly (p : Program) (c : Course) (place : Place) (a : Term) (x : A
   pub only : OnlyDoes p a x
 
 -- It goes on as a term and prints a text, at a cost, and does nothing else.
-pub record TurnsOnly (p : Program) (c : Course) (place : Place) (a next : Term) (text : List ℕ) (cost : ℕ) : Type 0 where
+pub record TurnsOnly (p : Program) (c : Course) (place : Place) (a next : Term) (text : List ℕ)
+    (cost : ℕ) : Type 0 where
   pub thread : IsThreadAt p c place a
   pub local : Local p (is_inner (around c)) 0 a next (printed text cost)
-  pub only : (loc : ℕ) (b : Term) (d : Effect) → Local p (is_inner (around c)) loc a b d → (loc ≡ 0) × (d ≡ printed text cost)
+  pub only : (loc : ℕ) (b : Term) (d : Effect) → Local p (is_inner (around c)) loc a b d
+      → (loc ≡ 0) × (d ≡ printed text cost)
   pub no_abort : is_inner (around c) ≡ true → Acts p a ends → ⊥
 
 -- The term at a place.
@@ -121,9 +131,11 @@ term_round c place a = rebuilt c.clock (frames place.stack) a
 
 -- What a step comes to that a pick takes at a place.
 abbrev pub StepsOn : Program → Course → Place → Term → Turn → ℕ → Acted → Type 0
-StepsOn p c place a turn loc r = ActsOn p c (term_round c place a) turn (Step place.path (record { 0 = loc })) r
+StepsOn p c place a turn loc r =
+    ActsOn p c (term_round c place a) turn (Step place.path (record { 0 = loc })) r
 
--- The innermost attempt ends with its picks; or it has no end, since its machine's term isn't finished.
+-- The innermost attempt ends with its picks; or it has no end, since its machine's term isn't
+-- finished.
 abbrev pub Closes : Program → Course → Term → Option Going → Type 0
 Closes p c t None = Finished t → ⊥
 Closes p c t (Some g) = Leaves p c c.picks g
@@ -139,7 +151,8 @@ TouchesStore (deal.Sets l v) = Unit {0}
 TouchesStore (deal.Makes m) = Unit {0}
 TouchesStore deal.Ends = Unit {0}
 
--- Whether a form of a term waits: it sleeps, and a thread of the term is awake; else it may be tried.
+-- Whether a form of a term waits: it sleeps, and a thread of the term is awake; else it may be
+-- tried.
 abbrev pub MustWait : Store → Term → Term → Bool → Type 0
 MustWait s t a true = Sleeps s a × ((path : List ℕ) × Awake s t path)
 MustWait s t a false = MayBeTried s t a

@@ -1,4 +1,5 @@
--- Chapter "Runs": a pick of the root's machine that is being replayed, with the attempts that are open in it. The code keeps a stack of picks.
+-- Chapter "Runs": a pick of the root's machine that is being replayed, with the attempts that are
+-- open in it. The code keeps a stack of picks.
 use Rattle.std.specs.Prelude.{◌≡◌, ◌≢◌, ℕ, Bool, true, false, ◌&&◌, List, [], ◌∷◌, ◌++◌}
 use Rattle.fort_core.specs.declared.path.Path.{Path}
 use Rattle.fort_core.specs.declared.pick.Pick.{Pick, Attempt}
@@ -31,14 +32,16 @@ abbrev pub is_none : List Pick → Bool
 is_none [] = true
 is_none (pick ∷ picks) = false
 
--- Picks of a machine are those that it took, the attempt for whose end it waits, and others; where nothing comes behind and the machine may be left unfinished, so may the attempt.
+-- Picks of a machine are those that it took, the attempt for whose end it waits, and others; where
+-- nothing comes behind and the machine may be left unfinished, so may the attempt.
 pub record IsSource (picks : List Pick) (ajar : Bool) (h : Held) (within : Source) : Type 0 where
   pub behind : List Pick
   pub are_picks : picks ≡ h.picks ++ Attempt h.place.path within.picks.now ∷ behind
   pub is_open : within.ajar ≡ (ajar && is_none behind)
 
 -- The root's machine waits for the last of its picks.
-pub record IsFirst (picks : List Pick) (ajar : Bool) (h : Held) (hs : List Held) (within : Source) : Type 0 where
+pub record IsFirst (picks : List Pick) (ajar : Bool) (h : Held) (hs : List Held)
+    (within : Source) : Type 0 where
   pub are_picks : picks ≡ h.picks ++ Attempt h.place.path within.picks.now ∷ []
   pub is_open : within.ajar ≡ ajar
   pub is_root : hs ≡ []
@@ -47,7 +50,8 @@ pub record IsFirst (picks : List Pick) (ajar : Bool) (h : Held) (hs : List Held)
 abbrev pub AreSources : List Pick → Bool → List Held → List Source → Source → Type 0
 AreSources picks ajar [] ss within = ⊥
 AreSources picks ajar (h ∷ hs) [] within = IsFirst picks ajar h hs within
-AreSources picks ajar (h ∷ hs) (s ∷ ss) within = IsSource s.picks.now s.ajar h within × AreSources picks ajar hs ss s
+AreSources picks ajar (h ∷ hs) (s ∷ ss) within = IsSource s.picks.now s.ajar h within
+    × AreSources picks ajar hs ss s
 
 -- The sources of a run within attempts of the last of some picks.
 abbrev pub HasSources : List Pick → Bool → Within → Type 0
@@ -83,8 +87,10 @@ pub record TakesPick (p : Program) (fuel : ℕ) (picks : List Pick) (g : Going) 
   pub are_picks : g.course.picks ≡ picks
   pub outside : g.course.outer ≡ []
 
--- The picks are legal, the last of them perhaps an attempt that isn't finished; they cost so much; and what the root's machine printed and cost before the last one stands in the layers.
-pub record EndsWith (p : Program) (before : List Pick) (pick : Pick) (c : Course) (cost : ℕ) : Type 0 where
+-- The picks are legal, the last of them perhaps an attempt that isn't finished; they cost so much;
+-- and what the root's machine printed and cost before the last one stands in the layers.
+pub record EndsWith (p : Program) (before : List Pick) (pick : Pick) (c : Course)
+    (cost : ℕ) : Type 0 where
   pub effect : Effect
   pub legal : AreLegal p true false (opening_store p) (before ++ pick ∷ []) p.first effect
   pub bounded : MakesWithinBounds effect
@@ -104,7 +110,8 @@ pub record NotWithin (p : Program) (ajar : Bool) (fuel : ℕ) (picks : List Pick
   pub none : NoRun p ajar fuel picks
 
 -- The last of all, which may be left unfinished, is legal.
-pub record TakesLast (p : Program) (ajar : Bool) (before : List Pick) (pick : Pick) (c : Course) (cost : ℕ) : Type 0 where
+pub record TakesLast (p : Program) (ajar : Bool) (before : List Pick) (pick : Pick) (c : Course)
+    (cost : ℕ) : Type 0 where
   pub is_open : ajar ≡ true
   pub ends : EndsWith p before pick c cost
 
@@ -116,7 +123,8 @@ Takes p fuel ajar before pick taken.Passes = NotWithin p ajar fuel (before ++ pi
 Takes p fuel ajar before pick (taken.Last c cost) = TakesLast p ajar before pick c cost
 
 -- The run goes on within the last of some picks.
-pub record IsInside (p : Program) (fuel : ℕ) (ajar : Bool) (picks : List Pick) (w : Within) : Type 0 where
+pub record IsInside (p : Program) (fuel : ℕ) (ajar : Bool) (picks : List Pick)
+    (w : Within) : Type 0 where
   pub within : IsWithin p w
   pub fuel_is : w.going.course.fuel ≡ fuel
   pub sources : HasSources picks ajar w
@@ -128,7 +136,8 @@ TakesOn p fuel ajar before pick (next.Ends t) = Takes p fuel ajar before pick t
 
 -- After one pick more within, for whatever picks the run is in.
 pub record GoesWithin (p : Program) (w : Within) (n : Next) : Type 0 where
-  pub goes : (ajar : Bool) (before : List Pick) (pick : Pick) → HasSources (before ++ pick ∷ []) ajar w → TakesOn p w.going.course.fuel ajar before pick n
+  pub goes : (ajar : Bool) (before : List Pick) (pick : Pick)
+      → HasSources (before ++ pick ∷ []) ajar w → TakesOn p w.going.course.fuel ajar before pick n
 
 -- Out of an attempt: to the machine round it, the root's or another attempt's.
 abbrev pub IsLeft : Going → List Source → Next → Type 0

@@ -39,7 +39,8 @@ pub enum Acted {
     Illegal,
     /// It costs more than what is left of the fuel.
     Passes,
-    /// The last of all is legal, and isn't carried out: the run before it, and what all costs with it.
+    /// The last of all is legal, and isn't carried out: the run before it, and what all costs with
+    /// it.
     Last(Execution, u64),
 }
 
@@ -58,7 +59,8 @@ pub fn act(
     requires written { WrittenProgram program.now }
     requires going { IsGoing program.now going }
     requires turn { IsTurn turn }
-    ensures { IfOk result (ActsOn program.now going.course (whole going.course.clock going.state) turn pick.now) }
+    ensures { IfOk result
+        (ActsOn program.now going.course (whole going.course.clock going.state) turn pick.now) }
 {
     let Going { course, state } = going;
     match pick {
@@ -81,7 +83,8 @@ fn step_at(
     requires written { WrittenProgram program.now }
     requires going { IsGoing program.now (record { course = course; state = state }) }
     requires turn { IsTurn turn }
-    ensures { IfOk result (ActsOn program.now course (whole course.clock state) turn (a_step path.now loc)) }
+    ensures { IfOk result
+        (ActsOn program.now course (whole course.clock state) turn (a_step path.now loc)) }
 {
     match find(alloc, course.clock(), state, path)? {
         Found::Steps(place, ready) => step(alloc, program, course, turn, place, ready, loc),
@@ -102,7 +105,9 @@ fn attempt_at(
     requires written { WrittenProgram program.now }
     requires going { IsGoing program.now (record { course = course; state = state }) }
     requires turn { IsTurn turn }
-    ensures { IfOk result (ActsOn program.now course (whole course.clock state) turn (an_attempt path.now within.now)) }
+    ensures { IfOk result
+        (ActsOn program.now course (whole course.clock state) turn
+        (an_attempt path.now within.now)) }
 {
     let _within = within;
     let _turn = turn;

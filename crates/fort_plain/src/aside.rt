@@ -22,8 +22,8 @@ pub enum Out {
     Node(Place, Head, List<Shared<Term>>),
 }
 
-/// From an open part of a term out to the parallel form inside so many numbers, and into the part of it
-/// that a path names, if that may go on.
+/// From an open part of a term out to the parallel form inside so many numbers, and into the part
+/// of it that a path names, if that may go on.
 ///
 /// # Errors
 ///
@@ -37,7 +37,8 @@ pub fn aside(
     keep: usize,
     path: &Path,
 ) -> Result<Seek, Memory>
-    requires inside { IsInside clock (rebuilt clock (frames place.stack) part) keep path.now place part }
+    requires inside { IsInside clock (rebuilt clock (frames place.stack) part) keep path.now place
+        part }
     requires longer { keep < length path.now.0 }
     ensures { IfOk result (IsSought clock (rebuilt clock (frames place.stack) part) path.now) }
 {
@@ -70,7 +71,8 @@ pub fn leave_frame(
 ) -> Result<Out, Memory>
     requires is_open { standing part ≡ open_yet }
     requires reached { Reaches clock (frames place.stack) part }
-    ensures inside { IfOk result (λ r. (t : _) (keep : ℕ) (path : _) → IsInside clock t keep path place part → IsOut clock t keep path r) }
+    ensures inside { IfOk result (λ r. (t : _) (keep : ℕ) (path : _)
+        → IsInside clock t keep path place part → IsOut clock t keep path r) }
     ensures whole { IfOk result (λ r. (t : _) → IsOpenAt clock t place part → IsOutOf clock t r) }
 {
     match place.leave(alloc)? {
@@ -88,8 +90,12 @@ fn out_of(
 ) -> Result<Out, Memory>
     requires is_open { standing part ≡ open_yet }
     requires reached { Reaches clock (frame ∷ frames below.stack) part }
-    ensures inside { IfOk result (λ r. (t : _) (keep : ℕ) (path : _) (place : Place) → frames place.stack ≡ frame ∷ frames below.stack → IsInside clock t keep path place part → IsOut clock t keep path r) }
-    ensures whole { IfOk result (λ r. (t : _) (place : Place) → frames place.stack ≡ frame ∷ frames below.stack → IsOpenAt clock t place part → IsOutOf clock t r) }
+    ensures inside { IfOk result (λ r. (t : _) (keep : ℕ) (path : _) (place : Place)
+        → frames place.stack ≡ frame ∷ frames below.stack
+        → IsInside clock t keep path place part → IsOut clock t keep path r) }
+    ensures whole { IfOk result (λ r. (t : _) (place : Place)
+        → frames place.stack ≡ frame ∷ frames below.stack → IsOpenAt clock t place part
+        → IsOutOf clock t r) }
 {
     match frame {
         Frame::Node(node) => {
@@ -108,8 +114,12 @@ fn out_in_order(
     part: Shared<Term>,
 ) -> Result<Out, Memory>
     requires { IsInOrder frame }
-    ensures inside { IfOk result (λ r. (t : _) (keep : ℕ) (path : _) (place : Place) → frames place.stack ≡ frame ∷ frames below.stack → IsInside clock t keep path place part → IsOut clock t keep path r) }
-    ensures whole { IfOk result (λ r. (t : _) (place : Place) → frames place.stack ≡ frame ∷ frames below.stack → IsOpenAt clock t place part → IsOutOf clock t r) }
+    ensures inside { IfOk result (λ r. (t : _) (keep : ℕ) (path : _) (place : Place)
+        → frames place.stack ≡ frame ∷ frames below.stack
+        → IsInside clock t keep path place part → IsOut clock t keep path r) }
+    ensures whole { IfOk result (λ r. (t : _) (place : Place)
+        → frames place.stack ≡ frame ∷ frames below.stack → IsOpenAt clock t place part
+        → IsOutOf clock t r) }
 {
     let _clock = clock;
     let form = frame.around(alloc, part)?;
@@ -126,7 +136,8 @@ fn put_back(
 ) -> Result<(Head, List<Shared<Term>>), Memory>
     requires is_open { standing part ≡ open_yet }
     ensures head { IfOk result (λ both. both.0 ≡ node.head) }
-    ensures parts { IfOk result (λ both. both.1 ≡ slice_set node.parts node.«at» (plug (mark_if (is_trodden clock node)) part)) }
+    ensures parts { IfOk result (λ both. both.1
+        ≡ slice_set node.parts node.«at» (plug (mark_if (is_trodden clock node)) part)) }
 {
     let Node {
         head,
@@ -170,10 +181,12 @@ fn into_other(
     path: &Path,
 ) -> Result<Seek, Memory>
     requires suits { suits head parts ≡ true }
-    requires beside { IsBeside clock (rebuilt clock (frames below.stack) (form_of head parts)) keep path.now below (form_of head parts) }
+    requires beside { IsBeside clock (rebuilt clock (frames below.stack) (form_of head parts)) keep
+        path.now below (form_of head parts) }
     requires here { keep ≡ length below.path.0 }
     requires longer { keep < length path.now.0 }
-    ensures { IfOk result (IsSought clock (rebuilt clock (frames below.stack) (form_of head parts)) path.now) }
+    ensures { IfOk result
+        (IsSought clock (rebuilt clock (frames below.stack) (form_of head parts)) path.now) }
 {
     match path.0.get(keep) {
         None => Err(Memory),
@@ -193,10 +206,12 @@ fn into_part(
     number: u32,
 ) -> Result<Seek, Memory>
     requires suits { suits head parts ≡ true }
-    requires beside { IsBeside clock (rebuilt clock (frames below.stack) (form_of head parts)) keep path.now below (form_of head parts) }
+    requires beside { IsBeside clock (rebuilt clock (frames below.stack) (form_of head parts)) keep
+        path.now below (form_of head parts) }
     requires here { keep ≡ length below.path.0 }
     requires number { slice_get path.now.0 keep ≡ Some number }
-    ensures { IfOk result (IsSought clock (rebuilt clock (frames below.stack) (form_of head parts)) path.now) }
+    ensures { IfOk result
+        (IsSought clock (rebuilt clock (frames below.stack) (form_of head parts)) path.now) }
 {
     let _keep = keep;
     let _path = path;

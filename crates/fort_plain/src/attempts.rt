@@ -22,8 +22,8 @@ use fort_core::{Mode, Program, Term};
 use fort_frames::Place;
 use std::alloc::Global;
 
-/// An attempt of an atomic form begins, unless the form sleeps while another thread of its machine is
-/// awake.
+/// An attempt of an atomic form begins, unless the form sleeps while another thread of its machine
+/// is awake.
 ///
 /// # Errors
 ///
@@ -38,7 +38,9 @@ pub fn begin(
     requires written { WrittenProgram program.now }
     requires stands { StandsAt program.now course place form }
     requires atomic { (m : Mode) × (body : Term) × Form form m body }
-    ensures { IfOk result (λ r. (turn : _) (within : List Pick) → ActsOn program.now course (term_round course place form) turn (an_attempt place.path within) r) }
+    ensures { IfOk result (λ r. (turn : _) (within : List Pick)
+        → ActsOn program.now course (term_round course place form) turn
+        (an_attempt place.path within) r) }
 {
     if must_wait(alloc, &course, &place, &form)? {
         return Ok(Acted::Illegal);
@@ -75,7 +77,9 @@ fn must_wait(
 ) -> Result<bool, Memory>
     requires ready { Ready form.now }
     requires reached { Reaches course.now.clock (frames place.now.stack) form.now }
-    ensures { IfOk result (MustWait (seen (levels_of course.now.layers)) (term_round course.now place.now form.now) form.now) }
+    ensures { IfOk result
+        (MustWait (seen (levels_of course.now.layers)) (term_round course.now place.now form.now)
+        form.now) }
 {
     if !sleeps(course, form.get()) {
         return Ok(false);
@@ -97,7 +101,9 @@ fn open_attempt(
     requires may { MayTry program.now course place mode body }
     requires stands { StandsAt program.now course place form.now }
     requires ready { Ready form.now }
-    ensures { IfOk result (λ r. (turn : _) (within : List Pick) → ActsOn program.now course (term_round course place form.now) turn (an_attempt place.path within) r) }
+    ensures { IfOk result (λ r. (turn : _) (within : List Pick)
+        → ActsOn program.now course (term_round course place form.now) turn
+        (an_attempt place.path within) r) }
 {
     let _form = form;
     if !course.affords(1) {

@@ -29,7 +29,9 @@ pub fn all_sleep(
 ) -> Result<bool, Memory>
     requires is_open { standing form.now ≡ open_yet }
     requires reached { Reaches course.now.clock (frames place.now.stack) form.now }
-    ensures { IfOk result (AllSleep (seen (levels_of course.now.layers)) (rebuilt course.now.clock (frames place.now.stack) form.now)) }
+    ensures { IfOk result
+        (AllSleep (seen (levels_of course.now.layers))
+        (rebuilt course.now.clock (frames place.now.stack) form.now)) }
 {
     let term = whole_term(alloc, course.clock(), place.share(alloc)?, form.share()?)?;
     sweep(alloc, course, term)
@@ -126,7 +128,8 @@ pub fn sleeps(course: &Execution, form: &Term) -> bool
 }
 
 fn unchanged(course: &Execution, marks: &List<(Loc, Value)>) -> bool
-    ensures { IsTrue result ↔ ((l : ℕ) (v : Value) → In l v marks.now → seen (levels_of course.now.layers) l ≡ Some v) }
+    ensures { IsTrue result
+        ↔ ((l : ℕ) (v : Value) → In l v marks.now → seen (levels_of course.now.layers) l ≡ Some v) }
 {
     for mark in marks.as_slice() {
         if !has(course, mark.0, &mark.1) {

@@ -33,9 +33,9 @@ pub enum Seek {
     Stops(Found),
 }
 
-/// Finds the thread of a path in the term that a state stands for: it goes on to the next thread, and
-/// from there into the part that the path names where theirs differ. So it takes constant time where
-/// the thread is the next one.
+/// Finds the thread of a path in the term that a state stands for: it goes on to the next thread,
+/// and from there into the part that the path names where theirs differ. So it takes constant time
+/// where the thread is the next one.
 ///
 /// # Errors
 ///
@@ -77,7 +77,8 @@ fn at_step(
     path: &Path,
 ) -> Result<Seek, Memory>
     requires { IsStep clock (rebuilt clock (frames place.stack) (ready_term ready)) place ready }
-    ensures { IfOk result (IsSought clock (rebuilt clock (frames place.stack) (ready_term ready)) path.now) }
+    ensures { IfOk result
+        (IsSought clock (rebuilt clock (frames place.stack) (ready_term ready)) path.now) }
 {
     if place.path.same(path) {
         return Ok(Seek::Stops(Found::Steps(place, ready)));
@@ -111,7 +112,8 @@ fn at_group(
     parts: List<Shared<Term>>,
 ) -> Result<Seek, Memory>
     requires { IsGathered clock (rebuilt clock (frames place.stack) (group_of parts)) place parts }
-    ensures { IfOk result (λ seek. (path : Path) → IsSought clock (rebuilt clock (frames place.stack) (group_of parts)) path seek) }
+    ensures { IfOk result (λ seek. (path : Path)
+        → IsSought clock (rebuilt clock (frames place.stack) (group_of parts)) path seek) }
 {
     let _clock = clock;
     let form = Shared::new(alloc, group(alloc, parts)?)?;
@@ -122,7 +124,8 @@ fn at_group(
 // Out of the whole term: it is finished, or its other threads are to the left.
 #[tactic(auto, using(crate::proofs::Finding::value_none, crate::proofs::Finding::throw_none, crate::proofs::Finding::left_again))]
 fn ends(alloc: Global, at: At) -> Result<Seek, Memory>
-    ensures { IfOk result (λ seek. (clock : ℕ) (path : Path) → IsSought clock (term_at «at») path seek) }
+    ensures { IfOk result (λ seek. (clock : ℕ) (path : Path)
+        → IsSought clock (term_at «at») path seek) }
 {
     match at {
         At::Value(_value) => Ok(Seek::Stops(Found::Nothing)),

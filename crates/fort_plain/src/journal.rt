@@ -19,8 +19,8 @@ use std::alloc::Global;
 pub enum Replayed {
     /// The journal is that of a run: what the run printed, in UTF-8, and what it cost.
     Run(Bytes, u64),
-    /// It is none: the number, from 0, of the first pick that isn't legal, makes a location of 2 to the
-    /// 64 or more, or passes the fuel; or the number of picks where only the ending is wrong.
+    /// It is none: the number, from 0, of the first pick that isn't legal, makes a location of 2 to
+    /// the 64 or more, or passes the fuel; or the number of picks where only the ending is wrong.
     Broken(u64),
 }
 
@@ -64,7 +64,8 @@ fn ended(
     requires written { WrittenProgram program.now }
     requires going { IsGoing program.now going }
     requires outside { going.course.outer ≡ [] }
-    ensures { IfOk result (EndsAt program.now going.course.fuel going.course.picks ending.now count) }
+    ensures { IfOk result
+        (EndsAt program.now going.course.fuel going.course.picks ending.now count) }
 {
     match ending {
         Ending::OutOfFuel(pick) => out_of_fuel(alloc, program, going, pick, count),
@@ -84,7 +85,8 @@ fn finished(
     requires going { IsGoing program.now going }
     requires outside { going.course.outer ≡ [] }
     requires no_pick { IsNoPick ending.now }
-    ensures { IfOk result (EndsAt program.now going.course.fuel going.course.picks ending.now count) }
+    ensures { IfOk result
+        (EndsAt program.now going.course.fuel going.course.picks ending.now count) }
 {
     let _program = program;
     let Going { course, state } = going;
@@ -117,14 +119,15 @@ fn is_unit(value: &Value) -> bool
 
 // What the root's machine printed and cost.
 fn run(course: Execution) -> Replayed
-    ensures { result ≡ Replayed.Run (levels_of course.layers).output (levels_of course.layers).cost }
+    ensures { result
+        ≡ Replayed.Run (levels_of course.layers).output (levels_of course.layers).cost }
 {
     let account = course.account();
     Replayed::Run(account.output, account.cost)
 }
 
-// The pick that is next is to be legal, or an attempt that is begun, and to pass the fuel. Its inner
-// picks may go far beyond, so the fuel doesn't bind them.
+// The pick that is next is to be legal, or an attempt that is begun, and to pass the fuel. Its
+// inner picks may go far beyond, so the fuel doesn't bind them.
 #[tactic(auto, using(crate::proofs::Ending::raised, crate::proofs::Ending::ends_out, crate::proofs::Ending::none_out, crate::proofs::Ending::covered_out))]
 fn out_of_fuel(
     alloc: Global,
@@ -136,7 +139,9 @@ fn out_of_fuel(
     requires written { WrittenProgram program.now }
     requires going { IsGoing program.now going }
     requires outside { going.course.outer ≡ [] }
-    ensures { IfOk result (EndsAt program.now going.course.fuel going.course.picks (Ending.OutOfFuel pick.now) count) }
+    ensures { IfOk result
+        (EndsAt program.now going.course.fuel going.course.picks (Ending.OutOfFuel pick.now)
+        count) }
 {
     let Going { course, state } = going;
     let fuel = course.get().fuel;

@@ -200,7 +200,8 @@ fn asks(
     from: Loc,
     goes_by: Goes,
 ) -> Result<Acted, Memory>
-    requires only { DoesOnly program.now course place (ready_term ready.now) (acts.asks from.0 (λ v. next_value goes_by v)) }
+    requires only { DoesOnly program.now course place (ready_term ready.now)
+        (acts.asks from.0 (λ v. next_value goes_by v)) }
     requires turn { IsTurn turn }
     ensures { IfOk result (StepsOn program.now course place (ready_term ready.now) turn loc.0) }
 {
@@ -237,7 +238,8 @@ fn sets(
     to: Loc,
     value: Value,
 ) -> Result<Acted, Memory>
-    requires only { DoesOnly program.now course place (ready_term ready.now) (acts.sets to.0 value) }
+    requires only { DoesOnly program.now course place (ready_term ready.now)
+        (acts.sets to.0 value) }
     requires turn { IsTurn turn }
     ensures { IfOk result (StepsOn program.now course place (ready_term ready.now) turn loc.0) }
 {
@@ -272,7 +274,8 @@ fn makes_some(
     loc: Loc,
     makes: Makes,
 ) -> Result<Acted, Memory>
-    requires only { DoesOnly program.now course place (ready_term ready.now) (acts.makes (values_of makes) (λ l. term_of makes l) (making_cost makes)) }
+    requires only { DoesOnly program.now course place (ready_term ready.now)
+        (acts.makes (values_of makes) (λ l. term_of makes l) (making_cost makes)) }
     requires turn { IsTurn turn }
     ensures { IfOk result (StepsOn program.now course place (ready_term ready.now) turn loc.0) }
 {
@@ -298,7 +301,8 @@ fn makes_some(
 
 // Whether so many locations from one on are below 2 to the 64, and none of them is there.
 fn are_free(course: &Execution, loc: Loc, count: u64) -> bool
-    ensures { IsTrue result ↔ ((loc.0 + count ≤ 2 ^ 64) × AreFree loc.0 count (seen (levels_of course.now.layers))) }
+    ensures { IsTrue result
+        ↔ ((loc.0 + count ≤ 2 ^ 64) × AreFree loc.0 count (seen (levels_of course.now.layers))) }
 {
     for at in 0..count {
         if !is_free(course, loc, at) {
@@ -310,7 +314,8 @@ fn are_free(course: &Execution, loc: Loc, count: u64) -> bool
 
 // Whether the location so far behind one is below 2 to the 64, and isn't there.
 fn is_free(course: &Execution, loc: Loc, at: u64) -> bool
-    ensures { IsTrue result ↔ ((loc.0 + «at» < 2 ^ 64) × (seen (levels_of course.now.layers) (loc.0 + «at») ≡ None)) }
+    ensures { IsTrue result
+        ↔ ((loc.0 + «at» < 2 ^ 64) × (seen (levels_of course.now.layers) (loc.0 + «at») ≡ None)) }
 {
     match loc.0.checked_add(at) {
         None => false,

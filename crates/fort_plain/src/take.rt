@@ -20,8 +20,8 @@ pub enum Taken {
     Illegal,
     /// It costs more than what is left of the fuel.
     Passes,
-    /// The last of all is legal, or begun, and isn't carried out to its end: the run with the attempts
-    /// that are open, and what all costs with it.
+    /// The last of all is legal, or begun, and isn't carried out to its end: the run with the
+    /// attempts that are open, and what all costs with it.
     Last(Execution, u64),
 }
 
@@ -33,8 +33,8 @@ pub struct Source<'a> {
     pub ajar: bool,
 }
 
-/// A run within attempts: the innermost one's picks, and those of the attempts round it, the outermost
-/// one's first.
+/// A run within attempts: the innermost one's picks, and those of the attempts round it, the
+/// outermost one's first.
 #[derive(Drop)]
 pub struct Within<'a> {
     pub going: Going,
@@ -49,8 +49,8 @@ pub enum Next<'a> {
     Ends(Taken),
 }
 
-/// Takes a pick of the root's machine. Where it may be left unfinished (`ajar`) it is the last of all:
-/// then it isn't carried out to its end.
+/// Takes a pick of the root's machine. Where it may be left unfinished (`ajar`) it is the last of
+/// all: then it isn't carried out to its end.
 ///
 /// # Errors
 ///

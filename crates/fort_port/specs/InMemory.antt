@@ -9,8 +9,8 @@ abbrev pub found : List (List ℕ × List ℕ) → List ℕ → Holding
 found [] name = Absent
 found (file ∷ files) name = if bytes_eq file.0 name then Held file.1 else found files name
 
--- An output in memory: what was written, the room in all, the most that one call takes, the numbers of the
--- calls that are to fail, the number of calls and of faults so far.
+-- An output in memory: what was written, the room in all, the most that one call takes, the numbers
+-- of the calls that are to fail, the number of calls and of faults so far.
 pub record Output : Type 0 where
   pub bytes : List ℕ
   pub room : ℕ

@@ -19,7 +19,8 @@ pub struct CalmShelf {
 }
 
 impl CalmShelf {
-    /// A shelf of names with their bytes; of files of one name the first counts. It takes no memory.
+    /// A shelf of names with their bytes; of files of one name the first counts. It takes no
+    /// memory.
     pub fn new(files: List<(Bytes, Bytes)>, most: u64) -> CalmShelf
         requires { 0 < most }
         ensures files { result.files ≡ files }
@@ -45,7 +46,8 @@ impl Shelf for CalmShelf {
         ensures failed { OnErr result (Rose self.old.faults self.new.faults) }
         ensures calm { OnOk result (self.new.faults ≡ self.old.faults) }
         ensures fits { IfOk result (λ n. n ≤ length into.new) }
-        ensures gives { IfOk result (λ n. Gives (found self.old.files name.now) at (take n into.new) (length into.new)) }
+        ensures gives { IfOk result
+            (λ n. Gives (found self.old.files name.now) at (take n into.new) (length into.new)) }
         ensures absent { OnErr result (found self.old.files name.now ≡ Absent) }
     {
         match file_named(&self.files, name) {
@@ -58,8 +60,8 @@ impl Shelf for CalmShelf {
     }
 }
 
-/// An output in memory, with room taken beforehand. A call takes at most `most` bytes, and only a write
-/// where `room` bytes are held is a fault.
+/// An output in memory, with room taken beforehand. A call takes at most `most` bytes, and only a
+/// write where `room` bytes are held is a fault.
 #[derive(Drop)]
 pub struct CalmSink {
     held: Vec<u8>,
@@ -80,7 +82,8 @@ impl CalmSink {
     /// An output that holds nothing yet; it takes memory for `room` bytes.
     pub fn new(alloc: Global, room: u64, most: u64) -> Result<CalmSink, Memory>
         requires { 0 < most }
-        ensures { IfOk result (λ s. s ≡ record { bytes = []; room = room; most = most; faults = 0 }) }
+        ensures { IfOk result (λ s. s
+            ≡ record { bytes = []; room = room; most = most; faults = 0 }) }
     {
         Ok(CalmSink {
             held: Vec::with_capacity(alloc, room as usize)?,
@@ -120,7 +123,8 @@ impl Sink for CalmSink {
         ensures calm { OnOk result (self.new.faults ≡ self.old.faults) }
         ensures ready { OnOk result (Unit {0}) }
         ensures takes { IfOk result (λ n. (0 < n) × (n ≤ length bytes.now)) }
-        ensures appends { IfOk result (λ n. Some self.new.bytes ≡ adds (take n bytes.now) (Some self.old.bytes)) }
+        ensures appends { IfOk result (λ n. Some self.new.bytes
+            ≡ adds (take n bytes.now) (Some self.old.bytes)) }
         ensures full { OnErr result (length self.old.bytes ≡ self.old.room) }
     {
         if self.held.len() as u64 == self.room {

@@ -1,5 +1,5 @@
-/// Where a leg begins: the worker, the number of attempts round the task, and the task's place among the
-/// threads of its group, counted from 1, or 0 for a task that is in no group.
+/// Where a leg begins: the worker, the number of attempts round the task, and the task's place
+/// among the threads of its group, counted from 1, or 0 for a task that is in no group.
 #[derive(Clone, Copy, Debug, PartialEq, Eq)]
 pub struct Point {
     pub worker: u32,

@@ -1,4 +1,5 @@
-//! The outside as three traits, whose contracts say what a program may rely on, and all that implement them.
+//! The outside as three traits, whose contracts say what a program may rely on, and all that
+//! implement them.
 #![tactic(auto)]
 
 mod calm;

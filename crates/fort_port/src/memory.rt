@@ -8,8 +8,8 @@ use fort_base::{Bytes, List, Memory};
 use std::alloc::Global;
 use std::marker::Model;
 
-/// Files in memory. A call gives at most `most` bytes; the calls whose numbers, counted from 1, stand in
-/// `fails` are faults, and so is a name that isn't there.
+/// Files in memory. A call gives at most `most` bytes; the calls whose numbers, counted from 1,
+/// stand in `fails` are faults, and so is a name that isn't there.
 #[derive(Drop)]
 pub struct MemoryShelf {
     pub files: List<(Bytes, Bytes)>,
@@ -21,7 +21,8 @@ pub struct MemoryShelf {
 }
 
 impl MemoryShelf {
-    /// A shelf of names with their bytes; of files of one name the first counts. It takes no memory.
+    /// A shelf of names with their bytes; of files of one name the first counts. It takes no
+    /// memory.
     pub fn new(files: List<(Bytes, Bytes)>, most: u64, fails: List<u64>) -> MemoryShelf
         requires { 0 < most }
         ensures files { result.files ≡ files }
@@ -57,8 +58,9 @@ impl Shelf for MemoryShelf {
     }
 }
 
-/// An output in memory, with room taken beforehand. A call takes at most `most` bytes; the calls whose
-/// numbers, counted from 1, stand in `fails` are faults, and so is a write where `room` bytes are held.
+/// An output in memory, with room taken beforehand. A call takes at most `most` bytes; the calls
+/// whose numbers, counted from 1, stand in `fails` are faults, and so is a write where `room` bytes
+/// are held.
 #[derive(Drop)]
 pub struct MemorySink {
     held: Vec<u8>,
@@ -81,7 +83,15 @@ impl MemorySink {
     /// An output that holds nothing yet; it takes memory for `room` bytes.
     pub fn new(alloc: Global, room: u64, most: u64, fails: List<u64>) -> Result<MemorySink, Memory>
         requires { 0 < most }
-        ensures { IfOk result (λ s. s ≡ record { bytes = []; room = room; most = most; fails = fails; calls = 0; faults = 0 }) }
+        ensures { IfOk result (λ s. s
+            ≡ record {
+              bytes = [];
+              room = room;
+              most = most;
+              fails = fails;
+              calls = 0;
+              faults = 0;
+            }) }
     {
         Ok(MemorySink {
             held: Vec::with_capacity(alloc, room as usize)?,

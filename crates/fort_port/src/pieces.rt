@@ -6,7 +6,8 @@ use fort_base::{Bytes, List};
 
 /// The bytes of the first file of that name.
 pub(crate) fn file_named<'a>(files: &'a List<(Bytes, Bytes)>, name: &Bytes) -> Option<&'a [u8]>
-    ensures { MatchOption result (found files.now name.now ≡ Absent) (λ file. found files.now name.now ≡ Held file.now) }
+    ensures { MatchOption result (found files.now name.now
+        ≡ Absent) (λ file. found files.now name.now ≡ Held file.now) }
 {
     for file in files.as_slice() {
         if file.0.as_slice() == name.as_slice() {
@@ -46,7 +47,8 @@ fn copy_front(rest: &[u8], most: u64, into: &mut [u8]) -> usize
     count
 }
 
-/// Appends the first bytes of a piece, at most `most` of them and no more than fit into so much room.
+/// Appends the first bytes of a piece, at most `most` of them and no more than fit into so much
+/// room.
 pub(crate) fn append_piece(held: &mut Vec<u8>, room: u64, most: u64, piece: &[u8]) -> usize
     requires some { 0 < length piece.now }
     requires most { 0 < most }

@@ -8,8 +8,8 @@ use std::fs;
 use std::io::{Read, Seek, SeekFrom, Write};
 use std::rt::Files;
 
-/// Real files, by their paths. Whatever the system answers as an error is a fault, and so is a path that
-/// isn't UTF-8. Nothing is told of what files hold.
+/// Real files, by their paths. Whatever the system answers as an error is a fault, and so is a path
+/// that isn't UTF-8. Nothing is told of what files hold.
 #[derive(Drop)]
 pub struct FileShelf<R: Files + Drop> {
     rt: R,
@@ -48,8 +48,8 @@ impl<R: Files + Drop> Shelf for FileShelf<R> {
     }
 }
 
-/// A real output. Whatever the system answers as an error is a fault, and so is a write of no bytes.
-/// Nothing is told of what was written.
+/// A real output. Whatever the system answers as an error is a fault, and so is a write of no
+/// bytes. Nothing is told of what was written.
 #[derive(Drop)]
 pub struct StreamSink<W: Write + Drop> {
     stream: W,

@@ -11,14 +11,14 @@ pub trait Sink {
     // The number of faults so far, which stands still at its type's end.
     ghost faults: { Self → ℕ };
 
-    // Whether a piece may be offered. It is known again after `Ok` alone, so who is proved for every sink
-    // offers nothing to one that has failed.
+    // Whether a piece may be offered. It is known again after `Ok` alone, so who is proved for
+    // every sink offers nothing to one that has failed.
     ghost can_write: { Self → Type 0 };
 
     /// Writes the first bytes of a piece, which isn't empty, and answers how many.
     ///
-    /// `Ok(n)` has appended the first `n` bytes, at least one of them. `Failed` comes only where the count of
-    /// faults rose; the bytes written are then as before.
+    /// `Ok(n)` has appended the first `n` bytes, at least one of them. `Failed` comes only where
+    /// the count of faults rose; the bytes written are then as before.
     fn write(&mut self, bytes: &[u8]) -> Result<usize, Failed>
         requires ready { can_write self.old }
         requires some { 0 < length bytes.now }
@@ -28,5 +28,6 @@ pub trait Sink {
         ensures calm { OnOk result (faults self.new ≡ faults self.old) }
         ensures ready { OnOk result (can_write self.new) }
         ensures takes { IfOk result (λ n. (0 < n) × (n ≤ length bytes.now)) }
-        ensures appends { IfOk result (λ n. written self.new ≡ adds (take n bytes.now) (written self.old)) };
+        ensures appends { IfOk result (λ n. written self.new
+            ≡ adds (take n bytes.now) (written self.old)) };
 }

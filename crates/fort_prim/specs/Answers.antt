@@ -1,4 +1,5 @@
--- Chapter "Built-in declarations": the code's answer, by the definition's. They are one and the same, but that nothing is no answer.
+-- Chapter "Built-in declarations": the code's answer, by the definition's. They are one and the
+-- same, but that nothing is no answer.
 use Rattle.std.specs.Prelude.{◌≡◌, Option, Some, None}
 use Rattle.fort_machine.specs.Primitives.{Answer, gives, makes_text, throws, prints, ends, nothing}
 use Rattle.fort_prim.specs.declared.answer.Answer.{Answer as Given}

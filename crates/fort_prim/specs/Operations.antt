@@ -1,4 +1,5 @@
--- Chapter "Built-in declarations": the built-in declarations by what they do, so that those on ZZ32 and on ZZ64 are one. A law of the table says that each is so; the answers are the machine's.
+-- Chapter "Built-in declarations": the built-in declarations by what they do, so that those on ZZ32
+-- and on ZZ64 are one. A law of the table says that each is so; the answers are the machine's.
 use Rattle.std.specs.Prelude.{◌≡◌, Bool, not, ◌&&◌, ◌||◌, bytes_eq, List, map, ℤ, neg_ℤ, ◌+ℤ◌, ◌-ℤ◌, ◌*ℤ◌, int_lt, int_le}
 use Rattle.std.specs.Int.{Width, w32, w64, int_max, int_min, int_bit_and, int_bit_or, int_bit_xor}
 use Rattle.std.specs.Ordering.{int_eq}
@@ -64,15 +65,19 @@ answer_by p (operation.Small f) vs = small p (figure_of f) (map out-Value vs)
 answer_by p (operation.Large f) vs = large p (figure_of f) (map out-Value vs)
 answer_by p (operation.SmallBits f) vs = small p (bits_of_type w32 f) (map out-Value vs)
 answer_by p (operation.LargeBits f) vs = large p (bits_of_type w64 f) (map out-Value vs)
-answer_by p operation.NegateSmall vs = one_small (λ a. as_value p Small (within w32 (number (neg_ℤ a)))) (map out-Value vs)
-answer_by p operation.NegateLarge vs = one_large (λ a. as_value p Large (within w64 (number (neg_ℤ a)))) (map out-Value vs)
+answer_by p operation.NegateSmall vs =
+    one_small (λ a. as_value p Small (within w32 (number (neg_ℤ a)))) (map out-Value vs)
+answer_by p operation.NegateLarge vs =
+    one_large (λ a. as_value p Large (within w64 (number (neg_ℤ a)))) (map out-Value vs)
 answer_by p (operation.SmallTest f) vs = small_test (holds f) (map out-Value vs)
 answer_by p (operation.LargeTest f) vs = large_test (holds f) (map out-Value vs)
-answer_by p (operation.TextsEqual equal) vs = two_texts (λ s r. gives (Truth (equal_truths equal (bytes_eq s r)))) (map out-Value vs)
+answer_by p (operation.TextsEqual equal) vs =
+    two_texts (λ s r. gives (Truth (equal_truths equal (bytes_eq s r)))) (map out-Value vs)
 answer_by p (operation.Truths f) vs = two_truths (connected f) (map out-Value vs)
 answer_by p operation.Not vs = one_truth not (map out-Value vs)
 answer_by p operation.Same vs = two_values (λ a b. gives (Truth (same a b))) vs
-answer_by p operation.RangeTo vs = two_small (λ a b. gives (Range a (count_to a b))) (map out-Value vs)
+answer_by p operation.RangeTo vs =
+    two_small (λ a b. gives (Range a (count_to a b))) (map out-Value vs)
 answer_by p operation.RangeCount vs = two_small (counted p) (map out-Value vs)
 answer_by p operation.Join vs = two_values (joined_texts p) vs
 answer_by p operation.Println vs = answer_of p primitive.Println vs
@@ -84,4 +89,5 @@ answer_by p operation.Length vs = answer_of p primitive.Length vs
 
 -- What a built-in declaration answers is what an operation does.
 abbrev pub IsDoneBy : Primitive → Operation → Type 0
-IsDoneBy primitive operation = (p : Program) (vs : List Value) → answer_of p primitive vs ≡ answer_by p operation vs
+IsDoneBy primitive operation = (p : Program) (vs : List Value)
+    → answer_of p primitive vs ≡ answer_by p operation vs

@@ -18,8 +18,8 @@ use std::alloc::Global;
 
 /// What a built-in declaration answers to values of its types. The chapter "Built-in declarations".
 ///
-/// Its time is constant but for powers and common divisors, at most about a hundred rounds, and for texts and `≡`, which is
-/// that of the values.
+/// Its time is constant but for powers and common divisors, at most about a hundred rounds, and for
+/// texts and `≡`, which is that of the values.
 ///
 /// # Errors
 ///
@@ -31,7 +31,8 @@ pub fn apply(
     arguments: &[Value],
 ) -> Result<Answer, Memory>
     requires { answer_of program.now primitive arguments.now ≢ nothing }
-    ensures { IfOk result (λ answer. Replies answer (answer_of program.now primitive arguments.now)) }
+    ensures { IfOk result
+        (λ answer. Replies answer (answer_of program.now primitive arguments.now)) }
 {
     match done(alloc, program, operation(primitive), arguments)? {
         Some(answer) => Ok(answer),
@@ -39,8 +40,9 @@ pub fn apply(
     }
 }
 
-/// What a built-in declaration answers to any values, or `None` where they aren't as many as it takes, or of other kinds than
-/// it computes with. The chapter "Built-in declarations". Its time is that of `apply`.
+/// What a built-in declaration answers to any values, or `None` where they aren't as many as it
+/// takes, or of other kinds than it computes with. The chapter "Built-in declarations". Its time is
+/// that of `apply`.
 ///
 /// # Errors
 ///
@@ -51,7 +53,8 @@ pub fn answered(
     primitive: Primitive,
     arguments: &[Value],
 ) -> Result<Option<Answer>, Memory>
-    ensures { IfOk result (λ answer. answer ≡ reply (answer_of program.now primitive arguments.now)) }
+    ensures { IfOk result (λ answer. answer
+        ≡ reply (answer_of program.now primitive arguments.now)) }
 {
     let answer = done(alloc, program, operation(primitive), arguments)?;
     Ok(answer)
@@ -64,7 +67,8 @@ fn done(
     operation: Operation,
     arguments: &[Value],
 ) -> Result<Option<Answer>, Memory>
-    ensures { IfOk result (λ answer. answer ≡ reply (answer_by program.now operation arguments.now)) }
+    ensures { IfOk result (λ answer. answer
+        ≡ reply (answer_by program.now operation arguments.now)) }
 {
     match operation {
         Operation::Small(operator) => Ok(small(program, operator, arguments)),

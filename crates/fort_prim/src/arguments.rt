@@ -9,7 +9,8 @@ use fort_core::Value;
 
 /// The numbers of two ZZ32.
 pub(crate) fn two_small_numbers(arguments: &[Value]) -> Option<(i32, i32)>
-    ensures { MatchOption result (Refuses two_small (map out-Value arguments.now)) (λ numbers. arguments.now ≡ Value.Small numbers.0 ∷ Value.Small numbers.1 ∷ []) }
+    ensures { MatchOption result (Refuses two_small (map out-Value arguments.now))
+        (λ numbers. arguments.now ≡ Value.Small numbers.0 ∷ Value.Small numbers.1 ∷ []) }
 {
     if arguments.len() != 2 {
         return None;
@@ -22,7 +23,8 @@ pub(crate) fn two_small_numbers(arguments: &[Value]) -> Option<(i32, i32)>
 
 /// The numbers of two ZZ64.
 pub(crate) fn two_large_numbers(arguments: &[Value]) -> Option<(i64, i64)>
-    ensures { MatchOption result (Refuses two_large (map out-Value arguments.now)) (λ numbers. arguments.now ≡ Value.Large numbers.0 ∷ Value.Large numbers.1 ∷ []) }
+    ensures { MatchOption result (Refuses two_large (map out-Value arguments.now))
+        (λ numbers. arguments.now ≡ Value.Large numbers.0 ∷ Value.Large numbers.1 ∷ []) }
 {
     if arguments.len() != 2 {
         return None;
@@ -35,7 +37,8 @@ pub(crate) fn two_large_numbers(arguments: &[Value]) -> Option<(i64, i64)>
 
 /// Two truths.
 pub(crate) fn both_truths(arguments: &[Value]) -> Option<(bool, bool)>
-    ensures { MatchOption result (Refuses two_truths (map out-Value arguments.now)) (λ truths. arguments.now ≡ Value.Truth truths.0 ∷ Value.Truth truths.1 ∷ []) }
+    ensures { MatchOption result (Refuses two_truths (map out-Value arguments.now))
+        (λ truths. arguments.now ≡ Value.Truth truths.0 ∷ Value.Truth truths.1 ∷ []) }
 {
     if arguments.len() != 2 {
         return None;
@@ -48,7 +51,8 @@ pub(crate) fn both_truths(arguments: &[Value]) -> Option<(bool, bool)>
 
 /// Two texts.
 pub(crate) fn both_texts(arguments: &[Value]) -> Option<(&Bytes, &Bytes)>
-    ensures { MatchOption result (Refuses two_texts (map out-Value arguments.now)) (λ texts. arguments.now ≡ Value.Text texts.0.now ∷ Value.Text texts.1.now ∷ []) }
+    ensures { MatchOption result (Refuses two_texts (map out-Value arguments.now))
+        (λ texts. arguments.now ≡ Value.Text texts.0.now ∷ Value.Text texts.1.now ∷ []) }
 {
     if arguments.len() != 2 {
         return None;
@@ -61,7 +65,8 @@ pub(crate) fn both_texts(arguments: &[Value]) -> Option<(&Bytes, &Bytes)>
 
 /// Two values of any kind.
 pub(crate) fn both_values(arguments: &[Value]) -> Option<(&Value, &Value)>
-    ensures { MatchOption result (Refuses two_values arguments.now) (λ values. arguments.now ≡ values.0.now ∷ values.1.now ∷ []) }
+    ensures { MatchOption result (Refuses two_values arguments.now) (λ values. arguments.now
+        ≡ values.0.now ∷ values.1.now ∷ []) }
 {
     if arguments.len() == 2 {
         Some((&arguments[0], &arguments[1]))
@@ -72,7 +77,8 @@ pub(crate) fn both_values(arguments: &[Value]) -> Option<(&Value, &Value)>
 
 /// The number of one ZZ32.
 pub(crate) fn small_number(arguments: &[Value]) -> Option<i32>
-    ensures { MatchOption result (Refuses one_small (map out-Value arguments.now)) (λ number. arguments.now ≡ Value.Small number ∷ []) }
+    ensures { MatchOption result (Refuses one_small (map out-Value arguments.now))
+        (λ number. arguments.now ≡ Value.Small number ∷ []) }
 {
     if arguments.len() != 1 {
         return None;
@@ -85,7 +91,8 @@ pub(crate) fn small_number(arguments: &[Value]) -> Option<i32>
 
 /// The number of one ZZ64.
 pub(crate) fn large_number(arguments: &[Value]) -> Option<i64>
-    ensures { MatchOption result (Refuses one_large (map out-Value arguments.now)) (λ number. arguments.now ≡ Value.Large number ∷ []) }
+    ensures { MatchOption result (Refuses one_large (map out-Value arguments.now))
+        (λ number. arguments.now ≡ Value.Large number ∷ []) }
 {
     if arguments.len() != 1 {
         return None;
@@ -98,7 +105,8 @@ pub(crate) fn large_number(arguments: &[Value]) -> Option<i64>
 
 /// One truth.
 pub(crate) fn truth(arguments: &[Value]) -> Option<bool>
-    ensures { MatchOption result (Refuses one_truth (map out-Value arguments.now)) (λ truth. arguments.now ≡ Value.Truth truth ∷ []) }
+    ensures { MatchOption result (Refuses one_truth (map out-Value arguments.now))
+        (λ truth. arguments.now ≡ Value.Truth truth ∷ []) }
 {
     if arguments.len() != 1 {
         return None;
@@ -111,7 +119,8 @@ pub(crate) fn truth(arguments: &[Value]) -> Option<bool>
 
 /// One text.
 pub(crate) fn single_text(arguments: &[Value]) -> Option<&Bytes>
-    ensures { MatchOption result (Refuses one_text (map out-Value arguments.now)) (λ text. arguments.now ≡ Value.Text text.now ∷ []) }
+    ensures { MatchOption result (Refuses one_text (map out-Value arguments.now))
+        (λ text. arguments.now ≡ Value.Text text.now ∷ []) }
 {
     if arguments.len() != 1 {
         return None;
@@ -124,7 +133,8 @@ pub(crate) fn single_text(arguments: &[Value]) -> Option<&Bytes>
 
 /// One value of any kind.
 pub(crate) fn single(arguments: &[Value]) -> Option<&Value>
-    ensures { MatchOption result (Refuses one_value arguments.now) (λ value. arguments.now ≡ value.now ∷ []) }
+    ensures { MatchOption result (Refuses one_value arguments.now) (λ value. arguments.now
+        ≡ value.now ∷ []) }
 {
     if arguments.len() == 1 {
         Some(&arguments[0])

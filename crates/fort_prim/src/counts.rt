@@ -7,7 +7,8 @@ ghost use Rattle.fort_prim.specs.Answers.{Replies};
 use crate::answer::Answer;
 use fort_core::{Program, Value};
 
-/// How many numbers there are from `a` to `b`: none where `b` is below `a`. The chapter "Built-in declarations".
+/// How many numbers there are from `a` to `b`: none where `b` is below `a`. The chapter "Built-in
+/// declarations".
 pub fn count_to(a: i32, b: i32) -> u64
     ensures { result ≡ count_to_of a b }
 {
@@ -18,8 +19,8 @@ pub fn count_to(a: i32, b: i32) -> u64
     }
 }
 
-/// `a # n`: the range of n numbers from a on, none where n is below 1; where the last one isn't a ZZ32 the throw of
-/// `IntegerOverflow`. The chapter "Built-in declarations".
+/// `a # n`: the range of n numbers from a on, none where n is below 1; where the last one isn't a
+/// ZZ32 the throw of `IntegerOverflow`. The chapter "Built-in declarations".
 pub fn counted(program: &Program, a: i32, n: i32) -> Answer
     ensures { Replies result (counted_of program.now a n) }
 {
@@ -32,8 +33,8 @@ pub fn counted(program: &Program, a: i32, n: i32) -> Answer
     }
 }
 
-/// How many characters a text has; of bytes that aren't UTF-8, how many first bytes have all the bytes that belong to them. It
-/// takes the time of its bytes. The chapter "Built-in declarations".
+/// How many characters a text has; of bytes that aren't UTF-8, how many first bytes have all the
+/// bytes that belong to them. It takes the time of its bytes. The chapter "Built-in declarations".
 pub fn length_of(text: &[u8]) -> usize
     ensures { result ≡ length (chars text.now) }
 {

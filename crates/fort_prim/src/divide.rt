@@ -20,7 +20,8 @@ pub fn quotient(a: i64, b: i64) -> Outcome
     }
 }
 
-/// `a REM b` on ZZ64: what that quotient leaves, of the sign of `a` or 0. The chapter "Built-in declarations".
+/// `a REM b` on ZZ64: what that quotient leaves, of the sign of `a` or 0. The chapter "Built-in
+/// declarations".
 pub fn remainder(a: i64, b: i64) -> Outcome
     ensures { figure result ≡ within w64 (remainder_of a b) }
 {
@@ -30,7 +31,8 @@ pub fn remainder(a: i64, b: i64) -> Outcome
     Outcome::Number(a.wrapping_rem(b))
 }
 
-/// `a MOD b` on ZZ64: the remainder that is 0 or has the sign of `b`. The chapter "Built-in declarations".
+/// `a MOD b` on ZZ64: the remainder that is 0 or has the sign of `b`. The chapter "Built-in
+/// declarations".
 pub fn modulus(a: i64, b: i64) -> Outcome
     ensures { figure result ≡ within w64 (modulus_of a b) }
 {

@@ -6,7 +6,8 @@ ghost use Rattle.fort_prim.specs.Outcomes.{figure};
 
 use crate::outcome::{Outcome, natural};
 
-/// `a GCD b` on ZZ64, which isn't negative; of 0 and 0 it is 0. The chapter "Built-in declarations".
+/// `a GCD b` on ZZ64, which isn't negative; of 0 and 0 it is 0. The chapter "Built-in
+/// declarations".
 pub fn greatest_divisor(a: i64, b: i64) -> Outcome
     ensures { figure result ≡ within w64 (greatest_divisor_of a b) }
 {

@@ -20,7 +20,8 @@ use fort_core::{Program, Value};
 
 /// An operator on two ZZ32.
 pub(crate) fn small(program: &Program, operator: Operator, arguments: &[Value]) -> Option<Answer>
-    ensures { result ≡ reply (small_by program.now (figure_of operator) (map out-Value arguments.now)) }
+    ensures { result
+        ≡ reply (small_by program.now (figure_of operator) (map out-Value arguments.now)) }
 {
     match two_small_numbers(arguments) {
         None => None,
@@ -33,7 +34,8 @@ pub(crate) fn small(program: &Program, operator: Operator, arguments: &[Value]) 
 
 /// An operator on two ZZ64.
 pub(crate) fn large(program: &Program, operator: Operator, arguments: &[Value]) -> Option<Answer>
-    ensures { result ≡ reply (large_by program.now (figure_of operator) (map out-Value arguments.now)) }
+    ensures { result
+        ≡ reply (large_by program.now (figure_of operator) (map out-Value arguments.now)) }
 {
     match two_large_numbers(arguments) {
         None => None,
@@ -50,7 +52,8 @@ pub(crate) fn on_small_bits(
     operator: BitOperator,
     arguments: &[Value],
 ) -> Option<Answer>
-    ensures { result ≡ reply (small_by program.now (bits_of_type w32 operator) (map out-Value arguments.now)) }
+    ensures { result
+        ≡ reply (small_by program.now (bits_of_type w32 operator) (map out-Value arguments.now)) }
 {
     match two_small_numbers(arguments) {
         None => None,
@@ -67,7 +70,8 @@ pub(crate) fn on_large_bits(
     operator: BitOperator,
     arguments: &[Value],
 ) -> Option<Answer>
-    ensures { result ≡ reply (large_by program.now (bits_of_type w64 operator) (map out-Value arguments.now)) }
+    ensures { result
+        ≡ reply (large_by program.now (bits_of_type w64 operator) (map out-Value arguments.now)) }
 {
     match two_large_numbers(arguments) {
         None => None,
@@ -80,7 +84,8 @@ pub(crate) fn on_large_bits(
 
 /// A comparison of two ZZ32.
 pub(crate) fn small_test(test: Test, arguments: &[Value]) -> Option<Answer>
-    ensures { (p : Program) → result ≡ reply (small_test_by (holds test) (map out-Value arguments.now)) }
+    ensures { (p : Program)
+        → result ≡ reply (small_test_by (holds test) (map out-Value arguments.now)) }
 {
     match two_small_numbers(arguments) {
         None => None,
@@ -93,7 +98,8 @@ pub(crate) fn small_test(test: Test, arguments: &[Value]) -> Option<Answer>
 
 /// A comparison of two ZZ64.
 pub(crate) fn large_test(test: Test, arguments: &[Value]) -> Option<Answer>
-    ensures { (p : Program) → result ≡ reply (large_test_by (holds test) (map out-Value arguments.now)) }
+    ensures { (p : Program)
+        → result ≡ reply (large_test_by (holds test) (map out-Value arguments.now)) }
 {
     match two_large_numbers(arguments) {
         None => None,

@@ -4,7 +4,8 @@ ghost use Rattle.std.specs.Int.{w64};
 ghost use Rattle.fort_machine.specs.Numbers.{number, within};
 ghost use Rattle.fort_prim.specs.Outcomes.{figure};
 
-/// What an operator on numbers gives: a number of its type, or why it gives none. The chapter "Built-in declarations".
+/// What an operator on numbers gives: a number of its type, or why it gives none. The chapter
+/// "Built-in declarations".
 #[derive(Clone, Copy, Debug, PartialEq, Eq)]
 pub enum Outcome {
     Number(i64),

@@ -6,8 +6,8 @@ ghost use Rattle.fort_prim.specs.Outcomes.{figure};
 
 use crate::outcome::Outcome;
 
-/// `a^b` on ZZ64: 0 to the 0 is 1, and a `b` below 0 gives none. It takes at most 64 rounds. The chapter "Built-in
-/// declarations".
+/// `a^b` on ZZ64: 0 to the 0 is 1, and a `b` below 0 gives none. It takes at most 64 rounds. The
+/// chapter "Built-in declarations".
 pub fn power(a: i64, b: i64) -> Outcome
     ensures { figure result ≡ within w64 (power_of a b) }
 {

@@ -25,7 +25,8 @@ pub(crate) fn large_answer(program: &Program, outcome: Outcome) -> Answer
 
 /// The answer of an operator on ZZ32, by what it gives before it is asked whether that is in range.
 pub(crate) fn small_answer(program: &Program, outcome: Outcome) -> Answer
-    ensures { Replies result (as_value program.now (λ n. Value.Small n) (within w32 (figure outcome))) }
+    ensures { Replies result
+        (as_value program.now (λ n. Value.Small n) (within w32 (figure outcome))) }
 {
     match outcome {
         Outcome::Number(number) => small_number(program, number),
@@ -34,7 +35,8 @@ pub(crate) fn small_answer(program: &Program, outcome: Outcome) -> Answer
 }
 
 fn small_number(program: &Program, number: i64) -> Answer
-    ensures { Replies result (as_value program.now (λ n. Value.Small n) (within w32 (numbers_.number number))) }
+    ensures { Replies result
+        (as_value program.now (λ n. Value.Small n) (within w32 (numbers_.number number))) }
 {
     match i32::try_from(number) {
         Ok(number) => Answer::Value(Value::Small(number)),

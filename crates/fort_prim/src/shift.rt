@@ -6,7 +6,8 @@ ghost use Rattle.fort_prim.specs.Outcomes.{figure};
 
 use crate::outcome::{Outcome, narrowed};
 
-/// `a LSHIFT b` on ZZ64: times 2 to the count, which is from 0 to 63, else too large. The chapter "Built-in declarations".
+/// `a LSHIFT b` on ZZ64: times 2 to the count, which is from 0 to 63, else too large. The chapter
+/// "Built-in declarations".
 pub fn shifted_left(a: i64, b: i64) -> Outcome
     ensures { figure result ≡ within w64 (shifted_left_of w64 a b) }
 {
@@ -19,8 +20,8 @@ pub fn shifted_left(a: i64, b: i64) -> Outcome
     }
 }
 
-/// `a RSHIFT b` on ZZ64: divided by 2 to the count, which is from 0 to 63, and rounded down, else too large. The chapter
-/// "Built-in declarations".
+/// `a RSHIFT b` on ZZ64: divided by 2 to the count, which is from 0 to 63, and rounded down, else
+/// too large. The chapter "Built-in declarations".
 pub fn shifted_right(a: i64, b: i64) -> Outcome
     ensures { figure result ≡ within w64 (shifted_right_of w64 a b) }
 {
@@ -32,7 +33,8 @@ pub fn shifted_right(a: i64, b: i64) -> Outcome
 
 // A count of places by which a ZZ64 can be moved.
 fn places(b: i64) -> Option<u32>
-    ensures { MatchOption result (is_count w64 b ≡ false) (λ count. (b ≡ pos count) × (count < 64)) }
+    ensures { MatchOption result (is_count w64 b ≡ false) (λ count. (b ≡ pos count)
+        × (count < 64)) }
 {
     if 0 <= b && b < 64 {
         Some(b as u32)

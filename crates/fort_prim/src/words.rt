@@ -1,4 +1,5 @@
-//! The built-in declarations on texts, truths and values of any kind. None where the arguments aren't such.
+//! The built-in declarations on texts, truths and values of any kind. None where the arguments
+//! aren't such.
 ghost use Rattle.std.specs.Prelude.{◌≡◌, map, IfOk};
 ghost use Rattle.fort_core.specs.declared.primitive.Primitive.TheVariants as primitive_;
 ghost use Rattle.fort_machine.specs.Primitives.{answer_of};
@@ -21,7 +22,8 @@ use std::alloc::Global;
 
 /// Whether it is as `wanted` that two texts are equal.
 pub(crate) fn texts_equal(wanted: bool, arguments: &[Value]) -> Option<Answer>
-    ensures { (p : Program) → result ≡ reply (answer_by p (operation_.TextsEqual wanted) arguments.now) }
+    ensures { (p : Program)
+        → result ≡ reply (answer_by p (operation_.TextsEqual wanted) arguments.now) }
 {
     match both_texts(arguments) {
         None => None,
@@ -34,7 +36,8 @@ pub(crate) fn texts_equal(wanted: bool, arguments: &[Value]) -> Option<Answer>
 
 /// An operator on two truths.
 pub(crate) fn truths(connective: Connective, arguments: &[Value]) -> Option<Answer>
-    ensures { (p : Program) → result ≡ reply (answer_by p (operation_.Truths connective) arguments.now) }
+    ensures { (p : Program)
+        → result ≡ reply (answer_by p (operation_.Truths connective) arguments.now) }
 {
     match both_truths(arguments) {
         None => None,
@@ -68,7 +71,8 @@ pub(crate) fn joined(
     program: &Program,
     arguments: &[Value],
 ) -> Result<Option<Answer>, Memory>
-    ensures { IfOk result (λ answer. answer ≡ reply (answer_of program.now primitive_.JoinTexts arguments.now)) }
+    ensures { IfOk result (λ answer. answer
+        ≡ reply (answer_of program.now primitive_.JoinTexts arguments.now)) }
 {
     match both_values(arguments) {
         None => Ok(None),
@@ -87,7 +91,8 @@ pub(crate) fn line(
     program: &Program,
     arguments: &[Value],
 ) -> Result<Option<Answer>, Memory>
-    ensures { IfOk result (λ answer. answer ≡ reply (answer_of program.now primitive_.Println arguments.now)) }
+    ensures { IfOk result (λ answer. answer
+        ≡ reply (answer_of program.now primitive_.Println arguments.now)) }
 {
     match single(arguments) {
         None => Ok(None),
@@ -105,7 +110,8 @@ pub(crate) fn shown(
     program: &Program,
     arguments: &[Value],
 ) -> Result<Option<Answer>, Memory>
-    ensures { IfOk result (λ answer. answer ≡ reply (answer_of program.now primitive_.Print arguments.now)) }
+    ensures { IfOk result (λ answer. answer
+        ≡ reply (answer_of program.now primitive_.Print arguments.now)) }
 {
     match single(arguments) {
         None => Ok(None),

@@ -10,8 +10,8 @@ use fort_token::{Kind, Mark, Reserved, Token};
 use fort_tree::{AssignSign, Big, InitialSign, Name, Prefix, Sign, Spot};
 use std::marker::Model;
 
-/// What is left of a row of tokens. Each method that reads takes the next token where it is what the method wants,
-/// and else leaves everything and answers [`Fault::Syntax`].
+/// What is left of a row of tokens. Each method that reads takes the next token where it is what
+/// the method wants, and else leaves everything and answers [`Fault::Syntax`].
 #[derive(Drop)]
 pub struct Cursor<'a> {
     rest: &'a [Token],
@@ -293,7 +293,8 @@ impl<'a> Cursor<'a> {
 
     /// This symbol, with no gap before it.
     pub fn tight_mark(&mut self, mark: Mark) -> Result<Spot, Fault>
-        ensures { Reads (accept_run (spec.tight (spec.spot_if (spec.is_mark mark))) self.old) result self.new }
+        ensures { Reads (accept_run (spec.tight (spec.spot_if (spec.is_mark mark))) self.old) result
+            self.new }
     {
         match self.rest {
             [first, ..] if is_empty(first.gap) => self.mark(mark),
@@ -397,7 +398,8 @@ impl<'a> Cursor<'a> {
 
     /// The name that is this word, with no gap before it.
     pub fn tight_called(&mut self, word: &[u8], names: &[Bytes]) -> Result<Name, Fault>
-        ensures { Reads (accept_run (spec.tight (spec.called_of word.now names.now)) self.old) result self.new }
+        ensures { Reads (accept_run (spec.tight (spec.called_of word.now names.now)) self.old)
+            result self.new }
     {
         match self.rest {
             [first, ..] if is_empty(first.gap) => self.called(word, names),

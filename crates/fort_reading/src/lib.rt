@@ -1,4 +1,5 @@
-//! Reading: what is left of a row of tokens, with the law of what reads it, over the tokens and trees.
+//! Reading: what is left of a row of tokens, with the law of what reads it, over the tokens and
+//! trees.
 #![tactic(auto)]
 
 mod cursor;

@@ -13,7 +13,8 @@ pub fn single<T: Drop>(alloc: Global, item: T) -> Result<List<T>, Memory>
     Ok(List::from_vec(items))
 }
 
-/// Puts an item at the end of a list; where memory is wanting the item is dropped and the list is as before.
+/// Puts an item at the end of a list; where memory is wanting the item is dropped and the list is
+/// as before.
 ///
 /// The first item takes room for itself alone, since few lists of a tree have a second one.
 pub fn add<T: Drop>(list: &mut List<T>, item: T) -> Result<(), Memory>

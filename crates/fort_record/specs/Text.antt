@@ -1,4 +1,5 @@
--- Chapter "The text of a record" of docs/RECORDS.md: a journal and an output as bytes, and which bytes begin a record. The code reads byte by byte; here a text is put together.
+-- Chapter "The text of a record" of docs/RECORDS.md: a journal and an output as bytes, and which
+-- bytes begin a record. The code reads byte by byte; here a text is put together.
 use Rattle.std.specs.Prelude.{◌≡◌, ℕ, ◌+◌, ◌<◌, ◌≤◌, ◌^◌, List, [], ◌∷◌, ◌++◌, length, take, map, codes, decimal}
 use Rattle.fort_base.specs.declared.ids.Loc.{Loc}
 use Rattle.fort_base.specs.declared.ids.TypeId.{TypeId}
@@ -34,8 +35,10 @@ joined (t ∷ ts) = t ++ joined ts
 
 -- a step: its path and its location; an attempt: its path, its picks, and `z`
 abbrev pub pick_layer : Pick-F (List ℕ) → List ℕ
-pick_layer (Pick-F.Step path loc) = codes "s " ++ (path_text path.0 ++ (32 ∷ (decimal loc.0 ++ 10 ∷ [])))
-pick_layer (Pick-F.Attempt path inner) = codes "a " ++ (path_text path.0 ++ (10 ∷ (joined inner ++ (122 ∷ 10 ∷ []))))
+pick_layer (Pick-F.Step path loc) =
+    codes "s " ++ (path_text path.0 ++ (32 ∷ (decimal loc.0 ++ 10 ∷ [])))
+pick_layer (Pick-F.Attempt path inner) =
+    codes "a " ++ (path_text path.0 ++ (10 ∷ (joined inner ++ (122 ∷ 10 ∷ []))))
 
 abbrev pub pick_text : Pick → List ℕ
 pick_text = fold-Pick (List ℕ) pick_layer
@@ -47,7 +50,8 @@ picks_text ps = joined (map pick_text ps)
 
 -- a thrown object, by its type and its base
 abbrev pub thrown_text : Value-F Term Value Closure → List ℕ
-thrown_text (Value-F.Object id loc) = codes "uncaught " ++ (decimal id.0 ++ (32 ∷ (decimal loc.0 ++ 10 ∷ [])))
+thrown_text (Value-F.Object id loc) =
+    codes "uncaught " ++ (decimal id.0 ++ (32 ∷ (decimal loc.0 ++ 10 ∷ [])))
 thrown_text v = []
 
 abbrev pub ending_text : Ending → List ℕ
@@ -59,7 +63,12 @@ ending_text (OutOfFuel p) = codes "out" ++ 10 ∷ pick_text p
 -- The text of a journal and an output.
 abbrev pub record_text : Journal → List ℕ → List ℕ
 record_text j output =
-    codes "fortress record 1" ++ (10 ∷ (codes "fuel " ++ (decimal j.fuel ++ (10 ∷ (picks_text j.picks ++ (ending_text j.ending ++ (codes "output " ++ (decimal (length output) ++ (10 ∷ output)))))))))
+    codes "fortress record 1"
+    ++ (10 ∷ (codes "fuel "
+    ++ (decimal j.fuel
+    ++ (10 ∷ (picks_text j.picks
+    ++ (ending_text j.ending
+    ++ (codes "output " ++ (decimal (length output) ++ (10 ∷ output)))))))))
 
 -- ---- which journals and outputs have a text
 
@@ -71,8 +80,10 @@ FitPath (n ∷ ns) = (n < 2 ^ 32) × FitPath ns
 -- Each number in picks is within its bounds.
 mutual
   pub data FitPick : Pick → Type 0 where
-    fit_step : {p : Pick} (path : Path) (loc : Loc) → p ≡ Step path loc → FitPath path.0 → loc.0 < 2 ^ 64 → FitPick p
-    fit_attempt : {p : Pick} (path : Path) (inner : List Pick) → p ≡ Attempt path inner → FitPath path.0 → FitPicks inner → FitPick p
+    fit_step : {p : Pick} (path : Path) (loc : Loc) → p ≡ Step path loc → FitPath path.0
+        → loc.0 < 2 ^ 64 → FitPick p
+    fit_attempt : {p : Pick} (path : Path) (inner : List Pick) → p ≡ Attempt path inner
+        → FitPath path.0 → FitPicks inner → FitPick p
 
   pub data FitPicks : List Pick → Type 0 where
     fit_none : FitPicks []
@@ -119,7 +130,8 @@ pub record BeginsRecord (front : List ℕ) : Type 0 where
   pub output : List ℕ
   pub whole : IsRecordText (front ++ more) journal output
 
--- The first byte, from 0, up to which and with which bytes begin no record; or their number, where they begin one and are none.
+-- The first byte, from 0, up to which and with which bytes begin no record; or their number, where
+-- they begin one and are none.
 pub record IsFormFault (bytes : List ℕ) (at : ℕ) : Type 0 where
   pub within : at ≤ length bytes
   pub begins : BeginsRecord (take at bytes)
@@ -133,4 +145,5 @@ IsFault bytes a_fault.Memory = Unit {0}
 
 -- Bytes are the text of one record at most.
 abbrev pub OneRecord : Type 0
-OneRecord = (bytes : List ℕ) (j k : Journal) (output other : List ℕ) → IsRecordText bytes j output → IsRecordText bytes k other → (j ≡ k) × (output ≡ other)
+OneRecord = (bytes : List ℕ) (j k : Journal) (output other : List ℕ) → IsRecordText bytes j output
+    → IsRecordText bytes k other → (j ≡ k) × (output ≡ other)

@@ -1,5 +1,5 @@
-//! The text of a record: a journal and an output as bytes, written and read. The chapter "The text of a record" of
-//! docs/RECORDS.md.
+//! The text of a record: a journal and an output as bytes, written and read. The chapter "The text
+//! of a record" of docs/RECORDS.md.
 #![tactic(auto)]
 
 mod laws;

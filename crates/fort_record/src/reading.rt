@@ -19,8 +19,8 @@ pub struct Record {
 /// Why bytes aren't read as a record.
 #[derive(Clone, Copy, Debug, PartialEq, Eq)]
 pub enum AuditFault {
-    /// They are none. The number, from 0, is that of the first byte up to which and with which no record begins; or of
-    /// all bytes, where the record isn't at its end.
+    /// They are none. The number, from 0, is that of the first byte up to which and with which no
+    /// record begins; or of all bytes, where the record isn't at its end.
     Form(u64),
     /// Memory is wanting.
     Memory,
@@ -37,12 +37,13 @@ impl From<Memory> for AuditFault {
     }
 }
 
-/// The journal and the output of which the bytes are the text. There is one such pair at most. The chapter "The text of a
-/// record".
+/// The journal and the output of which the bytes are the text. There is one such pair at most. The
+/// chapter "The text of a record".
 ///
 /// # Errors
 ///
-/// `Form` where the bytes are no record's text; `Memory` where memory is wanting. Attempts at any depth take no stack.
+/// `Form` where the bytes are no record's text; `Memory` where memory is wanting. Attempts at any
+/// depth take no stack.
 pub fn parsed(alloc: Global, bytes: &[u8]) -> Result<Record, AuditFault>
     ensures ok { IfOk result (λ record_. IsRecordText bytes.now record_.journal record_.output) }
     ensures fault { IfErr result (IsFault bytes.now) }

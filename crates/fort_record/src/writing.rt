@@ -20,7 +20,8 @@ use std::alloc::Global;
 /// `Memory` where memory is wanting.
 pub fn record_of(alloc: Global, journal: &Journal, output: &Bytes) -> Result<Bytes, Memory>
     ensures is_text { IfOk result (λ text. text ≡ record_text journal.now output.now) }
-    ensures is_record { IfOk result (λ text. HasText journal.now.ending → IsRecordText text journal.now output.now) }
+    ensures is_record { IfOk result (λ text. HasText journal.now.ending
+        → IsRecordText text journal.now output.now) }
 {
     let mut out = List::new(alloc);
     out.push_slice(b"fortress record 1\nfuel ")?;
@@ -52,7 +53,8 @@ fn write_ending(alloc: Global, ending: &Ending, out: &mut Bytes) -> Result<(), M
 
 fn write_thrown(value: &Value, out: &mut Bytes) -> Result<(), Memory>
     ensures text { OnOk result (out.new ≡ out.old ++ thrown_text (out-Value value.now)) }
-    ensures fits { OnOk result ((id : TypeId) → (loc : LocOf) → value.now ≡ Object id loc → IsThrown value.now) }
+    ensures fits { OnOk result ((id : TypeId) → (loc : LocOf) → value.now ≡ Object id loc
+        → IsThrown value.now) }
 {
     match value {
         Value::Object(id, loc) => {
@@ -113,7 +115,9 @@ fn write_picks(alloc: Global, picks: &[Pick], out: &mut Bytes) -> Result<(), Mem
 }
 
 fn write_step(path: &Path, loc: u64, out: &mut Bytes) -> Result<(), Memory>
-    ensures text { OnOk result (out.new ≡ out.old ++ (codes "s " ++ (path_text path.now.0 ++ (32 ∷ (decimal loc ++ 10 ∷ []))))) }
+    ensures text { OnOk result (out.new
+        ≡ out.old
+        ++ (codes "s " ++ (path_text path.now.0 ++ (32 ∷ (decimal loc ++ 10 ∷ []))))) }
     ensures path { OnOk result (FitPath path.now.0) }
     ensures location { loc < 2 ^ 64 }
 {
@@ -126,7 +130,8 @@ fn write_step(path: &Path, loc: u64, out: &mut Bytes) -> Result<(), Memory>
 
 // The line with which an attempt begins.
 fn write_head(path: &Path, out: &mut Bytes) -> Result<(), Memory>
-    ensures text { OnOk result (out.new ≡ out.old ++ (codes "a " ++ (path_text path.now.0 ++ 10 ∷ []))) }
+    ensures text { OnOk result (out.new
+        ≡ out.old ++ (codes "a " ++ (path_text path.now.0 ++ 10 ∷ []))) }
     ensures path { OnOk result (FitPath path.now.0) }
 {
     out.push_slice(b"a ")?;

@@ -1,4 +1,5 @@
--- Chapter "Steps and costs": what a generator goes over, as the code has it. These are means to meet the chapter's words.
+-- Chapter "Steps and costs": what a generator goes over, as the code has it. These are means to
+-- meet the chapter's words.
 use Rattle.std.specs.Prelude.{ℕ, Option, Some, None}
 use Rattle.fort_core.specs.declared.form.Span.{Span}
 use Rattle.fort_core.specs.declared.form.Span.TheVariants as span

@@ -26,7 +26,8 @@ pub fn apply_row(
     function: &Shared<Term>,
     argument: &Shared<Term>,
 ) -> Result<Deal, Memory>
-    ensures { IfOk result (λ deal. act_of deal ≡ once_all (function.now ∷ argument.now ∷ []) (λ vs. applying vs)) }
+    ensures { IfOk result (λ deal. act_of deal
+        ≡ once_all (function.now ∷ argument.now ∷ []) (λ vs. applying vs)) }
 {
     applies_by(alloc, both(alloc, function, argument)?)
 }
@@ -54,7 +55,8 @@ fn applied(alloc: Global, values: &List<Value>) -> Result<Deal, Memory>
 }
 
 fn applied_to(alloc: Global, function: &Value, argument: &Value) -> Result<Deal, Memory>
-    ensures { IfOk result (λ deal. act_of deal ≡ applying_to (out-Value function.now) argument.now) }
+    ensures { IfOk result (λ deal. act_of deal
+        ≡ applying_to (out-Value function.now) argument.now) }
 {
     match function {
         Value::Function(closure) => entered(alloc, closure.get(), argument),
@@ -64,7 +66,8 @@ fn applied_to(alloc: Global, function: &Value, argument: &Value) -> Result<Deal,
 
 #[tactic(auto, using(crate::proofs::Pairs::enterings))]
 fn entered(alloc: Global, closure: &Closure, argument: &Value) -> Result<Deal, Memory>
-    ensures { IfOk result (λ deal. act_of deal ≡ entering closure.now (bound_to closure.now.parameters argument.now)) }
+    ensures { IfOk result (λ deal. act_of deal
+        ≡ entering closure.now (bound_to closure.now.parameters argument.now)) }
 {
     match bound(alloc, closure.parameters.get(), argument)? {
         None => Ok(Deal::Stuck),

@@ -23,7 +23,8 @@ pub fn let_row(
     value: &Value,
     rest: &Shared<Term>,
 ) -> Result<Deal, Memory>
-    ensures { IfOk result (λ deal. act_of deal ≡ binding_of (bound_to variables.now value.now) rest.now) }
+    ensures { IfOk result (λ deal. act_of deal
+        ≡ binding_of (bound_to variables.now value.now) rest.now) }
 {
     match bound(alloc, variables, value)? {
         None => Ok(Deal::Stuck),

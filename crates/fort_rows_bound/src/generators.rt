@@ -29,7 +29,8 @@ pub fn for_row(
     source: &Value,
     body: &Shared<Term>,
 ) -> Result<Deal, Memory>
-    ensures { IfOk result (λ deal. act_of deal ≡ generating order span variable source.now body.now) }
+    ensures { IfOk result (λ deal. act_of deal
+        ≡ generating order span variable source.now body.now) }
 {
     let over = items_over(source);
     match spanned(span, over) {
@@ -49,7 +50,8 @@ fn for_items(
     source: &Value,
     body: &Shared<Term>,
 ) -> Result<Deal, Memory>
-    ensures { IfOk result (λ deal. act_of deal ≡ for_items_of order (items_of over) at count variable source.now body.now) }
+    ensures { IfOk result (λ deal. act_of deal
+        ≡ for_items_of order (items_of over) at count variable source.now body.now) }
 {
     if count == 0 {
         let unit = Shared::new(alloc, Term::Value(Value::unit(alloc)?))?;
@@ -78,7 +80,8 @@ fn in_turn(
     body: &Shared<Term>,
 ) -> Result<Deal, Memory>
     requires { 0 < count }
-    ensures { IfOk result (λ deal. act_of deal ≡ for_items_of order_.Seq (items_of over) at count variable source.now body.now) }
+    ensures { IfOk result (λ deal. act_of deal
+        ≡ for_items_of order_.Seq (items_of over) at count variable source.now body.now) }
 {
     let next = match at.checked_add(1) {
         None => return Err(Memory),
@@ -99,7 +102,8 @@ fn for_halves(
     body: &Shared<Term>,
 ) -> Result<Deal, Memory>
     requires { 2 ≤ count }
-    ensures { IfOk result (λ deal. act_of deal ≡ for_items_of order_.Parallel (items_of _over) at count variable source.now body.now) }
+    ensures { IfOk result (λ deal. act_of deal
+        ≡ for_items_of order_.Parallel (items_of _over) at count variable source.now body.now) }
 {
     let (first, rest) = halves(count);
     let middle = match at.checked_add(first) {
@@ -120,7 +124,8 @@ fn part(
     source: &Value,
     body: &Shared<Term>,
 ) -> Result<Shared<Term>, Memory>
-    ensures { IfOk result (λ term. term ≡ Term.For order (span_.Part at count) variable (Term.Value source.now) body.now) }
+    ensures { IfOk result (λ term. term
+        ≡ Term.For order (span_.Part at count) variable (Term.Value source.now) body.now) }
 {
     let source = Shared::new(alloc, Term::Value(source.share()?))?;
     let body = body.share()?;

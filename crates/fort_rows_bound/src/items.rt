@@ -63,7 +63,8 @@ pub(crate) fn by_item(alloc: Global, items: Items, at: u64, goes: Goes) -> Resul
     }
 }
 
-// The number of an item of a range; where no ZZ32 can be it memory is wanting, since there is no such range.
+// The number of an item of a range; where no ZZ32 can be it memory is wanting, since there is no
+// such range.
 fn item_of(first: i32, at: u64) -> Result<i32, Memory>
     ensures { IfOk result (λ number. number ≡ first +ℤ pos at) }
 {

@@ -39,7 +39,8 @@ pub fn reduce_row(
     source: &Value,
     body: &Shared<Term>,
 ) -> Result<Deal, Memory>
-    ensures { IfOk result (λ deal. act_of deal ≡ reducing order span set empty.now variable source.now body.now) }
+    ensures { IfOk result (λ deal. act_of deal
+        ≡ reducing order span set empty.now variable source.now body.now) }
 {
     let over = items_over(source);
     let reduction = Reduction {
@@ -64,7 +65,9 @@ fn reduce_items(
     count: u64,
     it: &Reduction,
 ) -> Result<Deal, Memory>
-    ensures { IfOk result (λ deal. act_of deal ≡ reduce_items_of order (items_of over) at count it.now.set it.now.empty.now it.now.variable it.now.source.now it.now.body.now) }
+    ensures { IfOk result (λ deal. act_of deal
+        ≡ reduce_items_of order (items_of over) at count it.now.set it.now.empty.now
+        it.now.variable it.now.source.now it.now.body.now) }
 {
     if count == 0 {
         Ok(Deal::becomes(alloc, it.empty.share()?))
@@ -85,7 +88,9 @@ fn reduce_halves(
     it: &Reduction,
 ) -> Result<Deal, Memory>
     requires { 2 ≤ count }
-    ensures { IfOk result (λ deal. act_of deal ≡ reduce_items_of order (items_of _over) at count it.now.set it.now.empty.now it.now.variable it.now.source.now it.now.body.now) }
+    ensures { IfOk result (λ deal. act_of deal
+        ≡ reduce_items_of order (items_of _over) at count it.now.set it.now.empty.now
+        it.now.variable it.now.source.now it.now.body.now) }
 {
     let (first, rest) = halves(count);
     let middle = match at.checked_add(first) {
@@ -124,7 +129,9 @@ fn part(
     count: u64,
     it: &Reduction,
 ) -> Result<Shared<Term>, Memory>
-    ensures { IfOk result (λ term. term ≡ Term.Reduce order (span_.Part at count) it.now.set it.now.empty.now it.now.variable (Term.Value it.now.source.now) it.now.body.now) }
+    ensures { IfOk result (λ term. term
+        ≡ Term.Reduce order (span_.Part at count) it.now.set it.now.empty.now it.now.variable
+        (Term.Value it.now.source.now) it.now.body.now) }
 {
     let source = Shared::new(alloc, Term::Value(it.source.share()?))?;
     let empty = it.empty.share()?;

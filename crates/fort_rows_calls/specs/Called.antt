@@ -16,10 +16,12 @@ use Rattle.fort_machine.specs.Acts.{Act, turns, becomes, throwing, unit}
 use Rattle.fort_machine.specs.Acts as acts
 use Rattle.fort_machine.specs.Calls.{Dispatches, by_body}
 
--- A call of values runs no declaration where there is no deal; else the deal is what the one does that it runs.
+-- A call of values runs no declaration where there is no deal; else the deal is what the one does
+-- that it runs.
 abbrev pub IsCalled : Program → SetId → List Value → Option Deal → Type 0
 IsCalled p set vs None = (d : DeclId) (decl : CoreDecl) → Dispatches p set vs d decl → ⊥
-IsCalled p set vs (Some deal) = (d : DeclId) × (decl : CoreDecl) × Dispatches p set vs d decl × (by_body p decl.body vs ≡ act_of deal)
+IsCalled p set vs (Some deal) = (d : DeclId) × (decl : CoreDecl) × Dispatches p set vs d decl
+    × (by_body p decl.body vs ≡ act_of deal)
 
 -- What a built-in declaration does by the code's answer, with its cost.
 abbrev pub by_given : Program → Answer → Act

@@ -22,7 +22,8 @@ pub(crate) fn answered(
     primitive: Primitive,
     values: &List<Value>,
 ) -> Result<Deal, Memory>
-    ensures { IfOk result (λ deal. act_of deal ≡ by_answer program.now (answer_of program.now primitive values.now)) }
+    ensures { IfOk result (λ deal. act_of deal
+        ≡ by_answer program.now (answer_of program.now primitive values.now)) }
 {
     match fort_prim::answered(alloc, program, primitive, values.as_slice())? {
         None => Ok(Deal::Stuck),
@@ -44,7 +45,8 @@ fn by_its_answer(alloc: Global, program: &Program, answer: Answer) -> Result<Dea
 
 // A text that is made, at the cost of its bytes too.
 fn made(alloc: Global, text: Bytes) -> Result<Deal, Memory>
-    ensures { IfOk result (λ deal. act_of deal ≡ turns (term_.Value (Value.Text text)) [] (1 + length text)) }
+    ensures { IfOk result (λ deal. act_of deal
+        ≡ turns (term_.Value (Value.Text text)) [] (1 + length text)) }
 {
     match (text.len() as u64).checked_add(1) {
         None => Err(Memory),

@@ -53,7 +53,8 @@ pub fn called_by(
     values: &List<Value>,
 ) -> Result<Deal, Memory>
     requires tables { MayPick tables.now }
-    requires runs { (number : DeclId) × (decl : CoreDecl) × Dispatches tables.now.program.now set values.now number decl }
+    requires runs { (number : DeclId) × (decl : CoreDecl)
+        × Dispatches tables.now.program.now set values.now number decl }
     ensures { IfOk result (λ deal. IsCalled tables.now.program.now set values.now (Some deal)) }
 {
     let decl = running(tables, set, values);
@@ -79,7 +80,8 @@ fn by_its_body(
 
 // The body with its parameters replaced.
 fn entered(alloc: Global, term: &Shared<Term>, values: &List<Value>) -> Result<Deal, Memory>
-    ensures { IfOk result (λ deal. act_of deal ≡ enters term.now (with_values (by_number 0 values.now) term.now)) }
+    ensures { IfOk result (λ deal. act_of deal
+        ≡ enters term.now (with_values (by_number 0 values.now) term.now)) }
 {
     let pairs = numbered(alloc, values)?;
     let next = put_all(alloc, term, &pairs)?;

@@ -30,7 +30,10 @@ pub fn typecase_row(
     clauses: &List<(Shared<Term>, Shared<Ty>)>,
     other: &Shared<Term>,
 ) -> Result<Deal, Memory>
-    ensures { IfOk result (λ deal. act_of deal ≡ becomes (clause_for program.now subject.now clauses.now (substituted variable subject.now other.now) (substituted variable subject.now))) }
+    ensures { IfOk result (λ deal. act_of deal
+        ≡ becomes
+        (clause_for program.now subject.now clauses.now
+        (substituted variable subject.now other.now) (substituted variable subject.now))) }
 {
     match clause(program, subject, clauses) {
         None => Ok(Deal::becomes(alloc, put_value(alloc, other, variable, subject)?)),
@@ -48,7 +51,8 @@ pub fn try_value_row(
     value: Value,
     last: &Option<Shared<Term>>,
 ) -> Result<Deal, Memory>
-    ensures { IfOk result (λ deal. act_of deal ≡ becomes (finally_then last.now (term_.Value value))) }
+    ensures { IfOk result (λ deal. act_of deal
+        ≡ becomes (finally_then last.now (term_.Value value))) }
 {
     let next = Shared::new(alloc, Term::Value(value))?;
     Ok(Deal::becomes(alloc, behind(alloc, last, next)?))
@@ -68,7 +72,11 @@ pub fn try_throw_row(
     last: &Option<Shared<Term>>,
     thrown: &Value,
 ) -> Result<Deal, Memory>
-    ensures { IfOk result (λ deal. act_of deal ≡ becomes (finally_then last.now (clause_for program.now thrown.now clauses.now (throw_of thrown.now) (substituted variable thrown.now)))) }
+    ensures { IfOk result (λ deal. act_of deal
+        ≡ becomes
+        (finally_then last.now
+        (clause_for program.now thrown.now clauses.now (throw_of thrown.now)
+        (substituted variable thrown.now)))) }
 {
     let next = match clause(program, thrown, clauses) {
         None => throw(alloc, thrown)?,
@@ -104,7 +112,8 @@ fn clause<'a>(
     value: &Value,
     clauses: &'a List<(Shared<Term>, Shared<Ty>)>,
 ) -> Option<&'a Shared<Term>>
-    ensures { (other : TermOf) (f : TermOf → TermOf) → clause_for program.now value.now clauses.now other f ≡ by_clause result other f }
+    ensures { (other : TermOf) (f : TermOf → TermOf)
+        → clause_for program.now value.now clauses.now other f ≡ by_clause result other f }
 {
     for clause in clauses.as_slice() {
         if has_type(program, value, clause.1.get()) {

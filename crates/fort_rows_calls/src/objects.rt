@@ -15,7 +15,8 @@ pub(crate) fn constructed(
     id: TypeId,
     values: &List<Value>,
 ) -> Result<Deal, Memory>
-    ensures { IfOk result (λ deal. act_of deal ≡ constructing id values.now (slice_get program.now.shapes id.0)) }
+    ensures { IfOk result (λ deal. act_of deal
+        ≡ constructing id values.now (slice_get program.now.shapes id.0)) }
 {
     match program.shapes.get(id.0 as usize) {
         None => Ok(Deal::Stuck),

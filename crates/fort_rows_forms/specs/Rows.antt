@@ -1,4 +1,5 @@
--- Chapter "Steps and costs": where a form's location is, as the code finds it. These are means to meet the chapter's words.
+-- Chapter "Steps and costs": where a form's location is, as the code finds it. These are means to
+-- meet the chapter's words.
 use Rattle.std.specs.Prelude.{ℕ, ◌+◌, ◌==◌, ℤ, pos, negsuc, List, [], ◌∷◌, Option, Some, None, if◌then◌else◌}
 use Rattle.fort_base.specs.declared.ids.Loc.{Loc}
 use Rattle.fort_base.specs.declared.ids.NameId.{NameId}

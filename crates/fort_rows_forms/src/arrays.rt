@@ -27,7 +27,8 @@ pub fn fill_row(
     value: Value,
     size: &Value,
 ) -> Result<Deal, Memory>
-    ensures { IfOk result (λ deal. act_of deal ≡ filling program.now ty value (out-Value size.now)) }
+    ensures { IfOk result (λ deal. act_of deal
+        ≡ filling program.now ty value (out-Value size.now)) }
 {
     match size {
         Value::Small(number) => match natural(*number) {
@@ -59,7 +60,8 @@ pub fn read_element_row(
     array: &Value,
     index: &Value,
 ) -> Result<Deal, Memory>
-    ensures { IfOk result (λ deal. act_of deal ≡ by_element program.now (out-Value array.now) (out-Value index.now) reading_at) }
+    ensures { IfOk result (λ deal. act_of deal
+        ≡ by_element program.now (out-Value array.now) (out-Value index.now) reading_at) }
 {
     match element_of(array, index)? {
         Element::At(loc) => Ok(Deal::Asks(loc, Goes::Value)),
@@ -81,7 +83,9 @@ pub fn write_element_row(
     index: &Value,
     value: Value,
 ) -> Result<Deal, Memory>
-    ensures { IfOk result (λ deal. act_of deal ≡ by_element program.now (out-Value array.now) (out-Value index.now) (λ l. writing_at l value)) }
+    ensures { IfOk result (λ deal. act_of deal
+        ≡ by_element program.now (out-Value array.now) (out-Value index.now)
+        (λ l. writing_at l value)) }
 {
     match element_of(array, index)? {
         Element::At(loc) => Ok(Deal::Sets(loc, value)),
@@ -92,7 +96,8 @@ pub fn write_element_row(
 
 #[tactic(auto, using(crate::proofs::Naturals::elements))]
 fn element_of(array: &Value, index: &Value) -> Result<Element, Memory>
-    ensures { IfOk result (λ found. (p : _) (f : Option ℕ → Act) → by_element p (out-Value array.now) (out-Value index.now) f ≡ element_act p found f) }
+    ensures { IfOk result (λ found. (p : _) (f : Option ℕ → Act)
+        → by_element p (out-Value array.now) (out-Value index.now) f ≡ element_act p found f) }
 {
     match array {
         Value::Array(_, base, size) => match index {
@@ -107,7 +112,9 @@ fn element_of(array: &Value, index: &Value) -> Result<Element, Memory>
 }
 
 fn element_at(base: Loc, size: u64, at: u64) -> Result<Element, Memory>
-    ensures { IfOk result (λ found. (p : _) (f : Option ℕ → Act) → (if nat_lt at size then f (Some (base.0 + at)) else throwing_of p p.built_in.index_out_of_range) ≡ element_act p found f) }
+    ensures { IfOk result (λ found. (p : _) (f : Option ℕ → Act)
+        → (if nat_lt at size then f (Some (base.0 + at))
+        else throwing_of p p.built_in.index_out_of_range) ≡ element_act p found f) }
 {
     if at < size {
         match base.0.checked_add(at) {

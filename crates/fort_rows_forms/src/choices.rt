@@ -50,7 +50,10 @@ pub fn while_row(
     body: &Shared<Term>,
 ) -> Result<Deal, Memory>
     requires { whole.now ≡ Term.While test.now body.now }
-    ensures { IfOk result (λ deal. act_of deal ≡ becomes (Term.If test.now (Term.Then body.now (Term.While test.now body.now)) (Term.Value unit))) }
+    ensures { IfOk result (λ deal. act_of deal
+        ≡ becomes
+        (Term.If test.now (Term.Then body.now (Term.While test.now body.now))
+        (Term.Value unit))) }
 {
     let again = Shared::new(alloc, Term::Then(body.share()?, whole.share()?))?;
     let other = Shared::new(alloc, Term::Value(Value::unit(alloc)?))?;

@@ -15,7 +15,8 @@ use fort_deal::{Deal, Goes};
 ///
 /// `Memory` where no location can have the field's number.
 pub fn read_field_row(program: &Program, object: &Value, field: NameId) -> Result<Deal, Memory>
-    ensures { IfOk result (λ deal. act_of deal ≡ reading_at (field_at program.now field (out-Value object.now))) }
+    ensures { IfOk result (λ deal. act_of deal
+        ≡ reading_at (field_at program.now field (out-Value object.now))) }
 {
     match field_of(program, object, field)? {
         None => Ok(Deal::Stuck),
@@ -34,7 +35,8 @@ pub fn write_field_row(
     field: NameId,
     value: Value,
 ) -> Result<Deal, Memory>
-    ensures { IfOk result (λ deal. act_of deal ≡ writing_at (field_at program.now field (out-Value object.now)) value) }
+    ensures { IfOk result (λ deal. act_of deal
+        ≡ writing_at (field_at program.now field (out-Value object.now)) value) }
 {
     match field_of(program, object, field)? {
         None => Ok(Deal::Stuck),
@@ -45,7 +47,8 @@ pub fn write_field_row(
 // The location of an object's field.
 #[tactic(auto, using(crate::proofs::Places::place_first))]
 fn field_of(program: &Program, object: &Value, field: NameId) -> Result<Option<Loc>, Memory>
-    ensures { IfOk result (λ found. number_of found ≡ field_at program.now field (out-Value object.now)) }
+    ensures { IfOk result (λ found. number_of found
+        ≡ field_at program.now field (out-Value object.now)) }
 {
     match object {
         Value::Object(id, base) => match program.shapes.get(id.0 as usize) {

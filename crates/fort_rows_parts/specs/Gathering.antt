@@ -1,4 +1,5 @@
--- Chapter "Terms and threads": how parts stand, as the code gathers them from left to right. These are means to meet the chapter's words.
+-- Chapter "Terms and threads": how parts stand, as the code gathers them from left to right. These
+-- are means to meet the chapter's words.
 use Rattle.std.specs.Prelude.{false, List, [], ◌∷◌}
 use Rattle.fort_core.specs.declared.value.Value.{Value}
 use Rattle.fort_machine.specs.Ends.{Standing, at_value, at_throw, open_yet}

@@ -25,7 +25,9 @@ pub enum AllParts {
 impl AllParts {
     // One part more.
     fn with(self, part: &Term) -> Result<AllParts, Memory>
-        ensures { IfOk result (λ more. (rest : Together) → before self (with_first (standing part.now) (has_stepped part.now) rest) ≡ before more rest) }
+        ensures { IfOk result (λ more. (rest : Together)
+            → before self (with_first (standing part.now) (has_stepped part.now) rest)
+            ≡ before more rest) }
     {
         match standing_of(part) {
             Stand::Value(value) => self.with_value(value),
@@ -36,7 +38,8 @@ impl AllParts {
 
     #[tactic(auto, using(crate::proofs::Gathers::values_more))]
     fn with_value(self, value: &Value) -> Result<AllParts, Memory>
-        ensures { IfOk result (λ more. (marked : Bool) (rest : Together) → before self (with_first (at_value value.now) marked rest) ≡ before more rest) }
+        ensures { IfOk result (λ more. (marked : Bool) (rest : Together)
+            → before self (with_first (at_value value.now) marked rest) ≡ before more rest) }
     {
         match self {
             AllParts::Values(mut values) => {
@@ -51,7 +54,8 @@ impl AllParts {
 
     #[tactic(auto, using(crate::proofs::Gathers::throws_more))]
     fn with_throw(self, value: &Value) -> Result<AllParts, Memory>
-        ensures { IfOk result (λ more. (marked : Bool) (rest : Together) → before self (with_first (at_throw value.now) marked rest) ≡ before more rest) }
+        ensures { IfOk result (λ more. (marked : Bool) (rest : Together)
+            → before self (with_first (at_throw value.now) marked rest) ≡ before more rest) }
     {
         match self {
             AllParts::Values(_) => Ok(AllParts::Throw(value.share()?)),
@@ -63,7 +67,8 @@ impl AllParts {
 
     #[tactic(auto, using(crate::proofs::Gathers::opens_more))]
     fn with_open(self, marked: bool) -> AllParts
-        ensures { (rest : Together) → before self (with_first open_yet marked rest) ≡ before result rest }
+        ensures { (rest : Together)
+            → before self (with_first open_yet marked rest) ≡ before result rest }
     {
         if marked {
             return AllParts::Open;
@@ -98,7 +103,8 @@ pub fn together(alloc: Global, parts: &List<Shared<Term>>) -> Result<AllParts, M
 ///
 /// `Memory` where memory is wanting.
 pub fn both(alloc: Global, first: &Shared<Term>, second: &Shared<Term>) -> Result<AllParts, Memory>
-    ensures { IfOk result (λ all. standing_together (first.now ∷ second.now ∷ []) ≡ as_together all) }
+    ensures { IfOk result (λ all. standing_together (first.now ∷ second.now ∷ [])
+        ≡ as_together all) }
 {
     let mut parts = List::new(alloc);
     parts.push(first.share()?)?;

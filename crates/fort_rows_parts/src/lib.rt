@@ -1,4 +1,5 @@
-//! Rows of the table of steps: throws, and the parallel forms, by how their parts stand. No store is looked at.
+//! Rows of the table of steps: throws, and the parallel forms, by how their parts stand. No store
+//! is looked at.
 #![tactic(auto)]
 
 mod gathering;

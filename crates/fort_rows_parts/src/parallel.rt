@@ -16,7 +16,8 @@ use fort_core::{Closure, Program, Term, Value};
 use fort_deal::Deal;
 use std::alloc::Global;
 
-/// A call, by its arguments: the call of their values, or the leftmost throw. The chapter "Steps and costs".
+/// A call, by its arguments: the call of their values, or the leftmost throw. The chapter "Steps
+/// and costs".
 ///
 /// # Errors
 ///
@@ -45,7 +46,8 @@ pub fn operator_row(set: SetId, values: List<Value>) -> Deal
     Deal::Calls(set, values)
 }
 
-/// Both halves of a reduction: the call of its operator, or the leftmost throw. The chapter "Steps and costs".
+/// Both halves of a reduction: the call of its operator, or the leftmost throw. The chapter "Steps
+/// and costs".
 ///
 /// # Errors
 ///
@@ -56,7 +58,8 @@ pub fn reduce_halves_row(
     first: &Shared<Term>,
     second: &Shared<Term>,
 ) -> Result<Deal, Memory>
-    ensures { IfOk result (λ deal. act_of deal ≡ once_all (first.now ∷ second.now ∷ []) (λ vs. calls set vs)) }
+    ensures { IfOk result (λ deal. act_of deal
+        ≡ once_all (first.now ∷ second.now ∷ []) (λ vs. calls set vs)) }
 {
     calls_by(alloc, set, both(alloc, first, second)?)
 }
@@ -71,7 +74,8 @@ pub fn for_halves_row(
     first: &Shared<Term>,
     second: &Shared<Term>,
 ) -> Result<Deal, Memory>
-    ensures { IfOk result (λ deal. act_of deal ≡ once_all (first.now ∷ second.now ∷ []) (λ vs. becomes (term_.Value unit))) }
+    ensures { IfOk result (λ deal. act_of deal
+        ≡ once_all (first.now ∷ second.now ∷ []) (λ vs. becomes (term_.Value unit))) }
 {
     unit_by(alloc, both(alloc, first, second)?)
 }
@@ -82,13 +86,15 @@ pub fn for_halves_row(
 ///
 /// `Memory` where memory is wanting.
 pub fn also_row(alloc: Global, blocks: &List<Shared<Term>>) -> Result<Deal, Memory>
-    ensures { IfOk result (λ deal. act_of deal ≡ once_all blocks.now (λ vs. becomes (term_.Value unit))) }
+    ensures { IfOk result (λ deal. act_of deal
+        ≡ once_all blocks.now (λ vs. becomes (term_.Value unit))) }
 {
     unit_by(alloc, together(alloc, blocks)?)
 }
 
 fn unit_by(alloc: Global, parts: AllParts) -> Result<Deal, Memory>
-    ensures { IfOk result (λ deal. act_of deal ≡ by_parts parts (λ vs. becomes (term_.Value unit))) }
+    ensures { IfOk result (λ deal. act_of deal
+        ≡ by_parts parts (λ vs. becomes (term_.Value unit))) }
 {
     match parts {
         AllParts::Values(_) => {
@@ -101,8 +107,8 @@ fn unit_by(alloc: Global, parts: AllParts) -> Result<Deal, Memory>
     }
 }
 
-/// A tuple that isn't a value: the leftmost throw, or the throw of `DepthExceeded` where all its parts are values. The chapter
-/// "Steps and costs".
+/// A tuple that isn't a value: the leftmost throw, or the throw of `DepthExceeded` where all its
+/// parts are values. The chapter "Steps and costs".
 ///
 /// # Errors
 ///
@@ -112,13 +118,15 @@ pub fn group_row(
     program: &Program,
     parts: &List<Shared<Term>>,
 ) -> Result<Deal, Memory>
-    ensures { IfOk result (λ deal. act_of deal ≡ once_all parts.now (λ vs. too_deep program.now (depth (Value.Tuple vs)))) }
+    ensures { IfOk result (λ deal. act_of deal
+        ≡ once_all parts.now (λ vs. too_deep program.now (depth (Value.Tuple vs)))) }
 {
     depth_by(alloc, program, together(alloc, parts)?)
 }
 
 fn depth_by(alloc: Global, program: &Program, parts: AllParts) -> Result<Deal, Memory>
-    ensures { IfOk result (λ deal. act_of deal ≡ by_parts parts (λ vs. too_deep program.now (depth (Value.Tuple vs)))) }
+    ensures { IfOk result (λ deal. act_of deal
+        ≡ by_parts parts (λ vs. too_deep program.now (depth (Value.Tuple vs)))) }
 {
     match parts {
         AllParts::Values(values) => {
@@ -134,14 +142,16 @@ fn depth_by(alloc: Global, program: &Program, parts: AllParts) -> Result<Deal, M
     }
 }
 
-/// A function that isn't a value: the throw of `DepthExceeded` where it holds all that it needs. The chapter "Steps and
-/// costs".
+/// A function that isn't a value: the throw of `DepthExceeded` where it holds all that it needs.
+/// The chapter "Steps and costs".
 ///
 /// # Errors
 ///
 /// `Memory` where memory is wanting.
 pub fn fn_row(alloc: Global, program: &Program, closure: &Closure) -> Result<Deal, Memory>
-    ensures { IfOk result (λ deal. act_of deal ≡ (if holds_all_of closure.now then too_deep program.now (closure_depth closure.now) else stuck)) }
+    ensures { IfOk result (λ deal. act_of deal
+        ≡ (if holds_all_of closure.now then too_deep program.now (closure_depth closure.now)
+        else stuck)) }
 {
     if holds_all(alloc, closure)? {
         if is_shallow_function(closure) {

@@ -21,8 +21,8 @@ pub fn thrown_row(alloc: Global, thrown: Value) -> Result<Deal, Memory>
     Ok(Deal::becomes(alloc, Shared::new(alloc, Term::Throw(value))?))
 }
 
-/// The throw of a built-in exception, or nothing where its type isn't one with one value. The chapter "Built-in
-/// declarations".
+/// The throw of a built-in exception, or nothing where its type isn't one with one value. The
+/// chapter "Built-in declarations".
 ///
 /// # Errors
 ///

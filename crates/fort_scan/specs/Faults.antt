@@ -1,4 +1,5 @@
--- The chapter "Tokens", which fault of a text is reported. The code stops at the first one that it meets.
+-- The chapter "Tokens", which fault of a text is reported. The code stops at the first one that it
+-- meets.
 use Rattle.std.specs.Prelude.{◌≡◌, ℕ, ◌≤◌, ◌+◌, List, ◌++◌, length}
 use Rattle.fort_base.specs.declared.refusal.Rule.{Rule}
 use Rattle.fort_base.specs.declared.refusal.Place.{Place}
@@ -8,7 +9,8 @@ use Rattle.fort_scan.specs.Gaps.{Gap, body}
 use Rattle.fort_scan.specs.Tokens.{Piece, IsPiece, Breaks, HasPieces}
 use Rattle.fort_scan.specs.Places.{place_at}
 
--- The text breaks the rule `at` characters from its front: some pieces, sound or not, a gap, and then the fault.
+-- The text breaks the rule `at` characters from its front: some pieces, sound or not, a gap, and
+-- then the fault.
 pub record BreaksAt (text : List ℕ) (at : ℕ) (r : Rule) : Type 0 where
   pub pieces : List Piece
   pub middle : List ℕ
@@ -28,7 +30,8 @@ pub record IsFirstFault (text : List ℕ) (at : ℕ) (r : Rule) : Type 0 where
   pub fault : BreaksAt text at r
   pub first : IsSoundBefore text at
 
--- More than n tokens stand before the earliest fault, if there is one: these n, and one more, which begins there.
+-- More than n tokens stand before the earliest fault, if there is one: these n, and one more, which
+-- begins there.
 pub record IsTooMany (n : ℕ) (text : List ℕ) (at : ℕ) : Type 0 where
   pub pieces : List Piece
   pub piece : Piece
@@ -47,7 +50,8 @@ pub record IsList (text : List ℕ) (pieces : List Piece) : Type 0 where
   pub only : (others : List Piece) → HasPieces text others → others ≡ pieces
   pub sound : (at : ℕ) (r : Rule) → BreaksAt text at r → ⊥
 
--- The rule is the first of 102 to 106 that the text breaks, with no 107 before it, and the place is where it does so.
+-- The rule is the first of 102 to 106 that the text breaks, with no 107 before it, and the place is
+-- where it does so.
 pub record IsFault (text : List ℕ) (r : Rule) (place : Place) : Type 0 where
   pub at : ℕ
   pub first : IsFirstFault text at r
@@ -55,7 +59,8 @@ pub record IsFault (text : List ℕ) (r : Rule) (place : Place) : Type 0 where
   pub none : (pieces : List Piece) → HasPieces text pieces → ⊥
   pub place_is : place ≡ place_at text at
 
--- 107: before the earliest fault there are too many tokens, and the place is that of the first one too many.
+-- 107: before the earliest fault there are too many tokens, and the place is that of the first one
+-- too many.
 pub record IsMany (text : List ℕ) (place : Place) : Type 0 where
   pub at : ℕ
   pub many : IsTooMany MOST_TOKENS text at

@@ -26,10 +26,12 @@ abbrev pub closes : List ℕ → Bool
 closes [] = false
 closes (c ∷ cs) = (c == 42) && begins_with 41 cs
 
--- what follows the `(*` of a comment, up to and with its `*)`: characters, and comments with their own `*)`
+-- what follows the `(*` of a comment, up to and with its `*)`: characters, and comments with their
+-- own `*)`
 pub data Inside : List ℕ → Type 0 where
   ends : {a : List ℕ} → a ≡ 42 ∷ 41 ∷ [] → Inside a
-  plain : {a : List ℕ} (c : ℕ) (b : List ℕ) → a ≡ c ∷ b → opens a ≡ false → closes a ≡ false → Inside b → Inside a
+  plain : {a : List ℕ} (c : ℕ) (b : List ℕ) → a ≡ c ∷ b → opens a ≡ false → closes a ≡ false
+      → Inside b → Inside a
   inner : {a : List ℕ} (x y : List ℕ) → a ≡ 40 ∷ 42 ∷ (x ++ y) → Inside x → Inside y → Inside a
 
 abbrev pub is_no_line_feed : ℕ → Bool
@@ -40,12 +42,15 @@ abbrev pub is_line_end : List ℕ → Bool
 is_line_end [] = true
 is_line_end (c ∷ cs) = c == 10
 
--- a part of a gap at the front of a text, and what follows it: a white character, `(*)` with the rest of its line, or a comment
+-- a part of a gap at the front of a text, and what follows it: a white character, `(*)` with the
+-- rest of its line, or a comment
 pub data Part (a text after : List ℕ) : Type 0 where
   white : (c : ℕ) → a ≡ c ∷ [] → text ≡ c ∷ after → is_white c ≡ true → Part a text after
-  line : (x : List ℕ) → a ≡ 40 ∷ 42 ∷ 41 ∷ x → text ≡ 40 ∷ 42 ∷ 41 ∷ (x ++ after) → every is_no_line_feed x ≡ true
+  line : (x : List ℕ) → a ≡ 40 ∷ 42 ∷ 41 ∷ x → text ≡ 40 ∷ 42 ∷ 41 ∷ (x ++ after)
+      → every is_no_line_feed x ≡ true
       → is_line_end after ≡ true → Part a text after
-  comment : (x : List ℕ) → a ≡ 40 ∷ 42 ∷ x → text ≡ 40 ∷ 42 ∷ (x ++ after) → begins_with 41 x ≡ false
+  comment : (x : List ℕ) → a ≡ 40 ∷ 42 ∷ x → text ≡ 40 ∷ 42 ∷ (x ++ after)
+      → begins_with 41 x ≡ false
       → Inside x → Part a text after
 
 -- no part of a gap begins the text

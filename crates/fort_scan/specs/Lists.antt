@@ -1,4 +1,5 @@
--- The chapter "Tokens": words on lists of characters that the other files share. The code asks the same of slices.
+-- The chapter "Tokens": words on lists of characters that the other files share. The code asks the
+-- same of slices.
 use Rattle.std.specs.Prelude.{ℕ, Bool, true, false, ◌&&◌, ◌||◌, ◌==◌, List, [], ◌∷◌}
 
 -- whether each character passes

@@ -8,7 +8,9 @@ use Rattle.fort_base.specs.declared.refusal.Gap.TheVariants.{Empty, Space, Line}
 abbrev pub place_after : Place → List ℕ → Place
 place_after p [] = p
 place_after p (c ∷ cs) =
-    place_after (cond (c == 10) (record { line = p.line + 1; column = 1 }) (record { line = p.line; column = p.column + 1 })) cs
+    place_after
+    (cond (c == 10) (record { line = p.line + 1; column = 1 })
+    (record { line = p.line; column = p.column + 1 })) cs
 
 -- where a text begins
 abbrev pub the_start : Place

@@ -1,5 +1,6 @@
--- The chapter "Tokens", no definition of it: what the scanning functions find, as functions of the text. The laws in proofs/ say
--- what these mean in the words of the other files, and no public clause cites them.
+-- The chapter "Tokens", no definition of it: what the scanning functions find, as functions of the
+-- text. The laws in proofs/ say what these mean in the words of the other files, and no public
+-- clause cites them.
 use Rattle.std.specs.Prelude.{ℕ, suc, ◌+◌, ◌<◌, ◌≤◌, ◌-◌, Bool, true, false, cond, ◌&&◌, ◌==◌, List, [], ◌∷◌, Option, None, Some, drop, get_or}
 use Rattle.std.specs.Option.{option_map, option_map_or}
 use Rattle.std.specs.List.{prefix_len}
@@ -13,21 +14,29 @@ use Rattle.fort_scan.specs.declared.gap.PartEnd.TheVariants.{Stop, Unclosed, Par
 abbrev pub mark_of : ℕ → Before
 mark_of c = cond (c == 40) Open (cond (c == 42) Star Other)
 
--- Where a comment ends, in the text behind its `(*`: how many characters go up to and with its `*)`, where depth further ones
--- inside it are still open, and mark says what stands directly before.
+-- Where a comment ends, in the text behind its `(*`: how many characters go up to and with its
+-- `*)`, where depth further ones inside it are still open, and mark says what stands directly
+-- before.
 abbrev pub comment_end : ℕ → Before → List ℕ → Option ℕ
 comment_end depth mark [] = None
-comment_end depth Open (c ∷ cs) = option_map suc (cond (c == 42) (comment_end (depth + 1) Other cs) (comment_end depth (mark_of c) cs))
-comment_end depth Star (c ∷ cs) = option_map suc (cond (c == 41) (cond (depth == 0) (Some 0) (comment_end (depth - 1) Other cs)) (comment_end depth (mark_of c) cs))
+comment_end depth Open (c ∷ cs) =
+    option_map suc
+    (cond (c == 42) (comment_end (depth + 1) Other cs) (comment_end depth (mark_of c) cs))
+comment_end depth Star (c ∷ cs) =
+    option_map suc
+    (cond (c == 41) (cond (depth == 0) (Some 0) (comment_end (depth - 1) Other cs))
+    (comment_end depth (mark_of c) cs))
 comment_end depth Other (c ∷ cs) = option_map suc (comment_end depth (mark_of c) cs)
 
 -- how many characters after the opening quote close a text
 abbrev pub text_end : Bool → List ℕ → Option ℕ
 text_end escaped [] = None
 text_end true (c ∷ cs) = cond (c == 10) None (option_map suc (text_end false cs))
-text_end false (c ∷ cs) = cond (c == 34) (Some 1) (cond (c == 10) None (option_map suc (text_end (c == 92) cs)))
+text_end false (c ∷ cs) =
+    cond (c == 34) (Some 1) (cond (c == 10) None (option_map suc (text_end (c == 92) cs)))
 
--- the part of a gap at the front of the text: how long it is, or that a comment isn't closed, or that there is none
+-- the part of a gap at the front of the text: how long it is, or that a comment isn't closed, or
+-- that there is none
 abbrev pub part_end : List ℕ → PartEnd
 part_end text = cond (is_white (get_or text 0 0)) (Part 1)
     (cond ((get_or text 0 0 == 40) && (get_or text 1 0 == 42))

@@ -1,4 +1,5 @@
--- The chapter "Tokens", the spellings of tokens by their shape. The code decides by the first character.
+-- The chapter "Tokens", the spellings of tokens by their shape. The code decides by the first
+-- character.
 use Rattle.std.specs.Prelude.{◌≡◌, ℕ, ◌≤◌, ◌+◌, ◌*◌, ◌-◌, Bool, true, false, cond, not, ◌&&◌, ◌||◌, ◌==◌, List, [], ◌∷◌, ◌++◌, length, codes}
 use Rattle.unicode_ident.specs.Ident.{is_xid_start, is_xid_continue}
 use Rattle.std.specs.Char.{is_ascii_digit}
@@ -20,11 +21,13 @@ abbrev pub is_number : List ℕ → Bool
 is_number [] = false
 is_number (c ∷ cs) = is_ascii_digit c && every is_ascii_digit cs
 
--- What follows the opening quote of a text, up to its closing one, on one line. After a `\` (escaped) a quote doesn't close.
+-- What follows the opening quote of a text, up to its closing one, on one line. After a `\`
+-- (escaped) a quote doesn't close.
 abbrev pub closes_text : Bool → List ℕ → Bool
 closes_text escaped [] = false
 closes_text true (c ∷ cs) = not (c == 10) && closes_text false cs
-closes_text false (c ∷ cs) = cond (c == 34) (is_empty cs) (not (c == 10) && closes_text (c == 92) cs)
+closes_text false (c ∷ cs) =
+    cond (c == 34) (is_empty cs) (not (c == 10) && closes_text (c == 92) cs)
 
 -- a character of the general category Cc
 abbrev pub is_control : ℕ → Bool
@@ -64,7 +67,8 @@ is_spelling w = is_name w || (is_number w || (is_text w || is_symbol w))
 -- Of the text w ++ rest, w is the longest front that is a spelling.
 pub record Longest (w rest : List ℕ) : Type 0 where
   pub fits : is_spelling w ≡ true
-  pub longest : (v more : List ℕ) → is_spelling v ≡ true → w ++ rest ≡ v ++ more → length v ≤ length w
+  pub longest : (v more : List ℕ) → is_spelling v ≡ true → w ++ rest ≡ v ++ more
+      → length v ≤ length w
 
 -- the number that digits write, behind a number already read
 abbrev pub decimal : ℕ → List ℕ → ℕ

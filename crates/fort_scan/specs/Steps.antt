@@ -1,4 +1,5 @@
--- The chapter "Tokens", one step of the scan: what stands next in a text. The code reads a gap and then a word.
+-- The chapter "Tokens", one step of the scan: what stands next in a text. The code reads a gap and
+-- then a word.
 use Rattle.std.specs.Prelude.{◌≡◌, ℕ, ◌≤◌, ◌<◌, ◌+◌, List, [], length, take, drop}
 use Rattle.fort_base.specs.declared.rules.TheConstants.{BAD_CHARACTER}
 use Rattle.fort_base.specs.declared.refusal.Rule.{Rule}
@@ -20,7 +21,8 @@ pub record IsNext (text : List ℕ) (gap word : ℕ) (s : Shape) : Type 0 where
   pub some : 0 < word
   pub within : gap + word ≤ length text
 
--- At the front stands a number, and directly behind it a name's character; nothing is broken before that.
+-- At the front stands a number, and directly behind it a name's character; nothing is broken before
+-- that.
 pub record IsStuck (text : List ℕ) (gap word : ℕ) : Type 0 where
   pub is : IsPiece (piece_at text gap word) text (drop (gap + word) text)
   pub fault : Breaks (drop gap text) word BAD_CHARACTER
@@ -28,7 +30,8 @@ pub record IsStuck (text : List ℕ) (gap word : ℕ) : Type 0 where
   pub some : 0 < word
   pub within : gap + word ≤ length text
 
--- Behind the text's gap a rule is broken, n characters from the front; no fault there is earlier, and no word ends before it.
+-- Behind the text's gap a rule is broken, n characters from the front; no fault there is earlier,
+-- and no word ends before it.
 pub record IsBroken (r : Rule) (text : List ℕ) (n : ℕ) : Type 0 where
   pub rest : List ℕ
   pub k : ℕ

@@ -120,7 +120,8 @@ pub fn gap_len(text: &[char]) -> Result<usize, usize>
     requires { length text.now < 2 ^ 32 }
     ensures gap { IfOk result (λ n. Gap text.now (drop n text.now) × (n ≤ length text.now)) }
     ensures apart { IfOk result (λ n. opens (drop n text.now) ≡ false) }
-    ensures unclosed { IfErr result (λ n. Gap text.now (drop n text.now) × IsOpenComment (drop n text.now)
+    ensures unclosed { IfErr result (λ n. Gap text.now (drop n text.now)
+        × IsOpenComment (drop n text.now)
         × (n ≤ length text.now)) }
 {
     let mut len = 0usize;

@@ -50,9 +50,11 @@ impl Scope {
         self.bindings.len()
     }
 
-    /// Keeps the first bindings, as many as the mark says, and drops the others, which costs what it drops; it takes no memory.
+    /// Keeps the first bindings, as many as the mark says, and drops the others, which costs what
+    /// it drops; it takes no memory.
     ///
-    /// So a scope is after `leave` what it was at the `enter` that gave the mark, if names were only bound since.
+    /// So a scope is after `leave` what it was at the `enter` that gave the mark, if names were
+    /// only bound since.
     pub fn leave(&mut self, mark: usize)
         ensures { self.new ≡ take mark self.old }
     {
@@ -61,8 +63,9 @@ impl Scope {
 
     /// Binds a name.
     ///
-    /// It refuses 613 at `place` exactly where a binding of that name is there, and answers `Memory` where memory is wanting. After
-    /// either the bindings are as before. The chapter "Names in scope".
+    /// It refuses 613 at `place` exactly where a binding of that name is there, and answers
+    /// `Memory` where memory is wanting. After either the bindings are as before. The chapter
+    /// "Names in scope".
     pub fn bind(
         &mut self,
         name: NameId,
@@ -71,7 +74,9 @@ impl Scope {
         mutable: bool,
     ) -> Result<(), CheckFault>
         ensures fresh { IfOk result (λ _. IsBound self.old name → ⊥) }
-        ensures bound { OnOk result (self.new ≡ self.old ++ record { name = name; place = place; ty = ty; mutable = mutable } ∷ []) }
+        ensures bound { OnOk result (self.new
+            ≡ self.old ++ record { name = name; place = place; ty = ty; mutable = mutable }
+            ∷ []) }
         ensures fault { IfErr result (λ fault. IsFault self.old name place fault) }
         ensures unchanged { OnErr result (self.new ≡ self.old) }
     {

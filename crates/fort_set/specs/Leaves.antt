@@ -1,4 +1,5 @@
--- The chapter "Overload rules": which declared types are objects or leaves, as a list of truths. The code reads it place by place.
+-- The chapter "Overload rules": which declared types are objects or leaves, as a list of truths.
+-- The code reads it place by place.
 use Rattle.std.specs.Prelude.{Bool, true, false, List, map}
 use Rattle.fort_types.specs.declared.hierarchy.DeclaredType.{DeclaredType}
 use Rattle.fort_types.specs.declared.hierarchy.TypeKind.{TypeKind}

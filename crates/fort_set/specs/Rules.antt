@@ -22,15 +22,20 @@ HasNamed d at t = (x : Ty) × (slice_get d.parameters at ≡ Some x) × (out-Ty 
 -- What a set of a component's members is, whatever its declarations say.
 pub record IsWellMade (h : DeclaredTypes) (s : MemberSet) : Type 0 where
   -- all its declarations have one number of parameters
-  pub width : (i j : ℕ) (p q : Member) → StandsAt s i p → StandsAt s j q → length p.parameters ≡ length q.parameters
+  pub width : (i j : ℕ) (p q : Member) → StandsAt s i p → StandsAt s j q
+      → length p.parameters ≡ length q.parameters
   -- a dotted method's first parameter is a declared type, its receiver
-  pub receivers : s.dotted ≡ true → (i : ℕ) (d : Member) → StandsAt s i d → (t : TypeId) × HasNamed d 0 t
+  pub receivers : s.dotted ≡ true → (i : ℕ) (d : Member) → StandsAt s i d
+      → (t : TypeId) × HasNamed d 0 t
   -- the type of an owner stands at its position
-  pub owners : (i at : ℕ) (d : Member) (t : TypeId) → StandsAt s i d → d.owner ≡ Some (at, t) → HasNamed d at t
+  pub owners : (i at : ℕ) (d : Member) (t : TypeId) → StandsAt s i d → d.owner ≡ Some (at, t)
+      → HasNamed d at t
   -- an abstract declaration has an owner
-  pub owned : (i : ℕ) (d : Member) → StandsAt s i d → d.kind ≡ a_kind.Abstract → (at : ℕ) × (t : TypeId) × (d.owner ≡ Some (at, t))
+  pub owned : (i : ℕ) (d : Member) → StandsAt s i d → d.kind ≡ a_kind.Abstract
+      → (at : ℕ) × (t : TypeId) × (d.owner ≡ Some (at, t))
   -- the declared types in parameters and results are those of the hierarchy
-  pub parameters : (i k : ℕ) (d : Member) (x : Ty) → StandsAt s i d → slice_get d.parameters k ≡ Some x → IsNumbered (length h) x
+  pub parameters : (i k : ℕ) (d : Member) (x : Ty) → StandsAt s i d
+      → slice_get d.parameters k ≡ Some x → IsNumbered (length h) x
   pub results : (i : ℕ) (d : Member) → StandsAt s i d → IsNumbered (length h) d.result
 
 -- A set keeps the overload rules.
@@ -38,4 +43,5 @@ pub record KeepsRules (h : DeclaredTypes) (s : MemberSet) : Type 0 where
   -- each two declarations pass
   pub pairs : (i j : ℕ) (p q : Member) → StandsAt s i p → StandsAt s j q → i < j → Passes h s p q
   -- each abstract declaration is covered for each object below its type
-  pub covered : (i at : ℕ) (d : Member) (t o : TypeId) → StandsAt s i d → IsAbstractOf d at t → IsObjectBelow h o t → IsCovered h s d at o
+  pub covered : (i at : ℕ) (d : Member) (t o : TypeId) → StandsAt s i d → IsAbstractOf d at t
+      → IsObjectBelow h o t → IsCovered h s d at o

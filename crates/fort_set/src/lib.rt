@@ -1,4 +1,5 @@
-//! Overload sets and their rules, over the types: what each crate that makes, judges or reads them means by them.
+//! Overload sets and their rules, over the types: what each crate that makes, judges or reads them
+//! means by them.
 #![tactic(auto)]
 
 mod field;

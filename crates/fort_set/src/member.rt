@@ -7,9 +7,11 @@ use fort_base::{Bytes, List, Place, Ty, TypeId};
 pub struct Members {
     /// The place of the name of each type, by the types' numbers; `None` for a built-in one.
     pub places: List<Option<Place>>,
-    /// Whether each type is an object or a leaf, by the types' numbers, so that the overload rules need no tree.
+    /// Whether each type is an object or a leaf, by the types' numbers, so that the overload rules
+    /// need no tree.
     pub objects: List<bool>,
-    /// The fields of each type, by the types' numbers: the ones that it declares in their order, and behind them inherited ones.
+    /// The fields of each type, by the types' numbers: the ones that it declares in their order,
+    /// and behind them inherited ones.
     pub fields: List<List<Field>>,
     /// All overload sets, in the order of their first declarations, built-in ones first.
     pub sets: List<MemberSet>,
@@ -24,19 +26,22 @@ pub struct MemberSet {
     pub name: Bytes,
     /// Whether these are dotted methods.
     pub dotted: bool,
-    /// The declarations: built-in ones, then the component's in source order. There is at least one.
+    /// The declarations: built-in ones, then the component's in source order. There is at least
+    /// one.
     pub members: List<Member>,
 }
 
 /// A declaration of an overload set.
 #[derive(Drop)]
 pub struct Member {
-    /// The place of its first token; `None` for a built-in one. A constructor's is that of the object's name.
+    /// The place of its first token; `None` for a built-in one. A constructor's is that of the
+    /// object's name.
     pub place: Option<Place>,
     /// The types of its parameters; a dotted method's receiver is the first.
     pub parameters: List<Ty>,
     pub result: Ty,
-    /// The position of `self` or of the receiver, counted from 0, with its type; `None` where it is no method.
+    /// The position of `self` or of the receiver, counted from 0, with its type; `None` where it is
+    /// no method.
     pub owner: Option<(u32, TypeId)>,
     pub kind: MemberKind,
 }

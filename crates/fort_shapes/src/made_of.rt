@@ -115,7 +115,8 @@ fn shape_of(
     object: bool,
     fields: &List<Field>,
 ) -> Result<CoreShape, Memory>
-    ensures { IfOk result (λ shape. shape ≡ shape_of texts.now initials.now sets.now (record { 0 = at }) base object fields.now) }
+    ensures { IfOk result (λ shape. shape
+        ≡ shape_of texts.now initials.now sets.now (record { 0 = at }) base object fields.now) }
 {
     if at > u32::MAX as usize {
         return Err(Memory);
@@ -174,7 +175,10 @@ fn add_own(
     base: u64,
     list: &mut List<CoreShape>,
 ) -> Result<(), Memory>
-    ensures { OnOk result (list.new ≡ list.old ++ own_shapes texts.now initials.now members.now.sets TYPE_COUNT base (drop TYPE_COUNT members.now.objects) (drop TYPE_COUNT members.now.fields)) }
+    ensures { OnOk result (list.new
+        ≡ list.old
+        ++ own_shapes texts.now initials.now members.now.sets TYPE_COUNT base
+        (drop TYPE_COUNT members.now.objects) (drop TYPE_COUNT members.now.fields)) }
 {
     let sets = members.sets.as_slice();
     add_shapes(
@@ -200,7 +204,10 @@ fn add_shapes(
     fields: &[List<Field>],
     list: &mut List<CoreShape>,
 ) -> Result<(), Memory>
-    ensures { OnOk result (list.new ≡ list.old ++ own_shapes texts.now initials.now sets.now TYPE_COUNT base (drop TYPE_COUNT objects.now) (drop TYPE_COUNT fields.now)) }
+    ensures { OnOk result (list.new
+        ≡ list.old
+        ++ own_shapes texts.now initials.now sets.now TYPE_COUNT base
+        (drop TYPE_COUNT objects.now) (drop TYPE_COUNT fields.now)) }
 {
     let mut next = base;
     for at in TYPE_COUNT..objects.len() {

@@ -52,7 +52,8 @@ fn variable_value(
     initials: &[Initial],
     name: NameId,
 ) -> Result<Value, Memory>
-    ensures { IfOk result (λ value. value ≡ unwrap_or (initial_of texts.now initials.now None name) unit) }
+    ensures { IfOk result (λ value. value
+        ≡ unwrap_or (initial_of texts.now initials.now None name) unit) }
 {
     let found = initial_value(alloc, texts, initials, None, name)?;
     value_or_unit(alloc, found)
@@ -71,7 +72,9 @@ pub fn opening(
     variables: &[Field],
     shapes: &[CoreShape],
 ) -> Result<List<(Loc, Value)>, Memory>
-    ensures { IfOk result (λ opening. opening ≡ variables_from texts.now initials.now 0 variables.now ++ flat_map held_by shapes.now) }
+    ensures { IfOk result (λ opening. opening
+        ≡ variables_from texts.now initials.now 0 variables.now
+        ++ flat_map held_by shapes.now) }
 {
     let mut opening = List::new(alloc);
     let mut place = 0;
@@ -136,7 +139,8 @@ pub fn opening_types(
     variables: &[Field],
     shapes: &[CoreShape],
 ) -> Result<List<(Loc, Ty)>, Memory>
-    ensures { IfOk result (λ types. types ≡ variable_types 0 variables.now ++ flat_map types_by shapes.now) }
+    ensures { IfOk result (λ types. types
+        ≡ variable_types 0 variables.now ++ flat_map types_by shapes.now) }
 {
     let mut types = List::new(alloc);
     let mut place = 0;

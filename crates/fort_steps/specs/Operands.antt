@@ -1,4 +1,5 @@
--- Chapter "Steps and costs": how operands stand, which go from left to right, as the code finds it. These are means to meet the chapter's words.
+-- Chapter "Steps and costs": how operands stand, which go from left to right, as the code finds it.
+-- These are means to meet the chapter's words.
 use Rattle.std.specs.Prelude.{List, [], ◌∷◌, ◌++◌}
 use Rattle.fort_core.specs.declared.term.Term.{Term}
 use Rattle.fort_core.specs.declared.value.Value.{Value}

@@ -36,7 +36,8 @@ pub fn deal_at_value(
     frame: &Frame,
     value: &Value,
 ) -> Result<Deal, Memory>
-    ensures { IfOk result (λ deal. act_of deal ≡ act program.now (on (frame_of frame.now) (term_.Value value.now))) }
+    ensures { IfOk result (λ deal. act_of deal
+        ≡ act program.now (on (frame_of frame.now) (term_.Value value.now))) }
 {
     match frame {
         Frame::Node(node) => {
@@ -103,7 +104,8 @@ pub fn deal_at_throw(
     frame: &Frame,
     thrown: &Value,
 ) -> Result<Deal, Memory>
-    ensures { IfOk result (λ deal. act_of deal ≡ act program.now (on (frame_of frame.now) (throw_of thrown.now))) }
+    ensures { IfOk result (λ deal. act_of deal
+        ≡ act program.now (on (frame_of frame.now) (throw_of thrown.now))) }
 {
     match frame {
         Frame::Node(node) => {

@@ -27,7 +27,9 @@ pub(crate) fn fill(
     size: &Shared<Term>,
     value: &Shared<Term>,
 ) -> Result<Deal, Memory>
-    ensures { IfOk result (λ deal. act_of deal ≡ after size.now (λ size. after value.now (λ v. filling program.now ty.now v (out-Value size)))) }
+    ensures { IfOk result (λ deal. act_of deal
+        ≡ after size.now
+        (λ size. after value.now (λ v. filling program.now ty.now v (out-Value size)))) }
 {
     match standing_of(size.get()) {
         Stand::Value(size) => fill_of_size(alloc, program, ty, size, value),
@@ -43,7 +45,8 @@ pub(crate) fn fill_of_size(
     size: &Value,
     value: &Shared<Term>,
 ) -> Result<Deal, Memory>
-    ensures { IfOk result (λ deal. act_of deal ≡ after value.now (λ v. filling program.now ty.now v (out-Value size.now))) }
+    ensures { IfOk result (λ deal. act_of deal
+        ≡ after value.now (λ v. filling program.now ty.now v (out-Value size.now))) }
 {
     match standing_of(value.get()) {
         Stand::Value(value) => fill_row(alloc, program, ty.share()?, value.share()?, size),
@@ -58,7 +61,8 @@ pub(crate) fn local(
     first: &Shared<Term>,
     rest: &Shared<Term>,
 ) -> Result<Deal, Memory>
-    ensures { IfOk result (λ deal. act_of deal ≡ after first.now (λ v. binding (bound_to variables.now v) rest.now)) }
+    ensures { IfOk result (λ deal. act_of deal
+        ≡ after first.now (λ v. binding (bound_to variables.now v) rest.now)) }
 {
     match standing_of(first.get()) {
         Stand::Value(value) => let_row(alloc, variables, value, rest),
@@ -73,7 +77,8 @@ pub(crate) fn mutable(
     first: &Shared<Term>,
     rest: &Shared<Term>,
 ) -> Result<Deal, Memory>
-    ensures { IfOk result (λ deal. act_of deal ≡ after first.now (λ v. makes (v ∷ []) (λ l. located variable l rest.now) 1)) }
+    ensures { IfOk result (λ deal. act_of deal
+        ≡ after first.now (λ v. makes (v ∷ []) (λ l. located variable l rest.now) 1)) }
 {
     match standing_of(first.get()) {
         Stand::Value(value) => Ok(mutable_row(variable, value.share()?, rest.share()?)),
@@ -88,7 +93,8 @@ pub(crate) fn read_field(
     object: &Shared<Term>,
     field: NameId,
 ) -> Result<Deal, Memory>
-    ensures { IfOk result (λ deal. act_of deal ≡ after object.now (λ v. reading_at (field_of program.now field (out-Value v)))) }
+    ensures { IfOk result (λ deal. act_of deal
+        ≡ after object.now (λ v. reading_at (field_of program.now field (out-Value v)))) }
 {
     match standing_of(object.get()) {
         Stand::Value(object) => read_field_row(program, object, field),
@@ -103,7 +109,10 @@ pub(crate) fn read_element(
     array: &Shared<Term>,
     index: &Shared<Term>,
 ) -> Result<Deal, Memory>
-    ensures { IfOk result (λ deal. act_of deal ≡ after array.now (λ v. after index.now (λ w. by_element program.now (out-Value v) (out-Value w) reading_at))) }
+    ensures { IfOk result (λ deal. act_of deal
+        ≡ after array.now
+        (λ v. after index.now
+        (λ w. by_element program.now (out-Value v) (out-Value w) reading_at))) }
 {
     match standing_of(array.get()) {
         Stand::Value(array) => read_element_of(alloc, program, array, index),
@@ -118,7 +127,9 @@ pub(crate) fn read_element_of(
     array: &Value,
     index: &Shared<Term>,
 ) -> Result<Deal, Memory>
-    ensures { IfOk result (λ deal. act_of deal ≡ after index.now (λ w. by_element program.now (out-Value array.now) (out-Value w) reading_at)) }
+    ensures { IfOk result (λ deal. act_of deal
+        ≡ after index.now
+        (λ w. by_element program.now (out-Value array.now) (out-Value w) reading_at)) }
 {
     match standing_of(index.get()) {
         Stand::Value(index) => read_element_row(alloc, program, array, index),
@@ -144,7 +155,9 @@ pub(crate) fn write_field(
     field: NameId,
     value: &Shared<Term>,
 ) -> Result<Deal, Memory>
-    ensures { IfOk result (λ deal. act_of deal ≡ after object.now (λ v. after value.now (writing_at (field_of program.now field (out-Value v))))) }
+    ensures { IfOk result (λ deal. act_of deal
+        ≡ after object.now
+        (λ v. after value.now (writing_at (field_of program.now field (out-Value v))))) }
 {
     match standing_of(object.get()) {
         Stand::Value(object) => write_field_of(alloc, program, object, field, value),
@@ -160,7 +173,8 @@ pub(crate) fn write_field_of(
     field: NameId,
     value: &Shared<Term>,
 ) -> Result<Deal, Memory>
-    ensures { IfOk result (λ deal. act_of deal ≡ after value.now (writing_at (field_of program.now field (out-Value object.now)))) }
+    ensures { IfOk result (λ deal. act_of deal
+        ≡ after value.now (writing_at (field_of program.now field (out-Value object.now)))) }
 {
     match standing_of(value.get()) {
         Stand::Value(value) => write_field_row(program, object, field, value.share()?),
@@ -176,7 +190,11 @@ pub(crate) fn write_element(
     index: &Shared<Term>,
     value: &Shared<Term>,
 ) -> Result<Deal, Memory>
-    ensures { IfOk result (λ deal. act_of deal ≡ after array.now (λ v. after index.now (λ w. after value.now (λ u. by_element program.now (out-Value v) (out-Value w) (λ l. writing_at l u))))) }
+    ensures { IfOk result (λ deal. act_of deal
+        ≡ after array.now
+        (λ v. after index.now
+        (λ w. after value.now
+        (λ u. by_element program.now (out-Value v) (out-Value w) (λ l. writing_at l u))))) }
 {
     match standing_of(array.get()) {
         Stand::Value(array) => write_element_of(alloc, program, array, index, value),
@@ -192,7 +210,11 @@ pub(crate) fn write_element_of(
     index: &Shared<Term>,
     value: &Shared<Term>,
 ) -> Result<Deal, Memory>
-    ensures { IfOk result (λ deal. act_of deal ≡ after index.now (λ w. after value.now (λ u. by_element program.now (out-Value array.now) (out-Value w) (λ l. writing_at l u)))) }
+    ensures { IfOk result (λ deal. act_of deal
+        ≡ after index.now
+        (λ w. after value.now
+        (λ u. by_element program.now (out-Value array.now) (out-Value w)
+        (λ l. writing_at l u)))) }
 {
     match standing_of(index.get()) {
         Stand::Value(index) => write_element_at(alloc, program, array, index, value),
@@ -208,7 +230,10 @@ pub(crate) fn write_element_at(
     index: &Value,
     value: &Shared<Term>,
 ) -> Result<Deal, Memory>
-    ensures { IfOk result (λ deal. act_of deal ≡ after value.now (λ u. by_element program.now (out-Value array.now) (out-Value index.now) (λ l. writing_at l u))) }
+    ensures { IfOk result (λ deal. act_of deal
+        ≡ after value.now
+        (λ u. by_element program.now (out-Value array.now) (out-Value index.now)
+        (λ l. writing_at l u))) }
 {
     match standing_of(value.get()) {
         Stand::Value(value) => write_element_row(alloc, program, array, index, value.share()?),
@@ -243,7 +268,8 @@ pub(crate) fn choice(
     yes: &Shared<Term>,
     no: &Shared<Term>,
 ) -> Result<Deal, Memory>
-    ensures { IfOk result (λ deal. act_of deal ≡ after test.now (λ v. choosing (out-Value v) yes.now no.now)) }
+    ensures { IfOk result (λ deal. act_of deal
+        ≡ after test.now (λ v. choosing (out-Value v) yes.now no.now)) }
 {
     match standing_of(test.get()) {
         Stand::Value(test) => if_row(alloc, test, yes, no),
@@ -260,7 +286,11 @@ pub(crate) fn typecase(
     clauses: &List<(Shared<Term>, Shared<Ty>)>,
     other: &Shared<Term>,
 ) -> Result<Deal, Memory>
-    ensures { IfOk result (λ deal. act_of deal ≡ after subject.now (λ v. becomes (clause_for program.now v clauses.now (substituted variable v other.now) (substituted variable v)))) }
+    ensures { IfOk result (λ deal. act_of deal
+        ≡ after subject.now
+        (λ v. becomes
+        (clause_for program.now v clauses.now (substituted variable v other.now)
+        (substituted variable v)))) }
 {
     match standing_of(subject.get()) {
         Stand::Value(subject) => { typecase_row(alloc, program, variable, subject, clauses, other) }
@@ -277,7 +307,8 @@ pub(crate) fn generator(
     source: &Shared<Term>,
     body: &Shared<Term>,
 ) -> Result<Deal, Memory>
-    ensures { IfOk result (λ deal. act_of deal ≡ after source.now (λ v. generating order span variable v body.now)) }
+    ensures { IfOk result (λ deal. act_of deal
+        ≡ after source.now (λ v. generating order span variable v body.now)) }
 {
     match standing_of(source.get()) {
         Stand::Value(source) => for_row(alloc, order, span, variable, source, body),
@@ -296,7 +327,8 @@ pub(crate) fn reduction(
     source: &Shared<Term>,
     body: &Shared<Term>,
 ) -> Result<Deal, Memory>
-    ensures { IfOk result (λ deal. act_of deal ≡ after source.now (λ v. reducing order span set empty.now variable v body.now)) }
+    ensures { IfOk result (λ deal. act_of deal
+        ≡ after source.now (λ v. reducing order span set empty.now variable v body.now)) }
 {
     match standing_of(source.get()) {
         Stand::Value(source) => {
@@ -326,7 +358,8 @@ pub(crate) fn guarded(
     clauses: &List<(Shared<Term>, Shared<Ty>)>,
     last: &Option<Shared<Term>>,
 ) -> Result<Deal, Memory>
-    ensures { IfOk result (λ deal. act_of deal ≡ trying program.now variable clauses.now last.now (standing body.now)) }
+    ensures { IfOk result (λ deal. act_of deal
+        ≡ trying program.now variable clauses.now last.now (standing body.now)) }
 {
     match standing_of(body.get()) {
         Stand::Value(value) => try_value_row(alloc, value.share()?, last),

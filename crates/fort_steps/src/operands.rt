@@ -54,7 +54,10 @@ pub(crate) fn operator_at_value(
     value: &Value,
     operands: &List<Shared<Term>>,
 ) -> Result<Deal, Memory>
-    ensures { IfOk result (λ deal. act_of deal ≡ after_all (map term_.Value values.now ++ term_.Value value.now ∷ drop (length values.now + 1) operands.now) (calls set)) }
+    ensures { IfOk result (λ deal. act_of deal
+        ≡ after_all
+        (map term_.Value values.now ++ term_.Value value.now
+        ∷ drop (length values.now + 1) operands.now) (calls set)) }
 {
     let mut all = share_values(alloc, values)?;
     all.push(value.share()?)?;
@@ -88,7 +91,8 @@ fn operands_from(
     operands: &List<Shared<Term>>,
     from: usize,
 ) -> Result<Operands, Memory>
-    ensures { IfOk result (λ found. found ≡ after_values values (standing_in_order (drop from operands.now))) }
+    ensures { IfOk result (λ found. found
+        ≡ after_values values (standing_in_order (drop from operands.now))) }
 {
     let mut values = values;
     let items = operands.as_slice();

@@ -59,7 +59,8 @@ fn deal_of_apply(
 // Both halves of a `for`, by its parts.
 #[tactic(auto, using(crate::proofs::Groups::fors))]
 fn deal_of_for(alloc: Global, program: &Program, parts: &List<Shared<Term>>) -> Result<Deal, Memory>
-    ensures { IfOk result (λ deal. act_of deal ≡ act program.now (of_two Term.ForHalves parts.now)) }
+    ensures { IfOk result (λ deal. act_of deal
+        ≡ act program.now (of_two Term.ForHalves parts.now)) }
 {
     let items = parts.as_slice();
     if items.len() == 2 {
@@ -77,7 +78,8 @@ fn deal_of_reduction(
     set: SetId,
     parts: &List<Shared<Term>>,
 ) -> Result<Deal, Memory>
-    ensures { IfOk result (λ deal. act_of deal ≡ act program.now (of_two (Term.ReduceHalves set) parts.now)) }
+    ensures { IfOk result (λ deal. act_of deal
+        ≡ act program.now (of_two (Term.ReduceHalves set) parts.now)) }
 {
     let items = parts.as_slice();
     if items.len() == 2 {
@@ -100,7 +102,8 @@ pub(crate) fn deal_with_part(
     node: &Node,
     part: Shared<Term>,
 ) -> Result<Deal, Memory>
-    ensures { IfOk result (λ deal. act_of deal ≡ act program.now (on (frame_of_node node.now) part)) }
+    ensures { IfOk result (λ deal. act_of deal
+        ≡ act program.now (on (frame_of_node node.now) part)) }
 {
     let mut parts = node.parts.share(alloc)?;
     parts.set(node.at, part);

@@ -28,7 +28,8 @@ impl Store {
         }
     }
 
-    /// The store that a program begins with: the top-level variables and the fields of the single objects. The chapter "Runs".
+    /// The store that a program begins with: the top-level variables and the fields of the single
+    /// objects. The chapter "Runs".
     ///
     /// # Errors
     ///
@@ -47,23 +48,23 @@ impl Store {
         Ok(store)
     }
 
-    /// The value at a location, or `None` where the store hasn't the location; it takes no memory, and constant time on
-    /// average. The chapter "Store and effects".
+    /// The value at a location, or `None` where the store hasn't the location; it takes no memory,
+    /// and constant time on average. The chapter "Store and effects".
     pub fn look(&self, loc: Loc) -> Option<&Value>
         ensures { option_copied result ≡ held self.now loc.0 }
     {
         self.values.get(&loc.0)
     }
 
-    /// Puts a value at a location, in the place of the one that is there; every other location keeps its value. It takes
-    /// constant time on average. The chapter "Store and effects".
+    /// Puts a value at a location, in the place of the one that is there; every other location
+    /// keeps its value. It takes constant time on average. The chapter "Store and effects".
     ///
     /// A new location takes one place of the room at most, a location that is there takes none.
     ///
     /// # Errors
     ///
-    /// `Memory` where memory is wanting, and then the location is new and there was no room: the store is as it was, and the
-    /// value is dropped.
+    /// `Memory` where memory is wanting, and then the location is new and there was no room: the
+    /// store is as it was, and the value is dropped.
     pub fn put(&mut self, loc: Loc, value: Value) -> Result<(), Memory>
         ensures ok { OnOk result (held self.new ≡ put loc.0 value (held self.old)) }
         ensures err { OnErr result (held self.new ≡ held self.old) }
@@ -80,11 +81,13 @@ impl Store {
         Ok(())
     }
 
-    /// Makes room for `more` new locations: the next `more` calls of `put` can't fail, whatever they put. No value changes.
+    /// Makes room for `more` new locations: the next `more` calls of `put` can't fail, whatever
+    /// they put. No value changes.
     ///
     /// # Errors
     ///
-    /// `Memory` where memory is wanting, and then there was less room: the room is as it was or larger.
+    /// `Memory` where memory is wanting, and then there was less room: the room is as it was or
+    /// larger.
     pub fn room(&mut self, more: u64) -> Result<(), Memory>
         ensures held { held self.new ≡ held self.old }
         ensures ok { OnOk result (more ≤ room self.new) }

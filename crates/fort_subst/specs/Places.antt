@@ -1,4 +1,5 @@
--- Chapter "Substitution": a value or a location in the place of a variable, as one. The code has one function for both.
+-- Chapter "Substitution": a value or a location in the place of a variable, as one. The code has
+-- one function for both.
 use Rattle.std.specs.Prelude.{ℕ, ◌==◌, Bool, true, false, if◌then◌else◌, List}
 use Rattle.fort_core.specs.declared.form.Slot.{Slot}
 use Rattle.fort_core.specs.declared.term.Term.{Term, out-Term}
@@ -36,7 +37,8 @@ abbrev pub function_placed : Put → Closure → Term
 function_placed (Given x v) c = function (held_by x v c)
 function_placed (Located x l) c = function_with c (placed (Located x l) c.body)
 
--- The pairs behind those that were gone over, with a new one in its place among them where it isn't among the others.
+-- The pairs behind those that were gone over, with a new one in its place among them where it isn't
+-- among the others.
 abbrev pub held_behind : ℕ → Value → Bool → List (ℕ × Value) → List (ℕ × Value)
 held_behind x v true hs = hs
 held_behind x v false hs = put_held x v hs

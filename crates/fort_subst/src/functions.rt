@@ -31,7 +31,8 @@ pub fn function(alloc: Global, closure: Closure) -> Result<Term, Memory>
 }
 
 fn is_value(alloc: Global, closure: &Closure) -> Result<bool, Memory>
-    ensures { IfOk result (λ is. is ≡ (holds_all_of closure.now && nat_le (closure_depth closure.now) deepest)) }
+    ensures { IfOk result (λ is. is
+        ≡ (holds_all_of closure.now && nat_le (closure_depth closure.now) deepest)) }
 {
     Ok(holds_all(alloc, closure)? && is_shallow_function(closure))
 }
@@ -41,7 +42,8 @@ pub(crate) fn same_function(
     alloc: Global,
     closure: &Shared<Closure>,
 ) -> Result<Option<Shared<Term>>, Memory>
-    ensures { IfOk result (λ found. Changes (λ _. function_of closure.now) (Term.Fn closure.now) found) }
+    ensures { IfOk result
+        (λ found. Changes (λ _. function_of closure.now) (Term.Fn closure.now) found) }
 {
     if is_value(alloc, closure.get())? {
         let function = Value::Function(closure.share()?);
@@ -58,7 +60,9 @@ pub(crate) fn holding(
     variable: u32,
     value: &Value,
 ) -> Result<Option<Shared<Term>>, Memory>
-    ensures { IfOk result (λ found. Changes (λ _. function_of (held_by variable value.now closure.now)) (Term.Fn closure.now) found) }
+    ensures { IfOk result
+        (λ found. Changes (λ _. function_of (held_by variable value.now closure.now))
+        (Term.Fn closure.now) found) }
 {
     if occurs(closure.get().body.get(), variable) {
         let held = put_held(alloc, variable, value, &closure.get().held)?;
@@ -90,7 +94,8 @@ pub(crate) fn with_body(
     closure: &Closure,
     body: Shared<Term>,
 ) -> Result<Option<Shared<Term>>, Memory>
-    ensures { IfOk result (λ found. Changes (λ _. function_with closure.now body) (Term.Fn closure.now) found) }
+    ensures { IfOk result
+        (λ found. Changes (λ _. function_with closure.now body) (Term.Fn closure.now) found) }
 {
     let mut made = closure.copy(alloc)?;
     made.body = body;

@@ -57,7 +57,8 @@ pub(crate) fn same_group(
     alloc: Global,
     parts: &List<Shared<Term>>,
 ) -> Result<Option<Shared<Term>>, Memory>
-    ensures { IfOk result (λ found. Changes (λ _. group_of parts.now) (Term.Group parts.now) found) }
+    ensures { IfOk result
+        (λ found. Changes (λ _. group_of parts.now) (Term.Group parts.now) found) }
 {
     match values(alloc, parts)? {
         None => Ok(None),
@@ -70,7 +71,8 @@ fn same_tuple(
     _parts: &List<Shared<Term>>,
     values: List<Value>,
 ) -> Result<Option<Shared<Term>>, Memory>
-    ensures { IfOk result (λ found. Changes (λ _. tuple_of _parts.now (Some values)) (Term.Group _parts.now) found) }
+    ensures { IfOk result
+        (λ found. Changes (λ _. tuple_of _parts.now (Some values)) (Term.Group _parts.now) found) }
 {
     if may_stand(&values) {
         let tuple = Value::Tuple(Shared::new(alloc, values)?);

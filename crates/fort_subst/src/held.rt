@@ -18,7 +18,9 @@ impl Pairs {
     // One pair more, the new one before it where it comes first.
     #[tactic(auto, using(crate::proofs::HeldSteps::steps))]
     fn with(self, variable: u32, value: &Value, next: &(u32, Value)) -> Result<Pairs, Memory>
-        ensures { IfOk result (λ put. (rest : _) → put.pairs ++ held_behind variable value.now put.done rest ≡ self.pairs ++ held_behind variable value.now self.done (next.now ∷ rest)) }
+        ensures { IfOk result (λ put. (rest : _)
+            → put.pairs ++ held_behind variable value.now put.done rest
+            ≡ self.pairs ++ held_behind variable value.now self.done (next.now ∷ rest)) }
     {
         let Pairs { mut pairs, done } = self;
         if done {
@@ -37,7 +39,8 @@ impl Pairs {
     // The pairs with the new one, where no pair is left.
     #[tactic(auto, using(crate::proofs::HeldSteps::ends))]
     fn all(self, variable: u32, value: &Value) -> Result<List<(u32, Value)>, Memory>
-        ensures { IfOk result (λ all. all ≡ self.pairs ++ held_behind variable value.now self.done []) }
+        ensures { IfOk result (λ all. all
+            ≡ self.pairs ++ held_behind variable value.now self.done []) }
     {
         let Pairs { mut pairs, done } = self;
         if done {

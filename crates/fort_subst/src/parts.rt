@@ -52,7 +52,8 @@ pub(crate) fn three(
 ) -> Result<Option<(Shared<Term>, Shared<Term>, Shared<Term>)>, Memory>
     requires both { ChangesTwo (placed_of _put.now) first.now second.now both }
     requires last { Changes (placed_of _put.now) third.now last }
-    ensures { IfOk result (λ found. ChangesThree (placed_of _put.now) first.now second.now third.now found) }
+    ensures { IfOk result
+        (λ found. ChangesThree (placed_of _put.now) first.now second.now third.now found) }
 {
     match (both, last) {
         (None, None) => Ok(None),
@@ -74,7 +75,8 @@ pub(crate) fn choice(
 ) -> Result<Option<(Shared<Term>, Shared<Term>, Clauses)>, Memory>
     requires both { ChangesTwo (placed_of _put.now) first.now second.now both }
     requires found { ChangesClauses (placed_of _put.now) clauses.now found }
-    ensures { IfOk result (λ made. ChangesChoice (placed_of _put.now) first.now second.now clauses.now made) }
+    ensures { IfOk result
+        (λ made. ChangesChoice (placed_of _put.now) first.now second.now clauses.now made) }
 {
     match (both, found) {
         (None, None) => Ok(None),
@@ -103,7 +105,8 @@ pub(crate) fn guarded(
     requires one { Changes (placed_of _put.now) body.now one }
     requires found { ChangesClauses (placed_of _put.now) clauses.now found }
     requires other { ChangesLast (placed_of _put.now) last.now other }
-    ensures { IfOk result (λ made. ChangesTry (placed_of _put.now) body.now clauses.now last.now made) }
+    ensures { IfOk result
+        (λ made. ChangesTry (placed_of _put.now) body.now clauses.now last.now made) }
 {
     match (one, found, other) {
         (None, None, None) => Ok(None),
@@ -135,7 +138,9 @@ pub(crate) fn tried(
     _put: &Put,
 ) -> Result<Option<Shared<Term>>, Memory>
     requires { ChangesTry (placed_of _put.now) _body.now _clauses.now _last.now found }
-    ensures { IfOk result (λ made. Changes (placed_of _put.now) (Term.Try _body.now variable _clauses.now _last.now) made) }
+    ensures { IfOk result
+        (λ made. Changes (placed_of _put.now) (Term.Try _body.now variable _clauses.now _last.now)
+        made) }
 {
     match found {
         None => Ok(None),

@@ -316,7 +316,8 @@ fn in_function(
     closure: &Shared<Closure>,
     put: &Put,
 ) -> Result<Option<Shared<Term>>, Memory>
-    ensures { IfOk result (λ found. Changes (λ _. function_placed put.now closure.now) (Term.Fn closure.now) found) }
+    ensures { IfOk result
+        (λ found. Changes (λ _. function_placed put.now closure.now) (Term.Fn closure.now) found) }
 {
     match put {
         Put::Given(variable, value) => holding(alloc, closure, *variable, value),

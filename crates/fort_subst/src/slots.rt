@@ -13,7 +13,8 @@ pub(crate) fn in_variable(
     other: u32,
     put: &Put,
 ) -> Result<Option<Shared<Term>>, Memory>
-    ensures { IfOk result (λ found. Changes (λ _. variable_placed put.now other) (Term.Variable other) found) }
+    ensures { IfOk result
+        (λ found. Changes (λ _. variable_placed put.now other) (Term.Variable other) found) }
 {
     match put {
         Put::Given(variable, value) => {
@@ -29,7 +30,8 @@ pub(crate) fn in_variable(
 
 // The slot with its location, where it gets one.
 fn in_slot(slot: Slot, put: &Put) -> Option<Slot>
-    ensures { MatchOption result (slot_placed put.now slot ≡ slot) (λ changed. changed ≡ slot_placed put.now slot) }
+    ensures { MatchOption result (slot_placed put.now slot ≡ slot) (λ changed. changed
+        ≡ slot_placed put.now slot) }
 {
     match put {
         Put::Given(_, _) => None,
@@ -47,7 +49,8 @@ fn in_slot(slot: Slot, put: &Put) -> Option<Slot>
 }
 
 pub(crate) fn in_read(alloc: Global, slot: Slot, put: &Put) -> Result<Option<Shared<Term>>, Memory>
-    ensures { IfOk result (λ found. Changes (λ _. Term.Read (slot_placed put.now slot)) (Term.Read slot) found) }
+    ensures { IfOk result
+        (λ found. Changes (λ _. Term.Read (slot_placed put.now slot)) (Term.Read slot) found) }
 {
     match in_slot(slot, put) {
         None => Ok(None),
@@ -63,7 +66,9 @@ pub(crate) fn in_write(
     put: &Put,
 ) -> Result<Option<Shared<Term>>, Memory>
     requires { Changes (placed_of put.now) value.now found }
-    ensures { IfOk result (λ made. Changes (λ _. Term.Write (slot_placed put.now slot) (placed_of put.now value.now)) (Term.Write slot value.now) made) }
+    ensures { IfOk result
+        (λ made. Changes (λ _. Term.Write (slot_placed put.now slot) (placed_of put.now value.now))
+        (Term.Write slot value.now) made) }
 {
     match (in_slot(slot, put), found) {
         (None, None) => Ok(None),

@@ -58,7 +58,8 @@ fn comparison(
     left: u32,
     right: u32,
 ) -> Result<Shared<Term>, Memory>
-    ensures { IfOk result (λ term. term ≡ operated_of (given_of known.now) chosen.now (Variable left) (Variable right)) }
+    ensures { IfOk result (λ term. term
+        ≡ operated_of (given_of known.now) chosen.now (Variable left) (Variable right)) }
 {
     let left = Shared::new(alloc, Term::Variable(left))?;
     let right = Shared::new(alloc, Term::Variable(right))?;

@@ -104,7 +104,8 @@ fn compare(
     number: u32,
     compared: Shared<Term>,
 ) -> Result<Term, Memory>
-    ensures { IfOk result (λ term. term ≡ operated_of (given_of known.now) chosen.now (Variable number) compared) }
+    ensures { IfOk result (λ term. term
+        ≡ operated_of (given_of known.now) chosen.now (Variable number) compared) }
 {
     let subject = Shared::new(alloc, Term::Variable(number))?;
     operated(alloc, known, chosen, subject, compared)
@@ -140,7 +141,8 @@ fn function_of(
     ty: &Ty,
     body: Shared<Term>,
 ) -> Result<Term, Memory>
-    ensures { IfOk result (λ term. term ≡ function_term number first (map parameter parameters.now) ty.now body) }
+    ensures { IfOk result (λ term. term
+        ≡ function_term number first (map parameter parameters.now) ty.now body) }
 {
     let parameters = Shared::new(alloc, variables_of(alloc, first, parameters)?)?;
     let result = Shared::new(alloc, ty.copy(alloc)?)?;

@@ -17,7 +17,8 @@ pub(crate) fn put(alloc: Global, term: Term, state: &mut State) -> Result<(), Me
 
 /// Takes two parts; the second one is on top.
 pub(crate) fn take_two(state: &mut State) -> Result<(Shared<Term>, Shared<Term>), Memory>
-    ensures { IfOk result (λ parts. state.old ≡ record state.new { terms = parts.1 ∷ parts.0 ∷ state.new.terms }) }
+    ensures { IfOk result (λ parts. state.old
+        ≡ record state.new { terms = parts.1 ∷ parts.0 ∷ state.new.terms }) }
 {
     let second = state.take()?;
     let first = state.take()?;
@@ -26,7 +27,11 @@ pub(crate) fn take_two(state: &mut State) -> Result<(Shared<Term>, Shared<Term>)
 
 /// Takes the newest number, and a part.
 pub(crate) fn take_by_number(state: &mut State) -> Result<(u32, Shared<Term>), Memory>
-    ensures { IfOk result (λ parts. state.old ≡ record state.new { numbers = parts.0 ∷ state.new.numbers; terms = parts.1 ∷ state.new.terms }) }
+    ensures { IfOk result (λ parts. state.old
+        ≡ record state.new {
+          numbers = parts.0 ∷ state.new.numbers;
+          terms = parts.1 ∷ state.new.terms;
+        }) }
 {
     let number = state.take_number()?;
     let part = state.take()?;
@@ -37,7 +42,11 @@ pub(crate) fn take_by_number(state: &mut State) -> Result<(u32, Shared<Term>), M
 pub(crate) fn take_two_by_number(
     state: &mut State,
 ) -> Result<(u32, Shared<Term>, Shared<Term>), Memory>
-    ensures { IfOk result (λ parts. state.old ≡ record state.new { numbers = parts.0 ∷ state.new.numbers; terms = parts.2 ∷ parts.1 ∷ state.new.terms }) }
+    ensures { IfOk result (λ parts. state.old
+        ≡ record state.new {
+          numbers = parts.0 ∷ state.new.numbers;
+          terms = parts.2 ∷ parts.1 ∷ state.new.terms;
+        }) }
 {
     let number = state.take_number()?;
     let (first, second) = take_two(state)?;
@@ -46,7 +55,11 @@ pub(crate) fn take_two_by_number(
 
 /// Takes the newest number, and the last list.
 pub(crate) fn take_list_by_number(state: &mut State) -> Result<(u32, List<Shared<Term>>), Memory>
-    ensures { IfOk result (λ parts. state.old ≡ record state.new { numbers = parts.0 ∷ state.new.numbers; lists = parts.1 ∷ state.new.lists }) }
+    ensures { IfOk result (λ parts. state.old
+        ≡ record state.new {
+          numbers = parts.0 ∷ state.new.numbers;
+          lists = parts.1 ∷ state.new.lists;
+        }) }
 {
     let number = state.take_number()?;
     let list = state.take_list()?;

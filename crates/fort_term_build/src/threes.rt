@@ -54,7 +54,8 @@ fn written(
     chosen: &Chosen,
     value: Shared<Term>,
 ) -> Result<Shared<Term>, Memory>
-    ensures { IfOk result (λ term. term ≡ element_write (given_of known.now) array index chosen.now value) }
+    ensures { IfOk result (λ term. term
+        ≡ element_write (given_of known.now) array index chosen.now value) }
 {
     let array = Shared::new(alloc, Term::Variable(array))?;
     let index = Shared::new(alloc, Term::Variable(index))?;

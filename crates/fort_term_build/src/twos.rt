@@ -143,7 +143,8 @@ fn update(
     object: Shared<Term>,
     value: Shared<Term>,
 ) -> Result<Term, Memory>
-    ensures { IfOk result (λ term. term ≡ field_update (given_of known.now) number ty.now chosen.now field object value) }
+    ensures { IfOk result (λ term. term
+        ≡ field_update (given_of known.now) number ty.now chosen.now field object value) }
 {
     let variable = Shared::new(alloc, Term::Variable(number))?;
     let read = Shared::new(alloc, Term::ReadField(variable.share()?, field))?;

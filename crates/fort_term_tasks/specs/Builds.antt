@@ -39,18 +39,28 @@ local n ty a rest = Let ((n, ty) ∷ []) a rest
 
 -- A function of parameters whose variables have the numbers from one on.
 abbrev pub function_term : ℕ → ℕ → List (NameId × Ty) → Ty → Term → Term
-function_term number first xs result body = function (record { number = number; parameters = typed_variables first xs; result = result; body = body; held = [] })
+function_term number first xs result body =
+    function (record {
+      number = number;
+      parameters = typed_variables first xs;
+      result = result;
+      body = body;
+      held = [];
+    })
 
 -- `x.f + e` is written to `x.f`, where x is a local.
 abbrev pub field_update : Given → ℕ → Ty → Chosen → NameId → Term → Term → Term
-field_update g n ty c f object t = local n ty object (WriteField (Variable n) f (operated g c (ReadField (Variable n) f) t))
+field_update g n ty c f object t =
+    local n ty object (WriteField (Variable n) f (operated g c (ReadField (Variable n) f) t))
 
 -- `x[y] + e` is written to `x[y]`, by the variables x and y, and where these are locals.
 abbrev pub element_write : Given → ℕ → ℕ → Chosen → Term → Term
-element_write g n m c t = WriteElement (Variable n) (Variable m) (operated g c (ReadElement (Variable n) (Variable m)) t)
+element_write g n m c t =
+    WriteElement (Variable n) (Variable m) (operated g c (ReadElement (Variable n) (Variable m)) t)
 
 abbrev pub element_update : Given → ℕ → Ty → ℕ → Ty → Chosen → Term → Term → Term → Term
-element_update g n ty m ty1 c array index t = local n ty array (local m ty1 index (element_write g n m c t))
+element_update g n ty m ty1 c array index t =
+    local n ty array (local m ty1 index (element_write g n m c t))
 
 -- The term of a chain's comparisons, by the variables of its sides.
 abbrev pub compared : Given → SetId → List Chosen → List ℕ → Term
@@ -78,7 +88,9 @@ one_built g of_one.Write s = by_number (λ n. on_one (Write (slot.Variable n))) 
 one_built g (of_one.RaiseTop c n) s = on_one (raised g c.now (slot.Location (location n))) s
 one_built g (of_one.Raise c) s = by_number (λ n. on_one (raised g c.now (slot.Variable n))) s
 one_built g (of_one.Compare c) s = on_one (operated g c.now (Variable (newest s.numbers))) s
-one_built g (of_one.Function ps ty) s = by_number (λ first. by_number (λ n. on_one (function_term n first (map parameter ps.now) ty.now))) s
+one_built g (of_one.Function ps ty) s =
+    by_number
+    (λ first. by_number (λ n. on_one (function_term n first (map parameter ps.now) ty.now))) s
 
 abbrev pub two_built : Given → Two → State → State
 two_built g of_two.ReadElement s = on_two ReadElement s
@@ -90,23 +102,30 @@ two_built g (of_two.WriteField f) s = on_two (λ t. WriteField t f) s
 two_built g (of_two.Let ty) s = by_number (λ n. on_two (local n ty.now)) s
 two_built g (of_two.Lets xs) s = by_number (λ n. on_two (Let (typed_variables n xs.now))) s
 two_built g (of_two.Mutable ty) s = by_number (λ n. on_two (Mutable n ty.now)) s
-two_built g (of_two.For sequential) s = by_number (λ n. on_two (For (order_of sequential) span.Whole n)) s
-two_built g (of_two.Reduce sequential set r ty) s = by_number (λ n. on_two (Reduce (order_of sequential) span.Whole set (neutral g r ty.now) n)) s
-two_built g (of_two.UpdateField ty c f) s = by_number (λ n. on_two (field_update g n ty.now c.now f)) s
+two_built g (of_two.For sequential) s =
+    by_number (λ n. on_two (For (order_of sequential) span.Whole n)) s
+two_built g (of_two.Reduce sequential set r ty) s =
+    by_number (λ n. on_two (Reduce (order_of sequential) span.Whole set (neutral g r ty.now) n)) s
+two_built g (of_two.UpdateField ty c f) s =
+    by_number (λ n. on_two (field_update g n ty.now c.now f)) s
 
 abbrev pub three_built : Given → Three → State → State
 three_built g of_three.If s = on_three If s
 three_built g of_three.WriteElement s = on_three WriteElement s
-three_built g (of_three.UpdateElement ty ty1 c) s = by_number (λ m. by_number (λ n. on_three (element_update g n ty.now m ty1.now c.now))) s
+three_built g (of_three.UpdateElement ty ty1 c) s =
+    by_number (λ m. by_number (λ n. on_three (element_update g n ty.now m ty1.now c.now))) s
 
 abbrev pub list_built : Given → Whole → State → State
 list_built g of_list.Group s = on_list group s
 list_built g (of_list.Call c) s = on_list (call g c.now) s
 list_built g (of_list.Operation c) s = on_list (operation g c.now) s
 list_built g of_list.Also s = on_list Also s
-list_built g (of_list.Typecase types) s = by_number (λ n. by_list (λ ts. on_two (λ a b. Typecase n a (with_types ts types.now) b))) s
-list_built g (of_list.Try types) s = by_number (λ n. by_list (λ ts. on_one (λ a. Try a n (with_types ts types.now) None))) s
-list_built g (of_list.TryFinally types) s = by_number (λ n. by_list (λ ts. on_two (λ a b. Try a n (with_types ts types.now) (Some b)))) s
+list_built g (of_list.Typecase types) s =
+    by_number (λ n. by_list (λ ts. on_two (λ a b. Typecase n a (with_types ts types.now) b))) s
+list_built g (of_list.Try types) s =
+    by_number (λ n. by_list (λ ts. on_one (λ a. Try a n (with_types ts types.now) None))) s
+list_built g (of_list.TryFinally types) s =
+    by_number (λ n. by_list (λ ts. on_two (λ a b. Try a n (with_types ts types.now) (Some b)))) s
 
 -- A term is built.
 abbrev pub built : Given → Build → State → State

@@ -45,12 +45,15 @@ chain_done g set cs fs s = said (sides g set cs (parts g fs) []) s
 
 -- Behind the initial of a local: its name is in scope of the rest of the block.
 abbrev pub local_done : NameId → Bool → Ty → (State → State) → State → State
-local_done name false ty rest s = by_number (λ n. on_two (local n ty)) (left 1 (rest (named name s)))
-local_done name true ty rest s = by_number (λ n. on_two (Mutable n ty)) (left 1 (rest (named name s)))
+local_done name false ty rest s =
+    by_number (λ n. on_two (local n ty)) (left 1 (rest (named name s)))
+local_done name true ty rest s =
+    by_number (λ n. on_two (Mutable n ty)) (left 1 (rest (named name s)))
 
 -- Behind a tuple whose parts have names.
 abbrev pub locals_done : List (NameId × Ty) → (State → State) → State → State
-locals_done xs rest s = by_number (λ n. on_two (Let (typed_variables n xs))) (left (length xs) (rest (all_named xs s)))
+locals_done xs rest s =
+    by_number (λ n. on_two (Let (typed_variables n xs))) (left (length xs) (rest (all_named xs s)))
 
 -- The rest of a block.
 abbrev pub items_done : Given → List TypedForm → State → State
@@ -58,7 +61,8 @@ items_done g fs s = said (block (parts g fs)) s
 
 -- An item of a block, and the rest.
 abbrev pub item_done : Given → TypedForm → List TypedForm → TypedForm-F TypedForm → State → State
-item_done g f rest (TypedForm-F.Bind ty name mutable written e) s = local_done name mutable written (items_done g rest) (see g e s)
+item_done g f rest (TypedForm-F.Bind ty name mutable written e) s =
+    local_done name mutable written (items_done g rest) (see g e s)
 item_done g f rest (TypedForm-F.Binds ty xs e) s = locals_done xs (items_done g rest) (see g e s)
 item_done g f rest _ s = on_two Then (items_done g rest (see g f s))
 
@@ -73,33 +77,47 @@ released (Some name) s = left 1 s
 
 -- Behind the clauses of a `try`.
 abbrev pub try_done : Given → List Ty → Option TypedForm → State → State
-try_done g types None s = by_number (λ n. by_list (λ ts. on_one (λ a. Try a n (with_types ts types) None))) s
-try_done g types (Some f) s = by_number (λ n. by_list (λ ts. on_two (λ a b. Try a n (with_types ts types) (Some b)))) (see g f s)
+try_done g types None s =
+    by_number (λ n. by_list (λ ts. on_one (λ a. Try a n (with_types ts types) None))) s
+try_done g types (Some f) s =
+    by_number (λ n. by_list (λ ts. on_two (λ a b. Try a n (with_types ts types) (Some b))))
+    (see g f s)
 
 -- `t := e`
 abbrev pub assigns : Given → TypedForm → TypedForm-F TypedForm → State → State
-assigns g e (TypedForm-F.Local ty name mutable) s = by_number (λ n. on_one (Write (slot.Variable n))) (see g e (found name s))
+assigns g e (TypedForm-F.Local ty name mutable) s =
+    by_number (λ n. on_one (Write (slot.Variable n))) (see g e (found name s))
 assigns g e (TypedForm-F.Top ty n) s = on_one (Write (slot.Location (location n))) (see g e s)
 assigns g e (TypedForm-F.ReadField ty o f) s = on_two (λ t. WriteField t f) (see g e (see g o s))
-assigns g e (TypedForm-F.ReadElement ty a i) s = on_three WriteElement (see g e (see g i (see g a s)))
+assigns g e (TypedForm-F.ReadElement ty a i) s =
+    on_three WriteElement (see g e (see g i (see g a s)))
 assigns g e _ s = put unit_term s
 
 -- `t += e`, `t -= e`
 abbrev pub updates : Given → Chosen → TypedForm → TypedForm-F TypedForm → State → State
-updates g c e (TypedForm-F.Local ty name mutable) s = by_number (λ n. on_one (raised g c (slot.Variable n))) (see g e (found name s))
-updates g c e (TypedForm-F.Top ty n) s = on_one (raised g c (slot.Location (location n))) (see g e s)
-updates g c e (TypedForm-F.ReadField ty o f) s = by_number (λ n. on_two (field_update g n (type_of o) c f)) (see g e (numbered (see g o s)))
-updates g c e (TypedForm-F.ReadElement ty a i) s = by_number (λ m. by_number (λ n. on_three (element_update g n (type_of a) m (type_of i) c)))
+updates g c e (TypedForm-F.Local ty name mutable) s =
+    by_number (λ n. on_one (raised g c (slot.Variable n))) (see g e (found name s))
+updates g c e (TypedForm-F.Top ty n) s =
+    on_one (raised g c (slot.Location (location n))) (see g e s)
+updates g c e (TypedForm-F.ReadField ty o f) s =
+    by_number (λ n. on_two (field_update g n (type_of o) c f)) (see g e (numbered (see g o s)))
+updates g c e (TypedForm-F.ReadElement ty a i) s =
+    by_number (λ m. by_number (λ n. on_three (element_update g n (type_of a) m (type_of i) c)))
     (see g e (numbered (see g i (numbered (see g a s)))))
 updates g c e _ s = put unit_term s
 
 -- The clauses of a `case`, whose subject is the variable of the newest number.
-abbrev pub clauses_done : Given → List Chosen → List TypedForm → List TypedForm → Option TypedForm → State → State
-clauses_done g cs ts vs e s = said (clauses g cs (parts g ts) (parts g vs) (other g e (no_match g)) (newest s.numbers)) s
+abbrev pub clauses_done : Given → List Chosen → List TypedForm → List TypedForm → Option TypedForm
+    → State → State
+clauses_done g cs ts vs e s =
+    said (clauses g cs (parts g ts) (parts g vs) (other g e (no_match g)) (newest s.numbers)) s
 
 -- A `case`: its subject is a local.
-abbrev pub case_done : Given → TypedForm → List Chosen → List TypedForm → List TypedForm → Option TypedForm → State → State
-case_done g subject cs ts vs e s = by_number (λ n. on_two (local n (type_of subject))) (clauses_done g cs ts vs e (numbered (see g subject s)))
+abbrev pub case_done : Given → TypedForm → List Chosen → List TypedForm → List TypedForm
+    → Option TypedForm → State → State
+case_done g subject cs ts vs e s =
+    by_number (λ n. on_two (local n (type_of subject)))
+    (clauses_done g cs ts vs e (numbered (see g subject s)))
 
 -- What stands behind `else`, or a term without parts where nothing does.
 abbrev pub else_done : Given → Leaf → Option TypedForm → State → State
@@ -107,17 +125,24 @@ else_done g l None s = leaf_built g l s
 else_done g l (Some f) s = see g f s
 
 -- A `typecase`: its name is in scope of all clauses and of the `else`.
-abbrev pub types_done : Given → NameId → TypedForm → List Ty → List TypedForm → Option TypedForm → State → State
-types_done g name subject types vs e s = by_number (λ n. by_list (λ ts. on_two (λ a b. Typecase n a (with_types ts types) b)))
-    (left 1 (else_done g a_leaf.NoMatch e (each (makers g vs) (opened (named name (see g subject s))))))
+abbrev pub types_done : Given → NameId → TypedForm → List Ty → List TypedForm → Option TypedForm
+    → State → State
+types_done g name subject types vs e s =
+    by_number (λ n. by_list (λ ts. on_two (λ a b. Typecase n a (with_types ts types) b)))
+    (left 1 (else_done g a_leaf.NoMatch e
+    (each (makers g vs) (opened (named name (see g subject s))))))
 
 -- A `try`.
-abbrev pub catches : Given → TypedForm → Option NameId → List Ty → List TypedForm → Option TypedForm → State → State
-catches g b name types vs last s = try_done g types last (released name (each (makers g vs) (opened (caught name (see g b s)))))
+abbrev pub catches : Given → TypedForm → Option NameId → List Ty → List TypedForm → Option TypedForm
+    → State → State
+catches g b name types vs last s =
+    try_done g types last (released name (each (makers g vs) (opened (caught name (see g b s)))))
 
 -- A function.
 abbrev pub fn_done : Given → List Parameter → TypedForm → State → State
-fn_done g ps e s = by_number (λ first. by_number (λ n. on_one (function_term n first (map parameter ps) (type_of e))))
+fn_done g ps e s =
+    by_number
+    (λ first. by_number (λ n. on_one (function_term n first (map parameter ps) (type_of e))))
     (left (length ps) (see g e (all_named (map parameter ps) (function_numbered s))))
 
 -- A reduction, by how its term is built.
@@ -130,7 +155,8 @@ does g (TypedForm-F.Number ty n) s = put (term.Value (number n (pos n))) s
 does g (TypedForm-F.Text ty n) s = put (term.Value (text g.texts n)) s
 does g (TypedForm-F.Truth ty b) s = put (term.Value (Truth b)) s
 does g (TypedForm-F.Tuple ty fs) s = listed g fs group s
-does g (TypedForm-F.Local ty name mutable) s = by_number (λ n. put (variable_term mutable n)) (found name s)
+does g (TypedForm-F.Local ty name mutable) s =
+    by_number (λ n. put (variable_term mutable n)) (found name s)
 does g (TypedForm-F.Top ty n) s = put (Read (slot.Location (location n))) s
 does g (TypedForm-F.Single ty t) s = put (term.Value (single g t)) s
 does g (TypedForm-F.Receiver ty) s = put (Variable s.receiver) s
@@ -144,10 +170,12 @@ does g (TypedForm-F.Chain ty set cs fs) s = chain_done g set cs fs s
 does g (TypedForm-F.Apply ty f a) s = on_two Apply (see g a (see g f s))
 does g (TypedForm-F.Fn ty ps e) s = fn_done g ps e s
 does g (TypedForm-F.Block ty fs) s = items_done g fs s
-does g (TypedForm-F.Bind ty name mutable written e) s = local_done name mutable written (items_done g []) (see g e s)
+does g (TypedForm-F.Bind ty name mutable written e) s =
+    local_done name mutable written (items_done g []) (see g e s)
 does g (TypedForm-F.Binds ty xs e) s = locals_done xs (items_done g []) (see g e s)
 does g (TypedForm-F.Also ty fs) s = listed g fs Also s
-does g (TypedForm-F.If ty cs bs e) s = said (branches (parts g cs) (parts g bs) (other g e unit_term)) s
+does g (TypedForm-F.If ty cs bs e) s =
+    said (branches (parts g cs) (parts g bs) (other g e unit_term)) s
 does g (TypedForm-F.While ty c b) s = on_two While (see g b (see g c s))
 does g (TypedForm-F.For ty xs fs b) s = said (loops xs (parts g fs) (translated g b)) s
 does g (TypedForm-F.Case ty subject cs ts vs e) s = case_done g subject cs ts vs e s
@@ -156,7 +184,8 @@ does g (TypedForm-F.Try ty b name types vs last) s = catches g b name types vs l
 does g (TypedForm-F.Atomic ty e) s = on_one (Atomic mode.Atomic) (see g e s)
 does g (TypedForm-F.Tryatomic ty e) s = on_one (Atomic mode.Try) (see g e s)
 does g (TypedForm-F.Throw ty e) s = on_one Throw (see g e s)
-does g (TypedForm-F.Reduce ty r set name sequential p b) s = by_number (λ n. on_two (Reduce (order_of sequential) span.Whole set (neutral g r ty) n))
+does g (TypedForm-F.Reduce ty r set name sequential p b) s =
+    by_number (λ n. on_two (Reduce (order_of sequential) span.Whole set (neutral g r ty) n))
     (left 1 (see g b (named name (see g p s))))
 does g (TypedForm-F.Assign ty t e) s = assigns g e (out-TypedForm t) s
 does g (TypedForm-F.Update ty t c e) s = updates g c e (out-TypedForm t) s

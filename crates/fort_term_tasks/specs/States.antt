@@ -1,4 +1,5 @@
--- "Numbers" of docs/TRANSLATION.md: how far a walk over forms has come, and what changes it. Terms are named in the words of fort_translation.
+-- "Numbers" of docs/TRANSLATION.md: how far a walk over forms has come, and what changes it. Terms
+-- are named in the words of fort_translation.
 use Rattle.std.specs.Prelude.{ℕ, ◌+◌, List, [], ◌∷◌, ◌++◌, drop, length, reverse, take}
 use Rattle.fort_base.specs.declared.ids.NameId.{NameId}
 use Rattle.fort_base.specs.declared.ty.Ty.{Ty}
@@ -21,7 +22,8 @@ put t s = record s { terms = t ∷ s.terms }
 
 -- A form is finished: its term is on top.
 abbrev pub said : Maker → State → State
-said f s = let m = f (scope_of s) s.counter in record s { counter = m.counter; terms = m.term ∷ s.terms }
+said f s =
+    let m = f (scope_of s) s.counter in record s { counter = m.counter; terms = m.term ∷ s.terms }
 
 -- ---- lists
 
@@ -36,7 +38,9 @@ opened s = record s { lists = [] ∷ s.lists }
 
 -- Several forms are finished: their terms are in the last list.
 abbrev pub each : List Maker → State → State
-each fs s = let ms = in_turn fs (scope_of s) s.counter in record s { counter = ms.counter; lists = onto ms.terms s.lists }
+each fs s =
+    let ms = in_turn fs (scope_of s) s.counter
+    in record s { counter = ms.counter; lists = onto ms.terms s.lists }
 
 abbrev pub top : List Term → List Term
 top (t ∷ ts) = t ∷ []
@@ -95,7 +99,8 @@ bound_from n (x ∷ xs) names = bound_from (n + 1) xs ((x.0, n) ∷ names)
 
 -- Names come into scope, and the number of the first of them becomes the newest.
 abbrev pub all_named : List (NameId × Ty) → State → State
-all_named xs s = counted (length xs) (held (next s) (record s { names = bound_from (next s) xs s.names }))
+all_named xs s =
+    counted (length xs) (held (next s) (record s { names = bound_from (next s) xs s.names }))
 
 -- So many names go out of scope.
 abbrev pub left : ℕ → State → State

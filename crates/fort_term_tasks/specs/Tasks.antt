@@ -33,12 +33,16 @@ other g f t = or_else (option_map (part g) f) t
 abbrev pub row_done : Given → Row → List TypedForm → State → State
 row_done g a_row.List fs s = each (makers g fs) s
 row_done g a_row.Items fs s = said (block (parts g fs)) s
-row_done g (a_row.Sides set cs k) fs s = said (sides g set cs.now (parts g fs) (latest k s.numbers)) s
+row_done g (a_row.Sides set cs k) fs s =
+    said (sides g set cs.now (parts g fs) (latest k s.numbers)) s
 
 -- Tests with what each gives, and the `else`.
-abbrev pub tests_done : Given → Test → List TypedForm → List TypedForm → Option TypedForm → State → State
-tests_done g a_test.True ts vs e s = said (branches (parts g ts) (parts g vs) (other g e unit_term)) s
-tests_done g (a_test.Equal cs) ts vs e s = said (clauses g cs.now (parts g ts) (parts g vs) (other g e (no_match g)) (newest s.numbers)) s
+abbrev pub tests_done : Given → Test → List TypedForm → List TypedForm → Option TypedForm → State
+    → State
+tests_done g a_test.True ts vs e s =
+    said (branches (parts g ts) (parts g vs) (other g e unit_term)) s
+tests_done g (a_test.Equal cs) ts vs e s =
+    said (clauses g cs.now (parts g ts) (parts g vs) (other g e (no_match g)) (newest s.numbers)) s
 
 -- What a task does.
 abbrev pub on : Given → Task → State → State

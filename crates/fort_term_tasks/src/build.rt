@@ -50,7 +50,8 @@ pub enum One<'a> {
     Raise(&'a Chosen),
     /// The comparison of the variable of the newest number, which stays, with a clause of a `case`.
     Compare(&'a Chosen),
-    /// A function, by its parameters and the type of its body; the newest numbers are those of its first parameter and of the function.
+    /// A function, by its parameters and the type of its body; the newest numbers are those of its
+    /// first parameter and of the function.
     Function(&'a [Parameter], &'a Ty),
 }
 

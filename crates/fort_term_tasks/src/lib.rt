@@ -1,4 +1,5 @@
-//! The tasks of the walk that makes terms of typed forms, what each of them means, and what changes a walk's state.
+//! The tasks of the walk that makes terms of typed forms, what each of them means, and what changes
+//! a walk's state.
 #![tactic(auto)]
 
 mod build;

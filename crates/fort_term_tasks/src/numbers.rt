@@ -6,7 +6,8 @@ use fort_base::Memory;
 use std::alloc::Global;
 use std::marker::Model;
 
-/// The numbers of variables and of functions whose terms aren't finished, seen as a list with the newest first.
+/// The numbers of variables and of functions whose terms aren't finished, seen as a list with the
+/// newest first.
 #[derive(Drop)]
 pub struct Numbers {
     held: Vec<u32>,
@@ -40,7 +41,8 @@ impl Numbers {
 
     /// Takes the newest number off, or answers `None` where there is none.
     pub fn pop(&mut self) -> Option<u32>
-        ensures { MatchOption result ((self.old ≡ []) × (self.new ≡ [])) (λ number. self.old ≡ number ∷ self.new) }
+        ensures { MatchOption result ((self.old ≡ [])
+            × (self.new ≡ [])) (λ number. self.old ≡ number ∷ self.new) }
     {
         self.held.pop()
     }

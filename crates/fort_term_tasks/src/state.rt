@@ -69,7 +69,15 @@ fn bind_parameters(names: &mut Names, first: u32, list: &[Parameter]) -> Result<
 impl State {
     /// The beginning of a body, with its parameters in scope.
     pub fn new(alloc: Global, names: Names, receiver: u32, counter: Counter) -> State
-        ensures { result ≡ record { names = names; receiver = receiver; counter = counter; numbers = []; terms = []; lists = [] } }
+        ensures { result
+            ≡ record {
+              names = names;
+              receiver = receiver;
+              counter = counter;
+              numbers = [];
+              terms = [];
+              lists = [];
+            } }
     {
         State {
             names,
@@ -183,7 +191,8 @@ impl State {
 
     /// Takes the last finished term, or answers want of memory where there is none.
     pub fn take(&mut self) -> Result<Shared<Term>, Memory>
-        ensures { IfOk result (λ term. self.old ≡ record self.new { terms = term ∷ self.new.terms }) }
+        ensures { IfOk result (λ term. self.old
+            ≡ record self.new { terms = term ∷ self.new.terms }) }
     {
         match self.terms.pop() {
             Some(term) => Ok(term),
@@ -193,7 +202,8 @@ impl State {
 
     /// Takes the last list, or answers want of memory where there is none.
     pub fn take_list(&mut self) -> Result<List<Shared<Term>>, Memory>
-        ensures { IfOk result (λ list. self.old ≡ record self.new { lists = list ∷ self.new.lists }) }
+        ensures { IfOk result (λ list. self.old
+            ≡ record self.new { lists = list ∷ self.new.lists }) }
     {
         match self.lists.pop() {
             Some(list) => Ok(list),
@@ -203,7 +213,8 @@ impl State {
 
     /// Takes the newest number, or answers want of memory where there is none.
     pub fn take_number(&mut self) -> Result<u32, Memory>
-        ensures { IfOk result (λ number. self.old ≡ record self.new { numbers = number ∷ self.new.numbers }) }
+        ensures { IfOk result (λ number. self.old
+            ≡ record self.new { numbers = number ∷ self.new.numbers }) }
     {
         match self.numbers.pop() {
             Some(number) => Ok(number),

@@ -11,7 +11,8 @@ pub enum Row<'a> {
     List,
     /// Items of a block.
     Items,
-    /// Sides of a chain: the set that joins its comparisons, their calls, and how many sides come before; these have the newest numbers.
+    /// Sides of a chain: the set that joins its comparisons, their calls, and how many sides come
+    /// before; these have the newest numbers.
     Sides(SetId, &'a [Chosen], usize),
 }
 

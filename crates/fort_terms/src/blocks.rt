@@ -23,7 +23,10 @@ pub(crate) fn local<'a>(
     rest: &'a [TypedForm],
     tasks: &mut Stack<Task<'a>>,
 ) -> Result<(), Memory>
-    ensures { OnOk result ((g : Given) (s : State) → run g tasks.new s ≡ run g tasks.old (local_done name mutable ty.now (items_done g rest.now) (see g initial.now s))) }
+    ensures { OnOk result ((g : Given) (s : State)
+        → run g tasks.new s
+        ≡ run g tasks.old
+        (local_done name mutable ty.now (items_done g rest.now) (see g initial.now s))) }
 {
     if mutable {
         tasks.push(Task::Build(Build::Two(Two::Mutable(ty))))?;
@@ -42,7 +45,9 @@ pub(crate) fn locals<'a>(
     rest: &'a [TypedForm],
     tasks: &mut Stack<Task<'a>>,
 ) -> Result<(), Memory>
-    ensures { OnOk result ((g : Given) (s : State) → run g tasks.new s ≡ run g tasks.old (locals_done names.now (items_done g rest.now) (see g tuple.now s))) }
+    ensures { OnOk result ((g : Given) (s : State)
+        → run g tasks.new s
+        ≡ run g tasks.old (locals_done names.now (items_done g rest.now) (see g tuple.now s))) }
 {
     tasks.push(Task::Build(Build::Two(Two::Lets(names.as_slice()))))?;
     tasks.push(Task::Leave(names.len()))?;
@@ -56,7 +61,9 @@ pub(crate) fn item<'a>(
     rest: &'a [TypedForm],
     tasks: &mut Stack<Task<'a>>,
 ) -> Result<(), Memory>
-    ensures { OnOk result ((g : Given) (s : State) → run g tasks.new s ≡ run g tasks.old (item_done g item.now rest.now (out-TypedForm item.now) s)) }
+    ensures { OnOk result ((g : Given) (s : State)
+        → run g tasks.new s
+        ≡ run g tasks.old (item_done g item.now rest.now (out-TypedForm item.now) s)) }
 {
     match item {
         TypedForm::Bind(_, name, mutable, ty, initial) => {
@@ -76,7 +83,8 @@ pub(crate) fn function<'a>(
     body: &'a TypedForm,
     tasks: &mut Stack<Task<'a>>,
 ) -> Result<(), Memory>
-    ensures { OnOk result ((g : Given) (s : State) → run g tasks.new s ≡ run g tasks.old (fn_done g parameters.now body.now s)) }
+    ensures { OnOk result ((g : Given) (s : State)
+        → run g tasks.new s ≡ run g tasks.old (fn_done g parameters.now body.now s)) }
 {
     let slice = parameters.as_slice();
     tasks.push(Task::Build(Build::One(One::Function(slice, type_of(body)))))?;
@@ -95,7 +103,9 @@ pub(crate) fn typecase<'a>(
     other: &'a Option<Boxed<TypedForm>>,
     tasks: &mut Stack<Task<'a>>,
 ) -> Result<(), Memory>
-    ensures { OnOk result ((g : Given) (s : State) → run g tasks.new s ≡ run g tasks.old (types_done g name subject.now types.now values.now other.now s)) }
+    ensures { OnOk result ((g : Given) (s : State)
+        → run g tasks.new s
+        ≡ run g tasks.old (types_done g name subject.now types.now values.now other.now s)) }
 {
     tasks.push(Task::Build(Build::Whole(Whole::Typecase(types.as_slice()))))?;
     tasks.push(Task::Leave(1))?;
@@ -111,7 +121,8 @@ fn ends<'a>(
     last: &'a Option<Boxed<TypedForm>>,
     tasks: &mut Stack<Task<'a>>,
 ) -> Result<(), Memory>
-    ensures { OnOk result ((g : Given) (s : State) → run g tasks.new s ≡ run g tasks.old (try_done g types.now last.now s)) }
+    ensures { OnOk result ((g : Given) (s : State)
+        → run g tasks.new s ≡ run g tasks.old (try_done g types.now last.now s)) }
 {
     match last {
         None => tasks.push(Task::Build(Build::Whole(Whole::Try(types.as_slice())))),
@@ -124,7 +135,8 @@ fn ends<'a>(
 
 /// The name of a `catch` goes out of scope, where there is one.
 fn release<'a>(name: Option<NameId>, tasks: &mut Stack<Task<'a>>) -> Result<(), Memory>
-    ensures { OnOk result ((g : Given) (s : State) → run g tasks.new s ≡ run g tasks.old (released name s)) }
+    ensures { OnOk result ((g : Given) (s : State)
+        → run g tasks.new s ≡ run g tasks.old (released name s)) }
 {
     match name {
         None => Ok(()),
@@ -134,7 +146,8 @@ fn release<'a>(name: Option<NameId>, tasks: &mut Stack<Task<'a>>) -> Result<(), 
 
 /// The variable of a `catch` has the next number, with its name where there is one.
 fn catch<'a>(name: Option<NameId>, tasks: &mut Stack<Task<'a>>) -> Result<(), Memory>
-    ensures { OnOk result ((g : Given) (s : State) → run g tasks.new s ≡ run g tasks.old (caught name s)) }
+    ensures { OnOk result ((g : Given) (s : State)
+        → run g tasks.new s ≡ run g tasks.old (caught name s)) }
 {
     match name {
         None => tasks.push(Task::Number),
@@ -151,7 +164,9 @@ pub(crate) fn attempt<'a>(
     last: &'a Option<Boxed<TypedForm>>,
     tasks: &mut Stack<Task<'a>>,
 ) -> Result<(), Memory>
-    ensures { OnOk result ((g : Given) (s : State) → run g tasks.new s ≡ run g tasks.old (catches g block.now name types.now values.now last.now s)) }
+    ensures { OnOk result ((g : Given) (s : State)
+        → run g tasks.new s
+        ≡ run g tasks.old (catches g block.now name types.now values.now last.now s)) }
 {
     ends(types, last, tasks)?;
     release(name, tasks)?;

@@ -19,7 +19,8 @@ use fort_typed_form::{Chosen, TypedForm};
 
 /// What is to be done for a form.
 pub(crate) fn inside<'a>(form: &'a TypedForm, tasks: &mut Stack<Task<'a>>) -> Result<(), Memory>
-    ensures { OnOk result ((g : Given) (s : State) → run g tasks.new s ≡ run g tasks.old (does g (out-TypedForm form.now) s)) }
+    ensures { OnOk result ((g : Given) (s : State)
+        → run g tasks.new s ≡ run g tasks.old (does g (out-TypedForm form.now) s)) }
 {
     match form {
         TypedForm::Number(_, n) => build(Build::Leaf(Leaf::Number(*n)), tasks),
@@ -93,7 +94,8 @@ fn chain<'a>(
     sides: &'a List<TypedForm>,
     tasks: &mut Stack<Task<'a>>,
 ) -> Result<(), Memory>
-    ensures { OnOk result ((g : Given) (s : State) → run g tasks.new s ≡ run g tasks.old (chain_done g set calls.now sides.now s)) }
+    ensures { OnOk result ((g : Given) (s : State)
+        → run g tasks.new s ≡ run g tasks.old (chain_done g set calls.now sides.now s)) }
 {
     match calls.as_slice() {
         [call] => many(Whole::Operation(call), sides, tasks),
@@ -113,7 +115,10 @@ fn case<'a>(
     other: &'a Option<Boxed<TypedForm>>,
     tasks: &mut Stack<Task<'a>>,
 ) -> Result<(), Memory>
-    ensures { OnOk result ((g : Given) (s : State) → run g tasks.new s ≡ run g tasks.old (case_done g subject.now calls.now tests.now values.now other.now s)) }
+    ensures { OnOk result ((g : Given) (s : State)
+        → run g tasks.new s
+        ≡ run g tasks.old
+        (case_done g subject.now calls.now tests.now values.now other.now s)) }
 {
     tasks.push(Task::Build(Build::Two(Two::Let(type_of(subject)))))?;
     let (tests, values) = (tests.as_slice(), values.as_slice());
@@ -129,7 +134,9 @@ fn reduce<'a>(
     body: &'a TypedForm,
     tasks: &mut Stack<Task<'a>>,
 ) -> Result<(), Memory>
-    ensures { OnOk result ((g : Given) (s : State) → run g tasks.new s ≡ run g tasks.old (reduce_done g how.entry name source.now body.now s)) }
+    ensures { OnOk result ((g : Given) (s : State)
+        → run g tasks.new s
+        ≡ run g tasks.old (reduce_done g how.entry name source.now body.now s)) }
 {
     tasks.push(Task::Build(Build::Two(how)))?;
     tasks.push(Task::Leave(1))?;

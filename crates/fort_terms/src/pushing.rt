@@ -15,7 +15,8 @@ use fort_typed_form::TypedForm;
 
 /// A term is built.
 pub(crate) fn build<'a>(build: Build<'a>, tasks: &mut Stack<Task<'a>>) -> Result<(), Memory>
-    ensures { OnOk result ((g : Given) (s : State) → run g tasks.new s ≡ run g tasks.old (built g build.entry s)) }
+    ensures { OnOk result ((g : Given) (s : State)
+        → run g tasks.new s ≡ run g tasks.old (built g build.entry s)) }
 {
     tasks.push(Task::Build(build))
 }
@@ -26,7 +27,8 @@ pub(crate) fn behind<'a>(
     task: Task<'a>,
     tasks: &mut Stack<Task<'a>>,
 ) -> Result<(), Memory>
-    ensures { OnOk result ((g : Given) (s : State) → run g tasks.new s ≡ run g tasks.old (on g task.entry (see g part.now s))) }
+    ensures { OnOk result ((g : Given) (s : State)
+        → run g tasks.new s ≡ run g tasks.old (on g task.entry (see g part.now s))) }
 {
     tasks.push(task)?;
     tasks.push(Task::See(part))
@@ -38,7 +40,8 @@ pub(crate) fn one<'a>(
     part: &'a TypedForm,
     tasks: &mut Stack<Task<'a>>,
 ) -> Result<(), Memory>
-    ensures { OnOk result ((g : Given) (s : State) → run g tasks.new s ≡ run g tasks.old (one_built g one.entry (see g part.now s))) }
+    ensures { OnOk result ((g : Given) (s : State)
+        → run g tasks.new s ≡ run g tasks.old (one_built g one.entry (see g part.now s))) }
 {
     tasks.push(Task::Build(Build::One(one)))?;
     tasks.push(Task::See(part))
@@ -51,7 +54,9 @@ pub(crate) fn two<'a>(
     second: &'a TypedForm,
     tasks: &mut Stack<Task<'a>>,
 ) -> Result<(), Memory>
-    ensures { OnOk result ((g : Given) (s : State) → run g tasks.new s ≡ run g tasks.old (two_built g two.entry (see g second.now (see g first.now s)))) }
+    ensures { OnOk result ((g : Given) (s : State)
+        → run g tasks.new s
+        ≡ run g tasks.old (two_built g two.entry (see g second.now (see g first.now s)))) }
 {
     tasks.push(Task::Build(Build::Two(two)))?;
     tasks.push(Task::See(second))?;
@@ -64,7 +69,9 @@ pub(crate) fn many<'a>(
     parts: &'a List<TypedForm>,
     tasks: &mut Stack<Task<'a>>,
 ) -> Result<(), Memory>
-    ensures { OnOk result ((g : Given) (s : State) → run g tasks.new s ≡ run g tasks.old (list_built g whole.entry (each (makers g parts.now) (opened s)))) }
+    ensures { OnOk result ((g : Given) (s : State)
+        → run g tasks.new s
+        ≡ run g tasks.old (list_built g whole.entry (each (makers g parts.now) (opened s)))) }
 {
     tasks.push(Task::Build(Build::Whole(whole)))?;
     tasks.push(Task::Row(Row::List, parts.as_slice()))?;
@@ -77,7 +84,8 @@ pub(crate) fn or_leaf<'a>(
     leaf: Leaf<'a>,
     tasks: &mut Stack<Task<'a>>,
 ) -> Result<(), Memory>
-    ensures { OnOk result ((g : Given) (s : State) → run g tasks.new s ≡ run g tasks.old (else_done g leaf.entry form.now s)) }
+    ensures { OnOk result ((g : Given) (s : State)
+        → run g tasks.new s ≡ run g tasks.old (else_done g leaf.entry form.now s)) }
 {
     match form {
         None => tasks.push(Task::Build(Build::Leaf(leaf))),

@@ -25,7 +25,8 @@ pub(crate) fn row<'a>(
     forms: &'a [TypedForm],
     tasks: &mut Stack<Task<'a>>,
 ) -> Result<(), Memory>
-    ensures { OnOk result ((g : Given) (s : State) → run g tasks.new s ≡ run g tasks.old (row_done g row.entry forms.now s)) }
+    ensures { OnOk result ((g : Given) (s : State)
+        → run g tasks.new s ≡ run g tasks.old (row_done g row.entry forms.now s)) }
 {
     match row {
         Row::List => list(forms, tasks),
@@ -37,7 +38,8 @@ pub(crate) fn row<'a>(
 /// Forms whose terms go to the last list.
 #[tactic(auto, using(fort_term_tasks::proofs::Done::none_each, fort_term_tasks::proofs::Done::more_each))]
 fn list<'a>(forms: &'a [TypedForm], tasks: &mut Stack<Task<'a>>) -> Result<(), Memory>
-    ensures { OnOk result ((g : Given) (s : State) → run g tasks.new s ≡ run g tasks.old (each (makers g forms.now) s)) }
+    ensures { OnOk result ((g : Given) (s : State)
+        → run g tasks.new s ≡ run g tasks.old (each (makers g forms.now) s)) }
 {
     match forms.split_first() {
         None => Ok(()),
@@ -52,7 +54,8 @@ fn list<'a>(forms: &'a [TypedForm], tasks: &mut Stack<Task<'a>>) -> Result<(), M
 /// The items of a block.
 #[tactic(auto, using(fort_term_tasks::proofs::Done::item_is))]
 fn items<'a>(items: &'a [TypedForm], tasks: &mut Stack<Task<'a>>) -> Result<(), Memory>
-    ensures { OnOk result ((g : Given) (s : State) → run g tasks.new s ≡ run g tasks.old (items_done g items.now s)) }
+    ensures { OnOk result ((g : Given) (s : State)
+        → run g tasks.new s ≡ run g tasks.old (items_done g items.now s)) }
 {
     match items.split_first() {
         None => build(Build::Leaf(Leaf::Unit), tasks),
@@ -72,7 +75,10 @@ fn sides<'a>(
     forms: &'a [TypedForm],
     tasks: &mut Stack<Task<'a>>,
 ) -> Result<(), Memory>
-    ensures { OnOk result ((g : Given) (s : State) → run g tasks.new s ≡ run g tasks.old (said (sides_of g set calls.now (parts g forms.now) (latest count s.numbers)) s)) }
+    ensures { OnOk result ((g : Given) (s : State)
+        → run g tasks.new s
+        ≡ run g tasks.old
+        (said (sides_of g set calls.now (parts g forms.now) (latest count s.numbers)) s)) }
 {
     match forms.split_first() {
         None => build(Build::Leaf(Leaf::Comparisons(set, calls, count)), tasks),
@@ -96,7 +102,9 @@ pub(crate) fn tests<'a>(
     other: &'a Option<Boxed<TypedForm>>,
     tasks: &mut Stack<Task<'a>>,
 ) -> Result<(), Memory>
-    ensures { OnOk result ((g : Given) (s : State) → run g tasks.new s ≡ run g tasks.old (tests_done g test.entry tests.now values.now other.now s)) }
+    ensures { OnOk result ((g : Given) (s : State)
+        → run g tasks.new s
+        ≡ run g tasks.old (tests_done g test.entry tests.now values.now other.now s)) }
 {
     match test {
         Test::True => branches(tests, values, other, tasks),
@@ -112,7 +120,11 @@ fn branches<'a>(
     last: &'a Option<Boxed<TypedForm>>,
     tasks: &mut Stack<Task<'a>>,
 ) -> Result<(), Memory>
-    ensures { OnOk result ((g : Given) (s : State) → run g tasks.new s ≡ run g tasks.old (said (branches_of (parts g tests.now) (parts g blocks.now) (other g last.now unit_term)) s)) }
+    ensures { OnOk result ((g : Given) (s : State)
+        → run g tasks.new s
+        ≡ run g tasks.old
+        (said (branches_of (parts g tests.now) (parts g blocks.now)
+        (other g last.now unit_term)) s)) }
 {
     match tests.split_first() {
         None => or_leaf(last, Leaf::Unit, tasks),
@@ -137,7 +149,11 @@ fn clauses<'a>(
     last: &'a Option<Boxed<TypedForm>>,
     tasks: &mut Stack<Task<'a>>,
 ) -> Result<(), Memory>
-    ensures { OnOk result ((g : Given) (s : State) → run g tasks.new s ≡ run g tasks.old (said (clauses_of g calls.now (parts g tests.now) (parts g values.now) (other g last.now (no_match g)) (newest s.numbers)) s)) }
+    ensures { OnOk result ((g : Given) (s : State)
+        → run g tasks.new s
+        ≡ run g tasks.old
+        (said (clauses_of g calls.now (parts g tests.now) (parts g values.now)
+        (other g last.now (no_match g)) (newest s.numbers)) s)) }
 {
     match (
         calls.split_first(),
@@ -161,7 +177,10 @@ pub(crate) fn loops<'a>(
     body: &'a TypedForm,
     tasks: &mut Stack<Task<'a>>,
 ) -> Result<(), Memory>
-    ensures { OnOk result ((g : Given) (s : State) → run g tasks.new s ≡ run g tasks.old (said (loops_of names.now (parts g sources.now) (translated g body.now)) s)) }
+    ensures { OnOk result ((g : Given) (s : State)
+        → run g tasks.new s
+        ≡ run g tasks.old
+        (said (loops_of names.now (parts g sources.now) (translated g body.now)) s)) }
 {
     match names.split_first() {
         None => tasks.push(Task::See(body)),

@@ -19,7 +19,9 @@ pub(crate) fn assign<'a>(
     value: &'a TypedForm,
     tasks: &mut Stack<Task<'a>>,
 ) -> Result<(), Memory>
-    ensures { OnOk result ((g : Given) (s : State) → run g tasks.new s ≡ run g tasks.old (assigns g value.now (out-TypedForm target.now) s)) }
+    ensures { OnOk result ((g : Given) (s : State)
+        → run g tasks.new s
+        ≡ run g tasks.old (assigns g value.now (out-TypedForm target.now) s)) }
 {
     match target {
         TypedForm::Local(_, name, _) => {
@@ -47,7 +49,9 @@ pub(crate) fn update<'a>(
     value: &'a TypedForm,
     tasks: &mut Stack<Task<'a>>,
 ) -> Result<(), Memory>
-    ensures { OnOk result ((g : Given) (s : State) → run g tasks.new s ≡ run g tasks.old (updates g chosen.now value.now (out-TypedForm target.now) s)) }
+    ensures { OnOk result ((g : Given) (s : State)
+        → run g tasks.new s
+        ≡ run g tasks.old (updates g chosen.now value.now (out-TypedForm target.now) s)) }
 {
     match target {
         TypedForm::Local(_, name, _) => {

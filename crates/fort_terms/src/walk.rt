@@ -40,7 +40,8 @@ fn step<'a>(
     tasks: &mut Stack<Task<'a>>,
     state: &mut State,
 ) -> Result<(), Memory>
-    ensures { OnOk result (run (given_of known.now) tasks.new state.new ≡ run (given_of known.now) tasks.old (on (given_of known.now) task.entry state.old)) }
+    ensures { OnOk result (run (given_of known.now) tasks.new state.new
+        ≡ run (given_of known.now) tasks.old (on (given_of known.now) task.entry state.old)) }
 {
     match task {
         Task::See(form) => inside(form, tasks),
@@ -93,7 +94,13 @@ pub fn term(
     counter: Counter,
     form: &TypedForm,
 ) -> Result<(Shared<Term>, u32), Memory>
-    ensures { IfOk result (λ made. (made.0 ≡ (translated (given_of known.now) form.now (record { names = names; receiver = receiver }) counter).term) × (made.1 ≡ (translated (given_of known.now) form.now (record { names = names; receiver = receiver }) counter).counter.function)) }
+    ensures { IfOk result
+        (λ made. (made.0
+        ≡ (translated (given_of known.now) form.now
+        (record { names = names; receiver = receiver }) counter).term)
+        × (made.1
+        ≡ (translated (given_of known.now) form.now
+        (record { names = names; receiver = receiver }) counter).counter.function)) }
 {
     let mut state = State::new(alloc, names, receiver, counter);
     walk(alloc, known, form, &mut state)?;

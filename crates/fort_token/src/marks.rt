@@ -1,4 +1,5 @@
-/// A symbol that is neither an operator nor a word. Each variant's comment is its spellings, the ASCII one first.
+/// A symbol that is neither an operator nor a word. Each variant's comment is its spellings, the
+/// ASCII one first.
 #[derive(Clone, Copy, Debug, PartialEq, Eq)]
 pub enum Mark {
     /// `[\`, `⟦`

@@ -31,16 +31,19 @@ operated g c a b = operation g c (a ∷ b ∷ [])
 
 -- Each comparison of a chain is of a variable and the next one.
 abbrev pub comparisons : Given → List Chosen → List ℕ → List Term
-comparisons g (c ∷ cs) (m ∷ n ∷ ns) = operated g c (Variable m) (Variable n) ∷ comparisons g cs (n ∷ ns)
+comparisons g (c ∷ cs) (m ∷ n ∷ ns) =
+    operated g c (Variable m) (Variable n) ∷ comparisons g cs (n ∷ ns)
 comparisons g _ _ = []
 
--- Comparisons are joined to the right, so that all of them come before the first join: `c1 AND (c2 AND c3)`.
+-- Comparisons are joined to the right, so that all of them come before the first join: `c1 AND (c2
+-- AND c3)`.
 abbrev pub joined : SetId → List Term → Term
 joined set [] = unit_term
 joined set (t ∷ []) = t
 joined set (t ∷ u ∷ ts) = Operator set (t ∷ joined set (u ∷ ts) ∷ [])
 
--- Each side of a chain is a local, from left to right; then come the comparisons of these variables.
+-- Each side of a chain is a local, from left to right; then come the comparisons of these
+-- variables.
 abbrev pub sides : Given → SetId → List Chosen → List Part → List ℕ → Maker
 sides g set cs [] ns = still (joined set (comparisons g cs ns))
 sides g set cs (p ∷ ps) ns = letting p.ty p.maker (λ n. sides g set cs ps (ns ++ n ∷ []))

@@ -21,12 +21,14 @@ branches _ _ other = other
 
 -- Each clause of a `case` is an `if` on `=` of the subject and what it compares with.
 abbrev pub clauses : Given → List Chosen → List Part → List Part → Maker → ℕ → Maker
-clauses g (c ∷ cs) (t ∷ ts) (v ∷ vs) other n = three If (one (operated g c (Variable n)) t.maker) v.maker (clauses g cs ts vs other n)
+clauses g (c ∷ cs) (t ∷ ts) (v ∷ vs) other n =
+    three If (one (operated g c (Variable n)) t.maker) v.maker (clauses g cs ts vs other n)
 clauses g _ _ _ other n = other
 
 -- The subject of a `case` is a local without a name.
 abbrev pub cases : Given → Part → List Chosen → List Part → List Part → Option Part → Maker
-cases g subject cs ts vs other = letting subject.ty subject.maker (clauses g cs ts vs (or_else other (no_match g)))
+cases g subject cs ts vs other =
+    letting subject.ty subject.maker (clauses g cs ts vs (or_else other (no_match g)))
 
 -- What clauses give, each with its type.
 abbrev pub with_types : List Term → List Ty → List (Term × Ty)
@@ -35,9 +37,11 @@ with_types _ _ = []
 
 -- A `typecase`: its name is one variable in all clauses and in the `else`.
 abbrev pub typecase : Given → NameId → Part → List Ty → List Part → Option Part → Maker
-typecase g name subject types vs other s c = let m = subject.maker s c in let n = m.counter.variable in let inner = with_name name n s in
+typecase g name subject types vs other s c =
+    let m = subject.maker s c in let n = m.counter.variable in let inner = with_name name n s in
     let ms = in_turn (map maker_of vs) inner (after 1 m.counter) in
-    one (Typecase n m.term (with_types ms.terms types)) (or_else other (no_match g)) inner ms.counter
+    one (Typecase n m.term (with_types ms.terms types)) (or_else other (no_match g)) inner
+    ms.counter
 
 -- The name of a `catch` is in scope of its clauses.
 abbrev pub catching : Option NameId → ℕ → Scope → Scope

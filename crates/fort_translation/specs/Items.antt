@@ -16,7 +16,8 @@ use Rattle.fort_translation.specs.Values.{unit_term}
 
 -- ---- several names at once
 
--- Names with their types get numbers one after another: their variables with the types, and the scope with them.
+-- Names with their types get numbers one after another: their variables with the types, and the
+-- scope with them.
 abbrev pub typed_variables : ℕ → List (NameId × Ty) → List (ℕ × Ty)
 typed_variables n [] = []
 typed_variables n (x ∷ xs) = (n, x.1) ∷ typed_variables (n + 1) xs
@@ -58,10 +59,18 @@ parameter p = (p.name, p.ty)
 abbrev pub within_function : Counter → Counter
 within_function c = record { variable = c.variable; function = c.function + 1 }
 
--- A function: it has the next number of a function, its parameters have the next ones of variables. It is a value where it holds nothing.
+-- A function: it has the next number of a function, its parameters have the next ones of variables.
+-- It is a value where it holds nothing.
 abbrev pub fn : List (NameId × Ty) → Ty → Maker → Maker
 fn xs result body s c = let n = c.variable in
-    one (λ t. function (record { number = c.function; parameters = typed_variables n xs; result = result; body = t; held = [] })) body (with_names n xs s) (after (length xs) (within_function c))
+    one (λ t. function
+    (record {
+      number = c.function;
+      parameters = typed_variables n xs;
+      result = result;
+      body = t;
+      held = [];
+    })) body (with_names n xs s) (after (length xs) (within_function c))
 
 -- ---- generators
 
@@ -69,11 +78,14 @@ abbrev pub order_of : Bool → Order
 order_of false = order.Parallel
 order_of true = order.Seq
 
--- Generators stand in one another, the first one outermost; each name is in scope of the later sources and of the body.
+-- Generators stand in one another, the first one outermost; each name is in scope of the later
+-- sources and of the body.
 abbrev pub loops : List (NameId × Bool) → List Part → Maker → Maker
-loops (x ∷ xs) (p ∷ ps) body = naming x.0 p.maker (λ n. For (order_of x.1) span.Whole n) (loops xs ps body)
+loops (x ∷ xs) (p ∷ ps) body =
+    naming x.0 p.maker (λ n. For (order_of x.1) span.Whole n) (loops xs ps body)
 loops _ _ body = body
 
 -- A reduction, with what it gives over no item.
 abbrev pub reduction : SetId → Term → NameId → Bool → Maker → Maker → Maker
-reduction set empty name sequential source body = naming name source (λ n. Reduce (order_of sequential) span.Whole set empty n) body
+reduction set empty name sequential source body =
+    naming name source (λ n. Reduce (order_of sequential) span.Whole set empty n) body

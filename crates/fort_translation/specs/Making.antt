@@ -1,11 +1,13 @@
--- "Numbers" of docs/TRANSLATION.md: how terms are made one after another, each variable with a number of its own. The code keeps a stack of finished terms.
+-- "Numbers" of docs/TRANSLATION.md: how terms are made one after another, each variable with a
+-- number of its own. The code keeps a stack of finished terms.
 use Rattle.std.specs.Prelude.{ℕ, ◌+◌, nat_eq, cond, List, [], ◌∷◌}
 use Rattle.fort_base.specs.declared.ids.NameId.{NameId}
 use Rattle.fort_base.specs.declared.ty.Ty.{Ty}
 use Rattle.fort_core.specs.declared.term.Term.{Term, Let}
 use Rattle.fort_translation.specs.declared.counter.Counter.{Counter}
 
--- The names in scope with the numbers of their variables, the innermost first, and the number of the receiver.
+-- The names in scope with the numbers of their variables, the innermost first, and the number of
+-- the receiver.
 pub record Scope : Type 0 where
   pub names : List (NameId × ℕ)
   pub receiver : ℕ
@@ -56,7 +58,9 @@ three f a b d s c = let m = a s c in two (f m.term) b d s m.counter
 -- Several terms, one after another.
 abbrev pub in_turn : List Maker → Scope → Counter → Several
 in_turn [] s c = record { terms = []; counter = c }
-in_turn (a ∷ more) s c = let m = a s c in let ms = in_turn more s m.counter in record { terms = m.term ∷ ms.terms; counter = ms.counter }
+in_turn (a ∷ more) s c =
+    let m = a s c in let ms = in_turn more s m.counter
+    in record { terms = m.term ∷ ms.terms; counter = ms.counter }
 
 -- A form of several parts.
 abbrev pub many : (List Term → Term) → List Maker → Maker
@@ -64,8 +68,13 @@ many f parts s c = let ms = in_turn parts s c in record { term = f ms.terms; cou
 
 -- A part gets its term, then its variable the next number, under its name; what follows has it.
 abbrev pub naming : NameId → Maker → (ℕ → Term → Term → Term) → Maker → Maker
-naming name a f rest s c = let m = a s c in let n = m.counter.variable in one (f n m.term) rest (with_name name n s) (after 1 m.counter)
+naming name a f rest s c =
+    let m = a s c in let n = m.counter.variable
+    in one (f n m.term) rest (with_name name n s) (after 1 m.counter)
 
--- A local without a name: a part gets its term, then its variable the next number; what follows has the number.
+-- A local without a name: a part gets its term, then its variable the next number; what follows has
+-- the number.
 abbrev pub letting : Ty → Maker → (ℕ → Maker) → Maker
-letting ty a rest s c = let m = a s c in let n = m.counter.variable in one (Let ((n, ty) ∷ []) m.term) (rest n) s (after 1 m.counter)
+letting ty a rest s c =
+    let m = a s c in let n = m.counter.variable
+    in one (Let ((n, ty) ∷ []) m.term) (rest n) s (after 1 m.counter)

@@ -6,13 +6,15 @@ use Rattle.fort_base.specs.declared.ty.Ty.{Ty}
 use Rattle.fort_core.specs.declared.program.CoreShape.{CoreShape}
 use Rattle.fort_translation.specs.Making.{Maker}
 
--- What is given for all forms of a component: its texts, what its declared types are made of, and the set of `widen`.
+-- What is given for all forms of a component: its texts, what its declared types are made of, and
+-- the set of `widen`.
 pub record Given : Type 0 where
   pub texts : List (List ℕ)
   pub shapes : List CoreShape
   pub widen : SetId
 
--- What a form is beside an expression: a declaration in a block, or what can be assigned to, with the types and terms of its parts.
+-- What a form is beside an expression: a declaration in a block, or what can be assigned to, with
+-- the types and terms of its parts.
 pub data Role : Type 0 where
   expression : Role
   -- `x: T = e`: whether it is mutable, T, e

@@ -1,4 +1,5 @@
--- "Programs" of docs/TRANSLATION.md: what the declared types are made of, and the opening store. The code goes over the types once.
+-- "Programs" of docs/TRANSLATION.md: what the declared types are made of, and the opening store.
+-- The code goes over the types once.
 use Rattle.std.specs.Prelude.{ℕ, ◌+◌, nat_eq, nat_le, max, Bool, true, false, cond, ◌&&◌, ◌||◌, List, [], ◌∷◌, ◌++◌, length, drop, map, Option, Some, None, unwrap_or}
 use Rattle.std.specs.List.{flat_map, list_any}
 use Rattle.fort_base.specs.declared.ids.Loc.{Loc}
@@ -25,7 +26,8 @@ use Rattle.fort_translation.specs.Values.{constant}
 
 -- ---- initials
 
--- A variable at the top or a field has an initial: whose field it is, its name, its type, and the constant.
+-- A variable at the top or a field has an initial: whose field it is, its name, its type, and the
+-- constant.
 abbrev pub Initial : Type 0
 Initial = Option TypeId × NameId × Ty × TypedForm
 
@@ -34,10 +36,13 @@ same_owner None None = true
 same_owner (Some t) (Some u) = nat_eq t.0 u.0
 same_owner _ _ = false
 
--- The value of the initial of a name, of a type's field or at the top; parameters and fields of traits have none.
+-- The value of the initial of a name, of a type's field or at the top; parameters and fields of
+-- traits have none.
 abbrev pub initial : List (List ℕ) → List Initial → Option TypeId → NameId → Option Value
 initial texts [] owner name = None
-initial texts (i ∷ is) owner name = cond (same_owner i.0 owner && nat_eq i.1.0 name.0) (Some (constant texts i.3)) (initial texts is owner name)
+initial texts (i ∷ is) owner name =
+    cond (same_owner i.0 owner
+    && nat_eq i.1.0 name.0) (Some (constant texts i.3)) (initial texts is owner name)
 
 -- ---- shapes
 
@@ -47,48 +52,66 @@ constructs_by _ t = false
 
 -- Some declaration is the constructor of an object.
 abbrev pub has_constructor : List MemberSet → TypeId → Bool
-has_constructor sets t = list_any (λ (s : MemberSet). list_any (λ (d : Member). constructs_by d.kind t) s.members) sets
+has_constructor sets t =
+    list_any (λ (s : MemberSet). list_any (λ (d : Member). constructs_by d.kind t) s.members) sets
 
--- A type of the component: a trait; an object with a constructor; or a single object, at this location.
+-- A type of the component: a trait; an object with a constructor; or a single object, at this
+-- location.
 abbrev pub kind_of : List MemberSet → TypeId → ℕ → Bool → CoreKind
 kind_of sets t l false = kind.Trait
 kind_of sets t l true = cond (has_constructor sets t) kind.Object (kind.Single (location l))
 
 -- A field of a type, with its constant where it has one.
 abbrev pub core_field : List (List ℕ) → List Initial → TypeId → Field → CoreField
-core_field texts is t f = record { name = f.name; ty = f.ty; mutable = f.mutable; initial = initial texts is (Some t) f.name }
+core_field texts is t f =
+    record {
+      name = f.name;
+      ty = f.ty;
+      mutable = f.mutable;
+      initial = initial texts is (Some t) f.name;
+    }
 
 -- A single object has a location for each field, and one where it has none; another type has none.
 abbrev pub places_of : CoreKind → ℕ → ℕ
 places_of (kind.Single l) n = max n 1
 places_of _ n = 0
 
-abbrev pub shape_of : List (List ℕ) → List Initial → List MemberSet → TypeId → ℕ → Bool → List Field → CoreShape
-shape_of texts is sets t l object fs = record { kind = kind_of sets t l object; fields = map (core_field texts is t) fs }
+abbrev pub shape_of : List (List ℕ) → List Initial → List MemberSet → TypeId → ℕ → Bool → List Field
+    → CoreShape
+shape_of texts is sets t l object fs =
+    record { kind = kind_of sets t l object; fields = map (core_field texts is t) fs }
 
--- The types of a component from a number on: single objects have the locations from this one on, in the order of their types.
-abbrev pub own_shapes : List (List ℕ) → List Initial → List MemberSet → ℕ → ℕ → List Bool → List (List Field) → List CoreShape
-own_shapes texts is sets t l (o ∷ os) (fs ∷ fss) = let s = shape_of texts is sets (record { 0 = t }) l o fs in
+-- The types of a component from a number on: single objects have the locations from this one on, in
+-- the order of their types.
+abbrev pub own_shapes : List (List ℕ) → List Initial → List MemberSet → ℕ → ℕ → List Bool
+    → List (List Field) → List CoreShape
+own_shapes texts is sets t l (o ∷ os) (fs ∷ fss) =
+    let s = shape_of texts is sets (record { 0 = t }) l o fs in
     s ∷ own_shapes texts is sets (t + 1) (l + places_of s.kind (length fs)) os fss
 own_shapes texts is sets t l _ _ = []
 
--- What the declared types are made of: the variables at the top have the first locations, then come the built-in single objects, then the component's.
+-- What the declared types are made of: the variables at the top have the first locations, then come
+-- the built-in single objects, then the component's.
 unfoldable pub shapes : List (List ℕ) → List Initial → Members → List CoreShape
 shapes texts is m = let v = length m.variables in
-    shapes_from v ++ own_shapes texts is m.sets TYPE_COUNT (v + OBJECT_COUNT) (drop TYPE_COUNT m.objects) (drop TYPE_COUNT m.fields)
+    shapes_from v
+    ++ own_shapes texts is m.sets TYPE_COUNT (v + OBJECT_COUNT) (drop TYPE_COUNT m.objects)
+    (drop TYPE_COUNT m.fields)
 
 -- ---- the opening store
 
 -- Variables at the top have the locations from this one on, in source order, with their constants.
 abbrev pub variables_from : List (List ℕ) → List Initial → ℕ → List Field → List (Loc × Value)
 variables_from texts is l [] = []
-variables_from texts is l (f ∷ fs) = (location l, unwrap_or (initial texts is None f.name) unit) ∷ variables_from texts is (l + 1) fs
+variables_from texts is l (f ∷ fs) =
+    (location l, unwrap_or (initial texts is None f.name) unit) ∷ variables_from texts is (l + 1) fs
 
 abbrev pub variable_types : ℕ → List Field → List (Loc × Ty)
 variable_types l [] = []
 variable_types l (f ∷ fs) = (location l, f.ty) ∷ variable_types (l + 1) fs
 
--- The locations of a single object from its base on hold the constants of its fields, in their order.
+-- The locations of a single object from its base on hold the constants of its fields, in their
+-- order.
 abbrev pub fields_from : ℕ → List CoreField → List (Loc × Value)
 fields_from l [] = []
 fields_from l (f ∷ fs) = (location l, unwrap_or f.initial unit) ∷ fields_from (l + 1) fs

@@ -32,10 +32,18 @@ assigned _ e = still unit_term
 abbrev pub raised : Given → Chosen → Slot → Term → Term
 raised g c x t = Write x (operated g c (Read x) t)
 
--- `t += e`, `t -= e`: the target's parts are locals, the receiver of a field, the array and the index of an element; then t is read, then e, then the sum is written.
+-- `t += e`, `t -= e`: the target's parts are locals, the receiver of a field, the array and the
+-- index of an element; then t is read, then e, then the sum is written.
 abbrev pub updated : Given → Chosen → Role → Maker → Maker
 updated g c (variable name) e = of_variable name (λ x. one (raised g c x) e)
 updated g c (top n) e = one (raised g c (slot.Location (location n))) e
-updated g c (field ty o f) e = letting ty o (λ n. one (λ t. WriteField (Variable n) f (operated g c (ReadField (Variable n) f) t)) e)
-updated g c (element ty a ty1 i) e = letting ty a (λ n. letting ty1 i (λ m. one (λ t. WriteElement (Variable n) (Variable m) (operated g c (ReadElement (Variable n) (Variable m)) t)) e))
+updated g c (field ty o f) e =
+    letting ty o
+    (λ n. one (λ t. WriteField (Variable n) f (operated g c (ReadField (Variable n) f) t)) e)
+updated g c (element ty a ty1 i) e =
+    letting ty a
+    (λ n. letting ty1 i
+    (λ m. one
+    (λ t. WriteElement (Variable n) (Variable m)
+    (operated g c (ReadElement (Variable n) (Variable m)) t)) e))
 updated g c _ e = still unit_term

@@ -1,4 +1,5 @@
--- "Forms" of docs/TRANSLATION.md: the term of each form, one case each. The code goes over the forms with a stack of tasks.
+-- "Forms" of docs/TRANSLATION.md: the term of each form, one case each. The code goes over the
+-- forms with a stack of tasks.
 use Rattle.std.specs.Prelude.{ℕ, Bool, true, false, List, [], ◌∷◌, map, Option}
 use Rattle.fort_base.specs.declared.ids.NameId.{NameId}
 use Rattle.fort_base.specs.declared.ty.Ty.{Ty}
@@ -47,19 +48,22 @@ made_at g (TypedForm-F.Chain ty set cs ps) = chain g set cs ps
 made_at g (TypedForm-F.Apply ty f a) = two Apply f.maker a.maker
 made_at g (TypedForm-F.Fn ty xs e) = fn (map parameter xs) e.ty e.maker
 made_at g (TypedForm-F.Block ty ps) = block ps
-made_at g (TypedForm-F.Bind ty name mutable written e) = binding name mutable written e.maker (still unit_term)
+made_at g (TypedForm-F.Bind ty name mutable written e) =
+    binding name mutable written e.maker (still unit_term)
 made_at g (TypedForm-F.Binds ty xs e) = bindings xs e.maker (still unit_term)
 made_at g (TypedForm-F.Also ty ps) = many Also (map maker_of ps)
 made_at g (TypedForm-F.If ty cs bs other) = branches cs bs (or_else other unit_term)
 made_at g (TypedForm-F.While ty c b) = two While c.maker b.maker
 made_at g (TypedForm-F.For ty xs ps b) = loops xs ps b.maker
 made_at g (TypedForm-F.Case ty subject cs ts vs other) = cases g subject cs ts vs other
-made_at g (TypedForm-F.Typecase ty name subject types vs other) = typecase g name subject types vs other
+made_at g (TypedForm-F.Typecase ty name subject types vs other) =
+    typecase g name subject types vs other
 made_at g (TypedForm-F.Try ty b name types vs last) = trying b name types vs last
 made_at g (TypedForm-F.Atomic ty e) = one (Atomic mode.Atomic) e.maker
 made_at g (TypedForm-F.Tryatomic ty e) = one (Atomic mode.Try) e.maker
 made_at g (TypedForm-F.Throw ty e) = one Throw e.maker
-made_at g (TypedForm-F.Reduce ty r set name sequential p b) = reduction set (neutral g r ty) name sequential p.maker b.maker
+made_at g (TypedForm-F.Reduce ty r set name sequential p b) =
+    reduction set (neutral g r ty) name sequential p.maker b.maker
 made_at g (TypedForm-F.Assign ty t e) = assigned t.role e.maker
 made_at g (TypedForm-F.Update ty t c e) = updated g c t.role e.maker
 

@@ -48,7 +48,8 @@ constant_at texts (TypedForm-F.Truth ty b) = Truth b
 constant_at texts (TypedForm-F.Operation ty set operands) = negative_of operands
 constant_at texts _ = unit
 
--- The value of an initial, which is a constant: a number, `-` before a number, a text, a truth value, or `()`.
+-- The value of an initial, which is a constant: a number, `-` before a number, a text, a truth
+-- value, or `()`.
 abbrev pub constant : List (List ℕ) → TypedForm → Value
 constant texts t = constant_at texts (out-TypedForm t)
 
@@ -83,7 +84,8 @@ is_large_at _ = false
 abbrev pub number_as : Ty → ℕ → Term
 number_as ty n = term.Value (cond (is_large_at (out-Ty ty)) (Large (pos n)) (Small (pos n)))
 
--- What a reduction gives over no item: the neutral value of its operator, of the body's type, or a throw where there is none.
+-- What a reduction gives over no item: the neutral value of its operator, of the body's type, or a
+-- throw where there is none.
 abbrev pub neutral : Given → Reduction → Ty → Term
 neutral g a_reduction.Sum ty = number_as ty 0
 neutral g a_reduction.Product ty = number_as ty 1

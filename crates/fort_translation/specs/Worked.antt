@@ -60,15 +60,20 @@ local n ty t rest = Let ((n, ty) ∷ []) t rest
 
 -- `1 < 2 <= 3`
 abbrev pub chain : TypedForm
-chain = a_typed.Chain boolean (set 9) (plain 7 ∷ plain 8 ∷ []) (literal 1 ∷ literal 2 ∷ literal 3 ∷ [])
+chain = a_typed.Chain boolean (set 9) (plain 7 ∷ plain 8 ∷ [])
+    (literal 1 ∷ literal 2 ∷ literal 3 ∷ [])
 
 abbrev pub chain_term : Term
 chain_term = local 0 zz32 (small 1) (local 1 zz32 (small 2) (local 2 zz32 (small 3)
-    (Operator (set 9) (Operator (set 7) (Variable 0 ∷ Variable 1 ∷ []) ∷ Operator (set 8) (Variable 1 ∷ Variable 2 ∷ []) ∷ []))))
+    (Operator (set 9)
+    (Operator (set 7) (Variable 0 ∷ Variable 1 ∷ [])
+    ∷ Operator (set 8) (Variable 1 ∷ Variable 2 ∷ []) ∷ []))))
 
 -- `do x: ZZ32 = 1; y: ZZ32 = x; y end`
 abbrev pub block : TypedForm
-block = a_typed.Block zz32 (a_typed.Bind (a_type.Tuple []) (name 0) false zz32 (literal 1) ∷ a_typed.Bind (a_type.Tuple []) (name 1) false zz32 (a_typed.Local zz32 (name 0) false)
+block = a_typed.Block zz32
+    (a_typed.Bind (a_type.Tuple []) (name 0) false zz32 (literal 1)
+    ∷ a_typed.Bind (a_type.Tuple []) (name 1) false zz32 (a_typed.Local zz32 (name 0) false)
     ∷ a_typed.Local zz32 (name 1) false ∷ [])
 
 abbrev pub block_term : Term
@@ -76,28 +81,45 @@ block_term = local 0 zz32 (small 1) (local 1 zz32 (Variable 0) (Variable 1))
 
 -- `a[i] += 1`, where a is the variable 4 and i the mutable variable 5
 abbrev pub update : TypedForm
-update = a_typed.Update (a_type.Tuple []) (a_typed.ReadElement zz32 (a_typed.Local (a_type.Array zz32) (name 0) false) (a_typed.Local zz32 (name 1) true)) (plain 7) (literal 1)
+update = a_typed.Update (a_type.Tuple [])
+    (a_typed.ReadElement zz32 (a_typed.Local (a_type.Array zz32) (name 0) false)
+    (a_typed.Local zz32 (name 1) true)) (plain 7) (literal 1)
 
 abbrev pub with_two : Scope
 with_two = record { names = (name 1, 5) ∷ (name 0, 4) ∷ []; receiver = 0 }
 
 abbrev pub update_term : Term
 update_term = local 6 (a_type.Array zz32) (Variable 4) (local 7 zz32 (Read (slot.Variable 5))
-    (WriteElement (Variable 6) (Variable 7) (Operator (set 7) (ReadElement (Variable 6) (Variable 7) ∷ small 1 ∷ []))))
+    (WriteElement (Variable 6) (Variable 7)
+    (Operator (set 7) (ReadElement (Variable 6) (Variable 7) ∷ small 1 ∷ []))))
 
 -- `case n of 5 => 1 end`, where n is the variable 4, a ZZ64
 abbrev pub cases : TypedForm
-cases = a_typed.Case zz32 (a_typed.Local zz64 (name 0) false) (widening 7 ∷ []) (literal 5 ∷ []) (literal 1 ∷ []) None
+cases = a_typed.Case zz32 (a_typed.Local zz64 (name 0) false) (widening 7 ∷ []) (literal 5 ∷ [])
+    (literal 1 ∷ []) None
 
 abbrev pub cases_term : Given → Term
-cases_term g = local 6 zz64 (Variable 4) (If (Operator (set 7) (Variable 6 ∷ Call g.widen (small 5 ∷ []) ∷ [])) (small 1) (no_match g))
+cases_term g =
+    local 6 zz64 (Variable 4)
+    (If (Operator (set 7) (Variable 6 ∷ Call g.widen (small 5 ∷ []) ∷ [])) (small 1) (no_match g))
 
 -- `fn (x: ZZ32) => x`
 abbrev pub identity : Parameter → TypedForm
-identity x = a_typed.Fn (a_type.Arrow zz32 zz32) (record x { name = name 0; ty = zz32 } ∷ []) (a_typed.Local zz32 (name 0) false)
+identity x =
+    a_typed.Fn (a_type.Arrow zz32 zz32) (record x { name = name 0; ty = zz32 } ∷ [])
+    (a_typed.Local zz32 (name 0) false)
 
 abbrev pub identity_term : Term
-identity_term = term.Value (Function (record { number = 3; parameters = (0, zz32) ∷ []; result = zz32; body = Variable 0; held = [] }))
+identity_term =
+    term.Value
+    (Function
+    (record {
+      number = 3;
+      parameters = (0, zz32) ∷ [];
+      result = zz32;
+      body = Variable 0;
+      held = [];
+    }))
 
 -- These forms have these terms.
 abbrev pub FormsAreWorked : Type 0

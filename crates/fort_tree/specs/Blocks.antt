@@ -24,7 +24,8 @@ initial_token (initial_sign.Becomes s) = marked mark.Becomes s
 -- a part, with `var` before it where that stands
 abbrev pub after_var : Option Spot → Said → Said
 after_var None part = part
-after_var (Some s) part = record { first = word reserved.Var s; more = tokens_of part; obeys = part.obeys }
+after_var (Some s) part =
+    record { first = word reserved.Var s; more = tokens_of part; obeys = part.obeys }
 
 -- what a declaration of a variable says
 abbrev pub variable_step : OfVariable → Said
@@ -49,8 +50,11 @@ abbrev pub item_step : OfItem → Said
 item_step (Item-F.Variable variable) = variable
 item_step (Item-F.Names left first others right at_colon ty at_equals value) = record {
   first = marked mark.OpenParen left;
-  more = named first ∷ (next_names_tokens others ++ marked mark.CloseParen right ∷ colon at_colon ∷ (tokens_of (said_type ty) ++ equals at_equals ∷ tokens_of value));
-  obeys = λ names allowed. has_next_name others && ((said_type ty).obeys names elsewhere && value.obeys names elsewhere);
+  more = named first
+      ∷ (next_names_tokens others ++ marked mark.CloseParen right ∷ colon at_colon
+      ∷ (tokens_of (said_type ty) ++ equals at_equals ∷ tokens_of value));
+  obeys = λ names allowed. has_next_name others
+      && ((said_type ty).obeys names elsewhere && value.obeys names elsewhere);
 }
 item_step (Item-F.Expr expr) = record {
   first = expr.first;
@@ -66,7 +70,12 @@ block_item_step entry = record { item = entry.item; semicolon = entry.semicolon 
 
 -- a word and the block behind it
 abbrev pub block_after : Reserved → Spot → List SaidEntry → Said
-block_after w s block = record { first = word w s; more = entries_tokens block; obeys = λ names allowed. entries_obey names block }
+block_after w s block =
+    record {
+      first = word w s;
+      more = entries_tokens block;
+      obeys = λ names allowed. entries_obey names block;
+    }
 
 -- what a further block of a `do` says
 abbrev pub also_step : OfAlso → Said
@@ -114,7 +123,8 @@ case_clause_step c = record { item = clause c.subject c.arrow c.value; semicolon
 
 -- what a clause of a `typecase` or `catch` says, and its `;`
 abbrev pub type_clause_step : OfTypeClause → SaidEntry
-type_clause_step c = record { item = clause (said_type c.ty) c.arrow c.value; semicolon = c.semicolon }
+type_clause_step c =
+    record { item = clause (said_type c.ty) c.arrow c.value; semicolon = c.semicolon }
 
 -- what the `else` of a `case` or `typecase` says, and the second `;` before it
 abbrev pub else_clause_step : OfElseClause → SaidElse
@@ -137,41 +147,59 @@ catch_step c = record {
 
 -- ---- Delim
 
--- A `do` is no atom of the flat expression before the `do` of a `while` or `for`. A `case` and a `typecase` have a clause
--- at least, and a `try` has a `catch` or a `finally`.
+-- A `do` is no atom of the flat expression before the `do` of a `while` or `for`. A `case` and a
+-- `typecase` have a clause at least, and a `try` has a `catch` or a `finally`.
 abbrev pub delimited_step : OfDelimited → Said
 delimited_step (Delimited-F.Do at_do block others end) = record {
   first = word reserved.Do at_do;
   more = entries_tokens block ++ (all_tokens others ++ word reserved.End end ∷ []);
-  obeys = λ names allowed. allowed.blocks && (entries_obey names block && all_obey names elsewhere others);
+  obeys = λ names allowed. allowed.blocks
+      && (entries_obey names block && all_obey names elsewhere others);
 }
 delimited_step (Delimited-F.If at_if condition then block elifs otherwise end) = record {
   first = word reserved.If at_if;
-  more = tokens_of condition ++ word reserved.Then then ∷ (entries_tokens block ++ (all_tokens elifs ++ (maybe_tokens otherwise ++ word reserved.End end ∷ [])));
-  obeys = λ names allowed. condition.obeys names elsewhere && (entries_obey names block && (all_obey names elsewhere elifs && maybe_obeys names elsewhere otherwise));
+  more = tokens_of condition ++ word reserved.Then
+      then ∷ (entries_tokens block
+      ++ (all_tokens elifs ++ (maybe_tokens otherwise ++ word reserved.End end ∷ [])));
+  obeys = λ names allowed. condition.obeys names elsewhere
+      && (entries_obey names block
+      && (all_obey names elsewhere elifs && maybe_obeys names elsewhere otherwise));
 }
 delimited_step (Delimited-F.While at_while condition at_do block end) = record {
   first = word reserved.While at_while;
-  more = tokens_of condition ++ word reserved.Do at_do ∷ (entries_tokens block ++ word reserved.End end ∷ []);
+  more = tokens_of condition ++ word reserved.Do at_do
+      ∷ (entries_tokens block ++ word reserved.End end ∷ []);
   obeys = λ names allowed. condition.obeys names before_do && entries_obey names block;
 }
 delimited_step (Delimited-F.For at_for generator others at_do block end) = record {
   first = word reserved.For at_for;
-  more = tokens_of generator ++ (all_tokens others ++ word reserved.Do at_do ∷ (entries_tokens block ++ word reserved.End end ∷ []));
-  obeys = λ names allowed. generator.obeys names before_do && (all_obey names before_do others && entries_obey names block);
+  more = tokens_of generator
+      ++ (all_tokens others ++ word reserved.Do at_do
+      ∷ (entries_tokens block ++ word reserved.End end ∷ []));
+  obeys = λ names allowed. generator.obeys names before_do
+      && (all_obey names before_do others && entries_obey names block);
 }
 delimited_step (Delimited-F.Case at_case subject of clauses otherwise end) = record {
   first = word reserved.Case at_case;
-  more = tokens_of subject ++ word reserved.Of of ∷ (entries_tokens clauses ++ (else_tokens otherwise ++ word reserved.End end ∷ []));
-  obeys = λ names allowed. subject.obeys names elsewhere && (has_entry clauses && (entries_obey names clauses && else_obeys names clauses otherwise));
+  more = tokens_of subject ++ word reserved.Of of
+      ∷ (entries_tokens clauses ++ (else_tokens otherwise ++ word reserved.End end ∷ []));
+  obeys = λ names allowed. subject.obeys names elsewhere
+      && (has_entry clauses && (entries_obey names clauses && else_obeys names clauses otherwise));
 }
-delimited_step (Delimited-F.Typecase at_typecase name at_equals subject of clauses otherwise end) = record {
-  first = word reserved.Typecase at_typecase;
-  more = named name ∷ equals at_equals ∷ (tokens_of subject ++ word reserved.Of of ∷ (entries_tokens clauses ++ (else_tokens otherwise ++ word reserved.End end ∷ [])));
-  obeys = λ names allowed. subject.obeys names elsewhere && (has_entry clauses && (entries_obey names clauses && else_obeys names clauses otherwise));
-}
+delimited_step (Delimited-F.Typecase at_typecase name at_equals subject of clauses otherwise end) =
+    record {
+      first = word reserved.Typecase at_typecase;
+      more = named name ∷ equals at_equals
+          ∷ (tokens_of subject ++ word reserved.Of of
+          ∷ (entries_tokens clauses ++ (else_tokens otherwise ++ word reserved.End end ∷ [])));
+      obeys = λ names allowed. subject.obeys names elsewhere
+          && (has_entry clauses && (entries_obey names clauses && else_obeys names clauses otherwise));
+    }
 delimited_step (Delimited-F.Try at_try block catch finally end) = record {
   first = word reserved.Try at_try;
-  more = entries_tokens block ++ (maybe_tokens catch ++ (maybe_tokens finally ++ word reserved.End end ∷ []));
-  obeys = λ names allowed. (is_there catch || is_there finally) && (entries_obey names block && (maybe_obeys names elsewhere catch && maybe_obeys names elsewhere finally));
+  more = entries_tokens block
+      ++ (maybe_tokens catch ++ (maybe_tokens finally ++ word reserved.End end ∷ []));
+  obeys = λ names allowed. (is_there catch || is_there finally)
+      && (entries_obey names block
+      && (maybe_obeys names elsewhere catch && maybe_obeys names elsewhere finally));
 }

@@ -1,5 +1,6 @@
--- The chapter "Grammar", components: their tokens, the rules that they obey, and which token list has which tree. A token
--- list has a tree where the tree yields it and obeys the rules; the code reads the list from left to right.
+-- The chapter "Grammar", components: their tokens, the rules that they obey, and which token list
+-- has which tree. A token list has a tree where the tree yields it and obeys the rules; the code
+-- reads the list from left to right.
 use Rattle.std.specs.Prelude.{ℕ, ◌≡◌, Bool, true, ◌&&◌, IsTrue, List, [], ◌∷◌, ◌++◌, Option, Some, None, map, length, nat_lt}
 use Rattle.std.specs.List.{AllPass}
 use Rattle.fort_ops.specs.declared.op.Op.TheVariants as op
@@ -31,7 +32,8 @@ export_obeys names (Some e) = is_spelled "Executable" names e.name
 -- the tokens of a component
 abbrev pub yield : Component → List Token
 yield c = word reserved.Component c.component ∷ named c.name
-    ∷ (export_tokens c.export ++ (entries_tokens (map said_declared c.declarations) ++ word reserved.End c.end ∷ []))
+    ∷ (export_tokens c.export
+    ++ (entries_tokens (map said_declared c.declarations) ++ word reserved.End c.end ∷ []))
 
 -- whether the rules on gaps and names hold in a component
 abbrev pub obeys : Component → Bool
@@ -41,7 +43,8 @@ obeys c = export_obeys c.names c.export && entries_obey c.names (map said_declar
 abbrev pub Obeys : Component → Type 0
 Obeys c = IsTrue (obeys c)
 
--- A token list has a component as its tree where the component yields it, has its names and texts, and obeys the rules.
+-- A token list has a component as its tree where the component yields it, has its names and texts,
+-- and obeys the rules.
 pub record HasTree (tokens : Tokens) (c : Component) : Type 0 where
   pub yields : yield c ≡ tokens.list
   pub names : c.names ≡ tokens.names
@@ -56,11 +59,13 @@ HasExpr names ts e = (tokens_of (said_expr e) ≡ ts) × (IsTrue ((said_expr e).
 
 -- Tokens are a type over these names.
 abbrev pub HasType : Spellings → List Token → TypeTree → Type 0
-HasType names ts ty = (tokens_of (said_type ty) ≡ ts) × (IsTrue ((said_type ty).obeys names elsewhere))
+HasType names ts ty = (tokens_of (said_type ty) ≡ ts)
+    × (IsTrue ((said_type ty).obeys names elsewhere))
 
 -- ---- numbers of names and texts
 
--- whether a token's number of a name or text, where it has one, is below the numbers of names and of texts
+-- whether a token's number of a name or text, where it has one, is below the numbers of names and
+-- of texts
 abbrev pub number_is_in : ℕ → ℕ → Kind → Bool
 number_is_in names texts (kind.Name n) = nat_lt n.0 names
 number_is_in names texts (kind.Text n) = nat_lt n texts

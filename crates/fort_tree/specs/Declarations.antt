@@ -56,7 +56,8 @@ name_more (function_name.Juxtaposition opr name) = named name ∷ []
 abbrev pub name_fits : Spellings → FunctionName → ℕ → Bool
 name_fits names (function_name.Name name) count = true
 name_fits names (function_name.Operator opr sign) count = may_declare sign.op count
-name_fits names (function_name.Juxtaposition opr name) count = is_spelled "juxtaposition" names name && (count == 2)
+name_fits names (function_name.Juxtaposition opr name) count =
+    is_spelled "juxtaposition" names name && (count == 2)
 
 -- whether a name is declared by `opr`
 abbrev pub is_opr : FunctionName → Bool
@@ -70,10 +71,14 @@ is_opr (function_name.Juxtaposition opr name) = true
 abbrev pub said_function : Function → Said
 said_function f = record {
   first = name_first f.name;
-  more = name_more f.name ++ marked mark.OpenParen f.left ∷ (maybe_tokens (option_map said_parameters f.parameters) ++ marked mark.CloseParen f.right ∷ colon f.colon
+  more = name_more f.name ++ marked mark.OpenParen f.left
+      ∷ (maybe_tokens (option_map said_parameters f.parameters) ++ marked mark.CloseParen f.right
+      ∷ colon f.colon
       ∷ (tokens_of (said_type f.result) ++ equals f.equals ∷ tokens_of (said_expr f.body)));
   obeys = λ names allowed. name_fits names f.name (parameter_count f.parameters)
-      && (maybe_obeys names elsewhere (option_map said_parameters f.parameters) && ((said_type f.result).obeys names elsewhere && (said_expr f.body).obeys names elsewhere));
+      && (maybe_obeys names elsewhere (option_map said_parameters f.parameters)
+      && ((said_type f.result).obeys names elsewhere
+      && (said_expr f.body).obeys names elsewhere));
 }
 
 -- ---- Method, MParam
@@ -81,7 +86,8 @@ said_function f = record {
 -- what a parameter of a method says: a parameter, or `self`
 abbrev pub said_method_parameter : MethodParameter → Said
 said_method_parameter (method_parameter.Parameter parameter) = said_parameter parameter
-said_method_parameter (method_parameter.Self_ s) = record { first = word reserved.Self_ s; more = []; obeys = λ names allowed. true }
+said_method_parameter (method_parameter.Self_ s) =
+    record { first = word reserved.Self_ s; more = []; obeys = λ names allowed. true }
 
 -- what a further parameter of a method says: a comma, and it
 abbrev pub said_next_method_parameter : NextMethodParameter → Said
@@ -95,8 +101,10 @@ said_next_method_parameter next = record {
 abbrev pub said_method_parameters : MethodParameters → Said
 said_method_parameters list = record {
   first = (said_method_parameter list.first).first;
-  more = (said_method_parameter list.first).more ++ all_tokens (map said_next_method_parameter list.others);
-  obeys = λ names allowed. (said_method_parameter list.first).obeys names allowed && all_obey names allowed (map said_next_method_parameter list.others);
+  more = (said_method_parameter list.first).more
+      ++ all_tokens (map said_next_method_parameter list.others);
+  obeys = λ names allowed. (said_method_parameter list.first).obeys names allowed
+      && all_obey names allowed (map said_next_method_parameter list.others);
 }
 
 -- 1 where a parameter is `self`
@@ -137,10 +145,14 @@ selves_fit name count = (count == 1) || ((count == 0) && not (is_opr name))
 abbrev pub said_method : Method → Said
 said_method m = record {
   first = name_first m.name;
-  more = name_more m.name ++ marked mark.OpenParen m.left ∷ (maybe_tokens (option_map said_method_parameters m.parameters) ++ marked mark.CloseParen m.right ∷ colon m.colon
+  more = name_more m.name ++ marked mark.OpenParen m.left
+      ∷ (maybe_tokens (option_map said_method_parameters m.parameters)
+      ++ marked mark.CloseParen m.right ∷ colon m.colon
       ∷ (tokens_of (said_type m.result) ++ body_tokens m.body));
-  obeys = λ names allowed. name_fits names m.name (method_parameter_count m.parameters) && (selves_fit m.name (selves m.parameters)
-      && (maybe_obeys names elsewhere (option_map said_method_parameters m.parameters) && ((said_type m.result).obeys names elsewhere && body_obeys names m.body)));
+  obeys = λ names allowed. name_fits names m.name (method_parameter_count m.parameters)
+      && (selves_fit m.name (selves m.parameters)
+      && (maybe_obeys names elsewhere (option_map said_method_parameters m.parameters)
+      && ((said_type m.result).obeys names elsewhere && body_obeys names m.body)));
 }
 
 -- ---- Names, Ext, Exc, Com
@@ -148,7 +160,9 @@ said_method m = record {
 -- the tokens of one name, or of names in braces
 abbrev pub names_tokens : Names → List Token
 names_tokens (names_of.One name) = named name ∷ []
-names_tokens (names_of.Braces left first others right) = marked mark.OpenBrace left ∷ named first ∷ (next_names_tokens others ++ marked mark.CloseBrace right ∷ [])
+names_tokens (names_of.Braces left first others right) =
+    marked mark.OpenBrace left ∷ named first
+    ∷ (next_names_tokens others ++ marked mark.CloseBrace right ∷ [])
 
 -- the tokens of an `extends`
 abbrev pub extends_tokens : Option Extends → List Token
@@ -184,7 +198,8 @@ said_trait_entry e = record { item = said_trait_member e.member; semicolon = e.s
 abbrev pub said_trait : Trait → Said
 said_trait t = record {
   first = word reserved.Trait t.trait_;
-  more = named t.name ∷ (extends_tokens t.extends ++ (excludes_tokens t.excludes ++ (comprises_tokens t.comprises
+  more = named t.name
+      ∷ (extends_tokens t.extends ++ (excludes_tokens t.excludes ++ (comprises_tokens t.comprises
       ++ (entries_tokens (map said_trait_entry t.members) ++ word reserved.End t.end ∷ []))));
   obeys = λ names allowed. entries_obey names (map said_trait_entry t.members);
 }
@@ -211,16 +226,20 @@ said_next_object_parameter next = record {
 abbrev pub said_object_parameter_list : ObjectParameterList → Said
 said_object_parameter_list list = record {
   first = (said_object_parameter list.first).first;
-  more = (said_object_parameter list.first).more ++ all_tokens (map said_next_object_parameter list.others);
-  obeys = λ names allowed. (said_object_parameter list.first).obeys names allowed && all_obey names allowed (map said_next_object_parameter list.others);
+  more = (said_object_parameter list.first).more
+      ++ all_tokens (map said_next_object_parameter list.others);
+  obeys = λ names allowed. (said_object_parameter list.first).obeys names allowed
+      && all_obey names allowed (map said_next_object_parameter list.others);
 }
 
 -- what an object's parameters and their parentheses say
 abbrev pub said_object_parameters : ObjectParameters → Said
 said_object_parameters p = record {
   first = marked mark.OpenParen p.left;
-  more = maybe_tokens (option_map said_object_parameter_list p.parameters) ++ marked mark.CloseParen p.right ∷ [];
-  obeys = λ names allowed. maybe_obeys names allowed (option_map said_object_parameter_list p.parameters);
+  more = maybe_tokens (option_map said_object_parameter_list p.parameters)
+      ++ marked mark.CloseParen p.right ∷ [];
+  obeys = λ names allowed. maybe_obeys names allowed
+      (option_map said_object_parameter_list p.parameters);
 }
 
 -- A method of an object has a body.
@@ -240,9 +259,12 @@ said_object_entry e = record { item = said_object_member e.member; semicolon = e
 abbrev pub said_object : Object → Said
 said_object o = record {
   first = word reserved.Object o.object;
-  more = named o.name ∷ (maybe_tokens (option_map said_object_parameters o.parameters) ++ (extends_tokens o.extends
+  more = named o.name
+      ∷ (maybe_tokens (option_map said_object_parameters o.parameters) ++ (extends_tokens o.extends
       ++ (entries_tokens (map said_object_entry o.members) ++ word reserved.End o.end ∷ [])));
-  obeys = λ names allowed. maybe_obeys names elsewhere (option_map said_object_parameters o.parameters) && entries_obey names (map said_object_entry o.members);
+  obeys = λ names allowed. maybe_obeys names elsewhere
+      (option_map said_object_parameters o.parameters)
+      && entries_obey names (map said_object_entry o.members);
 }
 
 -- ---- Decl

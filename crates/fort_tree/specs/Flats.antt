@@ -1,4 +1,5 @@
--- The chapter "Grammar", expressions: what one level of each says. The code reads a flat expression unit by unit.
+-- The chapter "Grammar", expressions: what one level of each says. The code reads a flat expression
+-- unit by unit.
 use Rattle.std.specs.Prelude.{Bool, true, false, ◌&&◌, ◌||◌, not, List, [], ◌∷◌, ◌++◌, Option, Some, None, option_map}
 use Rattle.fort_ops.specs.declared.op.Op.TheVariants as op
 use Rattle.fort_token.specs.declared.token.Token.{Token}
@@ -32,7 +33,8 @@ expr_step (Expr-F.Flat flat) = flat
 expr_step (Expr-F.Assign target sign head value) = record {
   first = target.first;
   more = target.more ++ assign_token sign ∷ (maybe_tokens head ++ tokens_of value);
-  obeys = λ names allowed. target.obeys names elsewhere && (maybe_obeys names elsewhere head && value.obeys names elsewhere);
+  obeys = λ names allowed. target.obeys names elsewhere
+      && (maybe_obeys names elsewhere head && value.obeys names elsewhere);
 }
 expr_step (Expr-F.Open head body) = record {
   first = head.first;
@@ -42,7 +44,8 @@ expr_step (Expr-F.Open head body) = record {
 expr_step (Expr-F.OpenAssign head target sign value) = record {
   first = head.first;
   more = head.more ++ (tokens_of target ++ assign_token sign ∷ tokens_of value);
-  obeys = λ names allowed. head.obeys names elsewhere && (target.obeys names elsewhere && value.obeys names elsewhere);
+  obeys = λ names allowed. head.obeys names elsewhere
+      && (target.obeys names elsewhere && value.obeys names elsewhere);
 }
 
 -- ---- Head, Big, Gen
@@ -71,21 +74,28 @@ big_more (big_word.Or s t) = operator op.Or t ∷ []
 
 -- what a head says
 abbrev pub head_step : OfHead → Said
-head_step (Head-F.Atomic s) = record { first = word reserved.Atomic s; more = []; obeys = λ names allowed. true }
-head_step (Head-F.Tryatomic s) = record { first = word reserved.Tryatomic s; more = []; obeys = λ names allowed. true }
-head_step (Head-F.Throw s) = record { first = word reserved.Throw s; more = []; obeys = λ names allowed. true }
+head_step (Head-F.Atomic s) =
+    record { first = word reserved.Atomic s; more = []; obeys = λ names allowed. true }
+head_step (Head-F.Tryatomic s) =
+    record { first = word reserved.Tryatomic s; more = []; obeys = λ names allowed. true }
+head_step (Head-F.Throw s) =
+    record { first = word reserved.Throw s; more = []; obeys = λ names allowed. true }
 head_step (Head-F.Fn s left parameters right arrow) = record {
   first = word reserved.Fn s;
-  more = marked mark.OpenParen left ∷ (maybe_tokens (maybe_parameters parameters) ++ marked mark.CloseParen right ∷ marked mark.DoubleArrow arrow ∷ []);
+  more = marked mark.OpenParen left
+      ∷ (maybe_tokens (maybe_parameters parameters) ++ marked mark.CloseParen right
+      ∷ marked mark.DoubleArrow arrow ∷ []);
   obeys = λ names allowed. maybe_obeys names elsewhere (maybe_parameters parameters);
 }
 head_step (Head-F.Big big left generator right) = record {
   first = big_first big;
-  more = big_more big ++ marked mark.OpenBracket left ∷ (tokens_of generator ++ marked mark.CloseBracket right ∷ []);
+  more = big_more big ++ marked mark.OpenBracket left
+      ∷ (tokens_of generator ++ marked mark.CloseBracket right ∷ []);
   obeys = λ names allowed. generator.obeys names elsewhere;
 }
 
--- The source of a generator of a `for` stands before its `do`, unless it stands in the parentheses of `seq`.
+-- The source of a generator of a `for` stands before its `do`, unless it stands in the parentheses
+-- of `seq`.
 abbrev pub generator_step : OfGenerator → Said
 generator_step (Generator-F.Parallel name arrow source) = record {
   first = named name;
@@ -94,7 +104,8 @@ generator_step (Generator-F.Parallel name arrow source) = record {
 }
 generator_step (Generator-F.Sequential name arrow seq left source right) = record {
   first = named name;
-  more = marked mark.LeftArrow arrow ∷ word reserved.Seq seq ∷ marked mark.OpenParen left ∷ (tokens_of source ++ marked mark.CloseParen right ∷ []);
+  more = marked mark.LeftArrow arrow ∷ word reserved.Seq seq ∷ marked mark.OpenParen left
+      ∷ (tokens_of source ++ marked mark.CloseParen right ∷ []);
   obeys = λ names allowed. source.obeys names elsewhere;
 }
 
@@ -108,24 +119,29 @@ flat_step flat = record {
   obeys = λ names allowed. flat.first.obeys names allowed && all_obey names allowed flat.rest;
 }
 
--- Two runs have a gap between them. A new line before a run or an operator that stands behind a run is for brackets.
+-- Two runs have a gap between them. A new line before a run or an operator that stands behind a run
+-- is for brackets.
 abbrev pub flat_part_step : OfFlatPart → Said
 flat_part_step (FlatPart-F.Run run) = record {
   first = run.first;
   more = run.more;
-  obeys = λ names allowed. not (is_empty (gap_of run)) && ((allowed.lines || not (is_line (gap_of run))) && run.obeys names allowed);
+  obeys = λ names allowed. not (is_empty (gap_of run))
+      && ((allowed.lines || not (is_line (gap_of run))) && run.obeys names allowed);
 }
 flat_part_step (FlatPart-F.Infix sign operand) = record {
   first = signed sign;
   more = tokens_of operand;
-  obeys = λ names allowed. is_infix sign.op && ((allowed.lines || not (is_line sign.spot.gap)) && operand.obeys names allowed);
+  obeys = λ names allowed. is_infix sign.op
+      && ((allowed.lines || not (is_line sign.spot.gap)) && operand.obeys names allowed);
 }
 
 -- a run behind its prefix operator, where it has one
 abbrev pub prefixed : Option Prefix → Said → Said
 prefixed None run = run
-prefixed (Some (a_prefix.Minus s)) run = record { first = operator op.Minus s; more = tokens_of run; obeys = run.obeys }
-prefixed (Some (a_prefix.Not s)) run = record { first = operator op.Not s; more = tokens_of run; obeys = run.obeys }
+prefixed (Some (a_prefix.Minus s)) run =
+    record { first = operator op.Minus s; more = tokens_of run; obeys = run.obeys }
+prefixed (Some (a_prefix.Not s)) run =
+    record { first = operator op.Not s; more = tokens_of run; obeys = run.obeys }
 
 -- what a unit says
 abbrev pub operand_step : OfOperand → Said
@@ -148,7 +164,8 @@ abbrev pub begins_with_paren : List Said → Bool
 begins_with_paren [] = false
 begins_with_paren (x ∷ xs) = is_open_paren x.first.kind
 
--- A `(` directly after a dotted name begins that method call's arguments, so it begins no part of its own there.
+-- A `(` directly after a dotted name begins that method call's arguments, so it begins no part of
+-- its own there.
 abbrev pub calls_are_whole : List Said → Bool
 calls_are_whole [] = true
 calls_are_whole (x ∷ xs) = not (is_field x && begins_with_paren xs) && calls_are_whole xs
@@ -158,7 +175,8 @@ abbrev pub run_step : OfRun → Said
 run_step run = record {
   first = run.first.first;
   more = run.first.more ++ all_tokens run.rest;
-  obeys = λ names allowed. run.first.obeys names allowed && (all_obey names allowed run.rest && calls_are_whole run.rest);
+  obeys = λ names allowed. run.first.obeys names allowed
+      && (all_obey names allowed run.rest && calls_are_whole run.rest);
 }
 
 -- No gap stands before a part of a run.
@@ -193,8 +211,10 @@ postfix_step (Postfix-F.Field dot name) = record {
 }
 postfix_step (Postfix-F.Call dot name left arguments right) = record {
   first = marked mark.Dot dot;
-  more = named name ∷ marked mark.OpenParen left ∷ (maybe_tokens arguments ++ marked mark.CloseParen right ∷ []);
-  obeys = λ names allowed. is_empty name.spot.gap && (is_empty left.gap && maybe_obeys names in_brackets arguments);
+  more = named name ∷ marked mark.OpenParen left
+      ∷ (maybe_tokens arguments ++ marked mark.CloseParen right ∷ []);
+  obeys = λ names allowed. is_empty name.spot.gap
+      && (is_empty left.gap && maybe_obeys names in_brackets arguments);
 }
 
 -- ---- Atom
@@ -219,11 +239,19 @@ atom_step (Atom-F.Parens left contents right) = record {
 atom_step (Atom-F.Delimited form) = form
 atom_step (Atom-F.ArrayFill spots element size value) = record {
   first = word reserved.Array spots.array;
-  more = marked mark.OpenStatic spots.left ∷ (tokens_of (said_type element) ++ marked mark.CloseStatic spots.right ∷ marked mark.OpenParen spots.size_left
-      ∷ (tokens_of size ++ marked mark.CloseParen spots.size_right ∷ marked mark.Dot spots.dot ∷ named spots.fill ∷ marked mark.OpenParen spots.value_left
+  more = marked mark.OpenStatic spots.left
+      ∷ (tokens_of (said_type element) ++ marked mark.CloseStatic spots.right
+      ∷ marked mark.OpenParen spots.size_left
+      ∷ (tokens_of size ++ marked mark.CloseParen spots.size_right ∷ marked mark.Dot spots.dot
+      ∷ named spots.fill ∷ marked mark.OpenParen spots.value_left
       ∷ (tokens_of value ++ marked mark.CloseParen spots.value_right ∷ [])));
-  obeys = λ names allowed. (is_empty spots.left.gap && (is_empty spots.size_left.gap && (is_empty spots.dot.gap && (is_empty spots.fill.spot.gap && is_empty spots.value_left.gap))))
-      && (is_spelled "fill" names spots.fill && ((said_type element).obeys names elsewhere && (size.obeys names in_brackets && value.obeys names in_brackets)));
+  obeys = λ names allowed. (is_empty spots.left.gap
+      && (is_empty spots.size_left.gap
+      && (is_empty spots.dot.gap
+      && (is_empty spots.fill.spot.gap && is_empty spots.value_left.gap))))
+      && (is_spelled "fill" names spots.fill
+      && ((said_type element).obeys names elsewhere
+      && (size.obeys names in_brackets && value.obeys names in_brackets)));
 }
 
 -- what a list of expressions says

@@ -1,4 +1,5 @@
--- The chapter "Grammar", limits: what a tree measures, the places of its flat expressions and of its crowded forms.
+-- The chapter "Grammar", limits: what a tree measures, the places of its flat expressions and of
+-- its crowded forms.
 use Rattle.std.specs.Prelude.{ℕ, cond, nat_lt, List, [], ◌∷◌, ◌++◌, Option, Some, None, length}
 use Rattle.fort_base.specs.declared.refusal.Place.{Place}
 use Rattle.fort_tree.specs.declared.grouped.Joint.{Joint}
@@ -84,7 +85,8 @@ over most count place = cond (nat_lt most count) (place ∷ []) []
 
 -- what a form measures that begins there, by its own crowding and its parts
 abbrev pub made_of : Spot → List Place → List Measured → Measured
-made_of spot own parts = record { spot = spot; flats = all_flats parts; crowded = own ++ all_crowded parts }
+made_of spot own parts =
+    record { spot = spot; flats = all_flats parts; crowded = own ++ all_crowded parts }
 
 -- the same of a type, in which no flat expression stands
 abbrev pub made_in_type : Spot → List Place → List Measured → Measured
@@ -98,7 +100,8 @@ maybe_measured (Some m) = m ∷ []
 -- a block, which stands at its first item
 abbrev pub block_measured : List Measured → List Measured
 block_measured [] = []
-block_measured (m ∷ ms) = made_of m.spot (over most_items (length (m ∷ ms)) m.spot.place) (m ∷ ms) ∷ []
+block_measured (m ∷ ms) =
+    made_of m.spot (over most_items (length (m ∷ ms)) m.spot.place) (m ∷ ms) ∷ []
 
 -- a list of expressions or types, or the clauses of a `catch`, as its parts
 pub record Listed : Type 0 where
@@ -113,100 +116,175 @@ listed_parts (Some l) = l.parts
 
 -- one level of a form that ends with `end`, with what its parts measure in their places
 abbrev pub MeasuredDelimited : Type 0
-MeasuredDelimited = Delimited-F Measured Measured Measured Measured Joined Measured Measured Measured Measured Measured Measured Measured Measured Listed Measured Measured Measured Measured Measured Measured Listed Measured Measured Measured Measured
+MeasuredDelimited =
+    Delimited-F Measured Measured Measured Measured Joined Measured Measured Measured Measured
+    Measured Measured Measured Measured Listed Measured Measured Measured Measured Measured Measured
+    Listed Measured Measured Measured Measured
 
 -- one level of an item of a block, with what its parts measure in their places
 abbrev pub MeasuredItem : Type 0
-MeasuredItem = Item-F Measured Measured Measured Measured Joined Measured Measured Measured Measured Measured Measured Measured Measured Listed Measured Measured Measured Measured Measured Measured Listed Measured Measured Measured Measured
+MeasuredItem =
+    Item-F Measured Measured Measured Measured Joined Measured Measured Measured Measured Measured
+    Measured Measured Measured Listed Measured Measured Measured Measured Measured Measured Listed
+    Measured Measured Measured Measured
 
 -- one level of an atom, with what its parts measure in their places
 abbrev pub MeasuredAtom : Type 0
-MeasuredAtom = Atom-F Measured Measured Measured Measured Joined Measured Measured Measured Measured Measured Measured Measured Measured Listed Measured Measured Measured Measured Measured Measured Listed Measured Measured Measured Measured
+MeasuredAtom =
+    Atom-F Measured Measured Measured Measured Joined Measured Measured Measured Measured Measured
+    Measured Measured Measured Listed Measured Measured Measured Measured Measured Measured Listed
+    Measured Measured Measured Measured
 
 -- one level of an expression, with what its parts measure in their places
 abbrev pub MeasuredExpr : Type 0
-MeasuredExpr = Expr-F Measured Measured Measured Measured Joined Measured Measured Measured Measured Measured Measured Measured Measured Listed Measured Measured Measured Measured Measured Measured Listed Measured Measured Measured Measured
+MeasuredExpr =
+    Expr-F Measured Measured Measured Measured Joined Measured Measured Measured Measured Measured
+    Measured Measured Measured Listed Measured Measured Measured Measured Measured Measured Listed
+    Measured Measured Measured Measured
 
 -- one level of a further part of a flat expression, with what its parts measure in their places
 abbrev pub MeasuredFlatPart : Type 0
-MeasuredFlatPart = FlatPart-F Measured Measured Measured Measured Joined Measured Measured Measured Measured Measured Measured Measured Measured Listed Measured Measured Measured Measured Measured Measured Listed Measured Measured Measured Measured
+MeasuredFlatPart =
+    FlatPart-F Measured Measured Measured Measured Joined Measured Measured Measured Measured
+    Measured Measured Measured Measured Listed Measured Measured Measured Measured Measured Measured
+    Listed Measured Measured Measured Measured
 
 -- one level of a generator, with what its parts measure in their places
 abbrev pub MeasuredGenerator : Type 0
-MeasuredGenerator = Generator-F Measured Measured Measured Measured Joined Measured Measured Measured Measured Measured Measured Measured Measured Listed Measured Measured Measured Measured Measured Measured Listed Measured Measured Measured Measured
+MeasuredGenerator =
+    Generator-F Measured Measured Measured Measured Joined Measured Measured Measured Measured
+    Measured Measured Measured Measured Listed Measured Measured Measured Measured Measured Measured
+    Listed Measured Measured Measured Measured
 
 -- one level of a head, with what its parts measure in their places
 abbrev pub MeasuredHead : Type 0
-MeasuredHead = Head-F Measured Measured Measured Measured Joined Measured Measured Measured Measured Measured Measured Measured Measured Listed Measured Measured Measured Measured Measured Measured Listed Measured Measured Measured Measured
+MeasuredHead =
+    Head-F Measured Measured Measured Measured Joined Measured Measured Measured Measured Measured
+    Measured Measured Measured Listed Measured Measured Measured Measured Measured Measured Listed
+    Measured Measured Measured Measured
 
 -- one level of a postfix, with what its parts measure in their places
 abbrev pub MeasuredPostfix : Type 0
-MeasuredPostfix = Postfix-F Measured Measured Measured Measured Joined Measured Measured Measured Measured Measured Measured Measured Measured Listed Measured Measured Measured Measured Measured Measured Listed Measured Measured Measured Measured
+MeasuredPostfix =
+    Postfix-F Measured Measured Measured Measured Joined Measured Measured Measured Measured
+    Measured Measured Measured Measured Listed Measured Measured Measured Measured Measured Measured
+    Listed Measured Measured Measured Measured
 
 -- one level of a further part of a run, with what its parts measure in their places
 abbrev pub MeasuredRunPart : Type 0
-MeasuredRunPart = RunPart-F Measured Measured Measured Measured Joined Measured Measured Measured Measured Measured Measured Measured Measured Listed Measured Measured Measured Measured Measured Measured Listed Measured Measured Measured Measured
+MeasuredRunPart =
+    RunPart-F Measured Measured Measured Measured Joined Measured Measured Measured Measured
+    Measured Measured Measured Measured Listed Measured Measured Measured Measured Measured Measured
+    Listed Measured Measured Measured Measured
 
 -- one level of a declaration of a variable, with what its parts measure in their places
 abbrev pub MeasuredVariable : Type 0
-MeasuredVariable = Variable-F Measured Measured Measured Measured Joined Measured Measured Measured Measured Measured Measured Measured Measured Listed Measured Measured Measured Measured Measured Measured Listed Measured Measured Measured Measured
+MeasuredVariable =
+    Variable-F Measured Measured Measured Measured Joined Measured Measured Measured Measured
+    Measured Measured Measured Measured Listed Measured Measured Measured Measured Measured Measured
+    Listed Measured Measured Measured Measured
 
 -- one level of an `also` with its block, with what its parts measure in their places
 abbrev pub MeasuredAlso : Type 0
-MeasuredAlso = Also-F Measured Measured Measured Measured Joined Measured Measured Measured Measured Measured Measured Measured Measured Listed Measured Measured Measured Measured Measured Measured Listed Measured Measured Measured Measured
+MeasuredAlso =
+    Also-F Measured Measured Measured Measured Joined Measured Measured Measured Measured Measured
+    Measured Measured Measured Listed Measured Measured Measured Measured Measured Measured Listed
+    Measured Measured Measured Measured
 
 -- one level of an item of a block with its `;`, with what its parts measure in their places
 abbrev pub MeasuredBlockItem : Type 0
-MeasuredBlockItem = BlockItem-F Measured Measured Measured Measured Joined Measured Measured Measured Measured Measured Measured Measured Measured Listed Measured Measured Measured Measured Measured Measured Listed Measured Measured Measured Measured
+MeasuredBlockItem =
+    BlockItem-F Measured Measured Measured Measured Joined Measured Measured Measured Measured
+    Measured Measured Measured Measured Listed Measured Measured Measured Measured Measured Measured
+    Listed Measured Measured Measured Measured
 
 -- one level of a clause of a `case`, with what its parts measure in their places
 abbrev pub MeasuredCaseClause : Type 0
-MeasuredCaseClause = CaseClause-F Measured Measured Measured Measured Joined Measured Measured Measured Measured Measured Measured Measured Measured Listed Measured Measured Measured Measured Measured Measured Listed Measured Measured Measured Measured
+MeasuredCaseClause =
+    CaseClause-F Measured Measured Measured Measured Joined Measured Measured Measured Measured
+    Measured Measured Measured Measured Listed Measured Measured Measured Measured Measured Measured
+    Listed Measured Measured Measured Measured
 
 -- one level of a `catch`, with what its parts measure in their places
 abbrev pub MeasuredCatch : Type 0
-MeasuredCatch = Catch-F Measured Measured Measured Measured Joined Measured Measured Measured Measured Measured Measured Measured Measured Listed Measured Measured Measured Measured Measured Measured Listed Measured Measured Measured Measured
+MeasuredCatch =
+    Catch-F Measured Measured Measured Measured Joined Measured Measured Measured Measured Measured
+    Measured Measured Measured Listed Measured Measured Measured Measured Measured Measured Listed
+    Measured Measured Measured Measured
 
 -- one level of an `elif`, with what its parts measure in their places
 abbrev pub MeasuredElif : Type 0
-MeasuredElif = Elif-F Measured Measured Measured Measured Joined Measured Measured Measured Measured Measured Measured Measured Measured Listed Measured Measured Measured Measured Measured Measured Listed Measured Measured Measured Measured
+MeasuredElif =
+    Elif-F Measured Measured Measured Measured Joined Measured Measured Measured Measured Measured
+    Measured Measured Measured Listed Measured Measured Measured Measured Measured Measured Listed
+    Measured Measured Measured Measured
 
 -- one level of the `else` of an `if`, with what its parts measure in their places
 abbrev pub MeasuredElseBlock : Type 0
-MeasuredElseBlock = ElseBlock-F Measured Measured Measured Measured Joined Measured Measured Measured Measured Measured Measured Measured Measured Listed Measured Measured Measured Measured Measured Measured Listed Measured Measured Measured Measured
+MeasuredElseBlock =
+    ElseBlock-F Measured Measured Measured Measured Joined Measured Measured Measured Measured
+    Measured Measured Measured Measured Listed Measured Measured Measured Measured Measured Measured
+    Listed Measured Measured Measured Measured
 
 -- one level of the `else` of a `case` or `typecase`, with what its parts measure in their places
 abbrev pub MeasuredElseClause : Type 0
-MeasuredElseClause = ElseClause-F Measured Measured Measured Measured Joined Measured Measured Measured Measured Measured Measured Measured Measured Listed Measured Measured Measured Measured Measured Measured Listed Measured Measured Measured Measured
+MeasuredElseClause =
+    ElseClause-F Measured Measured Measured Measured Joined Measured Measured Measured Measured
+    Measured Measured Measured Measured Listed Measured Measured Measured Measured Measured Measured
+    Listed Measured Measured Measured Measured
 
 -- one level of a `finally`, with what its parts measure in their places
 abbrev pub MeasuredFinally : Type 0
-MeasuredFinally = Finally-F Measured Measured Measured Measured Joined Measured Measured Measured Measured Measured Measured Measured Measured Listed Measured Measured Measured Measured Measured Measured Listed Measured Measured Measured Measured
+MeasuredFinally =
+    Finally-F Measured Measured Measured Measured Joined Measured Measured Measured Measured
+    Measured Measured Measured Measured Listed Measured Measured Measured Measured Measured Measured
+    Listed Measured Measured Measured Measured
 
 -- one level of a further generator of a `for`, with what its parts measure in their places
 abbrev pub MeasuredNextGenerator : Type 0
-MeasuredNextGenerator = NextGenerator-F Measured Measured Measured Measured Joined Measured Measured Measured Measured Measured Measured Measured Measured Listed Measured Measured Measured Measured Measured Measured Listed Measured Measured Measured Measured
+MeasuredNextGenerator =
+    NextGenerator-F Measured Measured Measured Measured Joined Measured Measured Measured Measured
+    Measured Measured Measured Measured Listed Measured Measured Measured Measured Measured Measured
+    Listed Measured Measured Measured Measured
 
 -- one level of a clause of a `typecase` or `catch`, with what its parts measure in their places
 abbrev pub MeasuredTypeClause : Type 0
-MeasuredTypeClause = TypeClause-F Measured Measured Measured Measured Joined Measured Measured Measured Measured Measured Measured Measured Measured Listed Measured Measured Measured Measured Measured Measured Listed Measured Measured Measured Measured
+MeasuredTypeClause =
+    TypeClause-F Measured Measured Measured Measured Joined Measured Measured Measured Measured
+    Measured Measured Measured Measured Listed Measured Measured Measured Measured Measured Measured
+    Listed Measured Measured Measured Measured
 
 -- one level of a list of expressions, with what its parts measure in their places
 abbrev pub MeasuredExprList : Type 0
-MeasuredExprList = ExprList-F Measured Measured Measured Measured Joined Measured Measured Measured Measured Measured Measured Measured Measured Listed Measured Measured Measured Measured Measured Measured Listed Measured Measured Measured Measured
+MeasuredExprList =
+    ExprList-F Measured Measured Measured Measured Joined Measured Measured Measured Measured
+    Measured Measured Measured Measured Listed Measured Measured Measured Measured Measured Measured
+    Listed Measured Measured Measured Measured
 
 -- one level of a flat expression, with what its parts measure in their places
 abbrev pub MeasuredFlat : Type 0
-MeasuredFlat = Flat-F Measured Measured Measured Measured Joined Measured Measured Measured Measured Measured Measured Measured Measured Listed Measured Measured Measured Measured Measured Measured Listed Measured Measured Measured Measured
+MeasuredFlat =
+    Flat-F Measured Measured Measured Measured Joined Measured Measured Measured Measured Measured
+    Measured Measured Measured Listed Measured Measured Measured Measured Measured Measured Listed
+    Measured Measured Measured Measured
 
 -- one level of a further expression of a list, with what its parts measure in their places
 abbrev pub MeasuredNextExpr : Type 0
-MeasuredNextExpr = NextExpr-F Measured Measured Measured Measured Joined Measured Measured Measured Measured Measured Measured Measured Measured Listed Measured Measured Measured Measured Measured Measured Listed Measured Measured Measured Measured
+MeasuredNextExpr =
+    NextExpr-F Measured Measured Measured Measured Joined Measured Measured Measured Measured
+    Measured Measured Measured Measured Listed Measured Measured Measured Measured Measured Measured
+    Listed Measured Measured Measured Measured
 
 -- one level of a unit, with what its parts measure in their places
 abbrev pub MeasuredOperand : Type 0
-MeasuredOperand = Operand-F Measured Measured Measured Measured Joined Measured Measured Measured Measured Measured Measured Measured Measured Listed Measured Measured Measured Measured Measured Measured Listed Measured Measured Measured Measured
+MeasuredOperand =
+    Operand-F Measured Measured Measured Measured Joined Measured Measured Measured Measured
+    Measured Measured Measured Measured Listed Measured Measured Measured Measured Measured Measured
+    Listed Measured Measured Measured Measured
 
 -- one level of a run, with what its parts measure in their places
 abbrev pub MeasuredRun : Type 0
-MeasuredRun = Run-F Measured Measured Measured Measured Joined Measured Measured Measured Measured Measured Measured Measured Measured Listed Measured Measured Measured Measured Measured Measured Listed Measured Measured Measured Measured
+MeasuredRun =
+    Run-F Measured Measured Measured Measured Joined Measured Measured Measured Measured Measured
+    Measured Measured Measured Listed Measured Measured Measured Measured Measured Measured Listed
+    Measured Measured Measured Measured

@@ -1,4 +1,5 @@
--- The chapter "Grammar", openers: how deep a token stands. The code counts as it goes along the tokens.
+-- The chapter "Grammar", openers: how deep a token stands. The code counts as it goes along the
+-- tokens.
 use Rattle.std.specs.Prelude.{ℕ, ◌+◌, ◌-◌, ◌<◌, ◌≤◌, ◌≡◌, Bool, true, false, List, [], ◌∷◌, ◌++◌}
 use Rattle.fort_base.specs.declared.refusal.Place.{Place}
 use Rattle.fort_token.specs.declared.token.Kind.{Kind}
@@ -61,7 +62,8 @@ turned Stays depth = depth
 -- how many openers are open after these tokens, of which so many were before them
 abbrev pub open_behind : Bool → ℕ → List Token → ℕ
 open_behind behind_also depth [] = depth
-open_behind behind_also depth (t ∷ ts) = open_behind (is_also t.kind) (turned (turn behind_also t.kind) depth) ts
+open_behind behind_also depth (t ∷ ts) =
+    open_behind (is_also t.kind) (turned (turn behind_also t.kind) depth) ts
 
 -- whether the last of these tokens is `also`
 abbrev pub ends_with_also : List Token → Bool
@@ -75,13 +77,15 @@ open_round Opens depth = depth
 open_round Closes depth = depth - 1
 open_round Stays depth = depth
 
--- How many openers a token stands inside, behind these tokens: those still open there, its own pair left out.
+-- How many openers a token stands inside, behind these tokens: those still open there, its own pair
+-- left out.
 abbrev pub openers_round : List Token → Token → ℕ
 openers_round front t = open_round (turn (ends_with_also front) t.kind) (open_behind false 0 front)
 
 -- No token stands inside more than 100 openers.
 abbrev pub AllShallow : List Token → Type 0
-AllShallow ts = (front : List Token) (t : Token) (rest : List Token) → ts ≡ front ++ t ∷ rest → openers_round front t ≤ 100
+AllShallow ts = (front : List Token) (t : Token) (rest : List Token) → ts ≡ front ++ t ∷ rest
+    → openers_round front t ≤ 100
 
 -- The first token that stands inside more than 100 openers stands at that place.
 pub record FirstDeep (ts : List Token) (at : Place) : Type 0 where

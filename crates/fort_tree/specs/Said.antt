@@ -1,5 +1,6 @@
--- The chapter "Grammar": what a tree says, its tokens and whether the rules on gaps and names hold in it. The code that
--- prints appends tokens; the code that reads asks each rule at the token where it can fail first.
+-- The chapter "Grammar": what a tree says, its tokens and whether the rules on gaps and names hold
+-- in it. The code that prints appends tokens; the code that reads asks each rule at the token where
+-- it can fail first.
 use Rattle.std.specs.Prelude.{Bool, true, false, ◌&&◌, List, [], ◌∷◌, ◌++◌, Option, Some, None}
 use Rattle.fort_base.specs.declared.refusal.Gap.{Gap}
 use Rattle.fort_token.specs.declared.token.Token.{Token}
@@ -100,7 +101,8 @@ begins_apart None (e ∷ es) = is_line (gap_of e.item)
 -- whether the rules hold in each item of a list, and each but the first begins apart
 abbrev pub entries_obey : Spellings → List SaidEntry → Bool
 entries_obey names [] = true
-entries_obey names (e ∷ es) = e.item.obeys names elsewhere && (begins_apart e.semicolon es && entries_obey names es)
+entries_obey names (e ∷ es) =
+    e.item.obeys names elsewhere && (begins_apart e.semicolon es && entries_obey names es)
 
 -- whether a list has an item
 abbrev pub has_entry : List SaidEntry → Bool
@@ -129,4 +131,6 @@ else_apart None None gap = is_line gap
 -- whether the rules hold in the `else` behind these clauses
 abbrev pub else_obeys : Spellings → List SaidEntry → Option SaidElse → Bool
 else_obeys names clauses None = true
-else_obeys names clauses (Some e) = else_apart (last_semicolon clauses) e.semicolon (gap_of e.clause) && e.clause.obeys names elsewhere
+else_obeys names clauses (Some e) =
+    else_apart (last_semicolon clauses) e.semicolon (gap_of e.clause)
+    && e.clause.obeys names elsewhere

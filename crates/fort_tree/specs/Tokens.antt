@@ -1,4 +1,5 @@
--- The chapter "Grammar": the tokens that trees are made of, and the tests on them. The code compares kinds of tokens.
+-- The chapter "Grammar": the tokens that trees are made of, and the tests on them. The code
+-- compares kinds of tokens.
 use Rattle.std.specs.Prelude.{ℕ, ◌==◌, Bool, true, false, ◌&&◌, ◌||◌, List, [], ◌∷◌, codes, nat_eq, get_or}
 use Rattle.std.specs.Cmp.Lexicographic.{pointwise}
 use Prim.Native.String.{String}
@@ -105,7 +106,8 @@ is_infix op.Not = false
 is_infix op.Power = false
 is_infix _ = true
 
--- The operators that `opr` may declare with that many parameters: infix ones and `^` with two, `-` and `NOT` with one.
+-- The operators that `opr` may declare with that many parameters: infix ones and `^` with two, `-`
+-- and `NOT` with one.
 abbrev pub may_declare : Op → ℕ → Bool
 may_declare op.Juxt n = false
 may_declare op.Minus n = (n == 1) || (n == 2)
@@ -134,7 +136,8 @@ closes_names (t ∷ u ∷ ts) = is_close_paren t.kind && is_colon u.kind
 abbrev pub goes_on_with_names : List Token → Bool
 goes_on_with_names [] = false
 goes_on_with_names (t ∷ []) = false
-goes_on_with_names (t ∷ u ∷ ts) = is_comma t.kind && (is_name u.kind && (closes_names ts || goes_on_with_names ts))
+goes_on_with_names (t ∷ u ∷ ts) =
+    is_comma t.kind && (is_name u.kind && (closes_names ts || goes_on_with_names ts))
 
 -- two or more names in parentheses and `:`
 abbrev pub begins_with_names : List Token → Bool

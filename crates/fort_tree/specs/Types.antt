@@ -15,11 +15,15 @@ use Rattle.fort_tree.specs.Said.{Said, tokens_of, all_tokens, all_obey, maybe_to
 
 -- what a simple type says: its words and brackets, and its parts between them
 abbrev pub simple_type_step : SimpleType-F Said Said Said Said → Said
-simple_type_step (SimpleType-F.Named n) = record { first = named n; more = []; obeys = λ names allowed. true }
+simple_type_step (SimpleType-F.Named n) =
+    record { first = named n; more = []; obeys = λ names allowed. true }
 simple_type_step (SimpleType-F.Array array left element comma index right) = record {
   first = named array;
-  more = marked mark.OpenStatic left ∷ (tokens_of element ++ marked mark.Comma comma ∷ named index ∷ marked mark.CloseStatic right ∷ []);
-  obeys = λ names allowed. is_spelled "Array" names array && (is_spelled "ZZ32" names index && element.obeys names elsewhere);
+  more = marked mark.OpenStatic left
+      ∷ (tokens_of element ++ marked mark.Comma comma ∷ named index ∷ marked mark.CloseStatic right
+      ∷ []);
+  obeys = λ names allowed. is_spelled "Array" names array
+      && (is_spelled "ZZ32" names index && element.obeys names elsewhere);
 }
 simple_type_step (SimpleType-F.Parts left parts right) = record {
   first = marked mark.OpenParen left;
@@ -54,19 +58,24 @@ next_type_step next = record {
 
 -- what a simple type says, at every depth
 unfoldable pub said_simple_type : SimpleType → Said
-said_simple_type = fold-SimpleType Said Said Said Said simple_type_step type_tree_step next_type_step type_list_step
+said_simple_type =
+    fold-SimpleType Said Said Said Said simple_type_step type_tree_step next_type_step
+    type_list_step
 
 -- what a type says, at every depth
 unfoldable pub said_type : TypeTree → Said
-said_type = fold-TypeTree Said Said Said Said simple_type_step type_tree_step next_type_step type_list_step
+said_type =
+    fold-TypeTree Said Said Said Said simple_type_step type_tree_step next_type_step type_list_step
 
 -- the same of a further type of a list
 unfoldable pub said_next_type : NextType → Said
-said_next_type = fold-NextType Said Said Said Said simple_type_step type_tree_step next_type_step type_list_step
+said_next_type =
+    fold-NextType Said Said Said Said simple_type_step type_tree_step next_type_step type_list_step
 
 -- the same of a list of types
 unfoldable pub said_type_list : TypeList → Said
-said_type_list = fold-TypeList Said Said Said Said simple_type_step type_tree_step next_type_step type_list_step
+said_type_list =
+    fold-TypeList Said Said Said Said simple_type_step type_tree_step next_type_step type_list_step
 
 -- ---- parameters
 
@@ -91,7 +100,8 @@ abbrev pub said_parameters : Parameters → Said
 said_parameters list = record {
   first = (said_parameter list.first).first;
   more = (said_parameter list.first).more ++ all_tokens (map said_next_parameter list.others);
-  obeys = λ names allowed. (said_parameter list.first).obeys names allowed && all_obey names allowed (map said_next_parameter list.others);
+  obeys = λ names allowed. (said_parameter list.first).obeys names allowed
+      && all_obey names allowed (map said_next_parameter list.others);
 }
 
 -- the number of parameters

@@ -84,8 +84,8 @@ pub struct Function {
 pub enum FunctionName {
     /// `Name`
     Name(Name),
-    /// `"opr" OpName`, where it is an operator: one that is infix, or `^`, with two parameters, or `-` or
-    /// `NOT` with one.
+    /// `"opr" OpName`, where it is an operator: one that is infix, or `^`, with two parameters, or
+    /// `-` or `NOT` with one.
     Operator(Spot, Sign),
     /// `"opr" OpName`, where it is the name `juxtaposition`, with two parameters.
     Juxtaposition(Spot, Name),

@@ -43,7 +43,8 @@ pub enum Delimited {
         block: Block,
         end: Spot,
     },
-    /// `"case" Flat "of" (Flat "=>" Expr by Sep) [Sep "else" "=>" Expr] "end"`; it has a clause at least.
+    /// `"case" Flat "of" (Flat "=>" Expr by Sep) [Sep "else" "=>" Expr] "end"`; it has a clause at
+    /// least.
     Case {
         case: Spot,
         subject: Flat,
@@ -52,8 +53,8 @@ pub enum Delimited {
         otherwise: Option<Boxed<ElseClause>>,
         end: Spot,
     },
-    /// `"typecase" Name "=" Flat "of" (Type "=>" Expr by Sep) [Sep "else" "=>" Expr] "end"`; it has a clause
-    /// at least.
+    /// `"typecase" Name "=" Flat "of" (Type "=>" Expr by Sep) [Sep "else" "=>" Expr] "end"`; it has
+    /// a clause at least.
     Typecase {
         typecase: Spot,
         name: Name,
@@ -64,8 +65,8 @@ pub enum Delimited {
         otherwise: Option<Boxed<ElseClause>>,
         end: Spot,
     },
-    /// `"try" Block ["catch" Name (Type "=>" Expr by Sep)] ["finally" Block] "end"`; it has a `catch` or a
-    /// `finally`.
+    /// `"try" Block ["catch" Name (Type "=>" Expr by Sep)] ["finally" Block] "end"`; it has a
+    /// `catch` or a `finally`.
     Try {
         try_: Spot,
         block: Block,
@@ -132,8 +133,8 @@ pub struct TypeClause {
 
 /// `Sep "else" "=>" Expr`.
 ///
-/// The `;` directly after the last clause stands with that clause, also where it is the `Sep`. Only a second
-/// one stands here: the first then ends the list of clauses, and this one is the `Sep`.
+/// The `;` directly after the last clause stands with that clause, also where it is the `Sep`. Only
+/// a second one stands here: the first then ends the list of clauses, and this one is the `Sep`.
 #[cycle(tree)]
 #[derive(Drop)]
 pub struct ElseClause {
@@ -188,6 +189,7 @@ pub enum Item {
         equals: Spot,
         value: Boxed<Expr>,
     },
-    /// `Expr`; it doesn't begin as a declaration of a name or of names in parentheses does, up to the `:`.
+    /// `Expr`; it doesn't begin as a declaration of a name or of names in parentheses does, up to
+    /// the `:`.
     Expr(Expr),
 }

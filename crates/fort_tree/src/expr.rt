@@ -43,7 +43,8 @@ pub enum AssignSign {
     SubtractBecomes(Spot),
 }
 
-/// `Head = "atomic" | "tryatomic" | "throw" | "fn" "(" [Param ("," Param)*] ")" "=>" | Big "[" Gen "]"`
+/// `Head = "atomic" | "tryatomic" | "throw" | "fn" "(" [Param ("," Param)*] ")" "=>" | Big "[" Gen
+/// "]"`
 #[cycle(tree)]
 #[derive(Drop)]
 pub enum Head {
@@ -70,7 +71,8 @@ pub enum Head {
     },
 }
 
-/// `Big = "SUM" | "PROD" | "BIG" ("MAX" | "MIN" | "AND" | "OR")`; the spots are those of its words, in order.
+/// `Big = "SUM" | "PROD" | "BIG" ("MAX" | "MIN" | "AND" | "OR")`; the spots are those of its words,
+/// in order.
 #[derive(Clone, Copy, Debug, PartialEq, Eq)]
 pub enum Big {
     /// `"SUM"`
@@ -225,7 +227,8 @@ pub enum Atom {
     },
 }
 
-/// The word, the marks and the name of an array's fill, in their order; they lie in a box, so that other atoms stay small.
+/// The word, the marks and the name of an array's fill, in their order; they lie in a box, so that
+/// other atoms stay small.
 #[derive(Clone, Copy, Debug, PartialEq, Eq)]
 pub struct FillSpots {
     pub array: Spot,

@@ -12,15 +12,16 @@ pub enum Joint {
     Behind(Sign, Gap),
 }
 
-/// What the grouping of a flat expression depends on: the place of its first token, and how each unit but the
-/// first stands to the one before it.
+/// What the grouping of a flat expression depends on: the place of its first token, and how each
+/// unit but the first stands to the one before it.
 #[derive(Drop)]
 pub struct Row {
     pub place: Place,
     pub joints: List<Joint>,
 }
 
-/// A grouping of a flat expression, or of a part of it; its numbers are places of units, counted from 0.
+/// A grouping of a flat expression, or of a part of it; its numbers are places of units, counted
+/// from 0.
 #[derive(Drop)]
 pub enum Grouped {
     /// A unit.

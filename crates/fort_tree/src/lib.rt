@@ -1,4 +1,5 @@
-//! Trees: what each token list of the language stands for, each with the place and the gap of its tokens.
+//! Trees: what each token list of the language stands for, each with the place and the gap of its
+//! tokens.
 #![tactic(auto)]
 
 mod declarations;

@@ -1,4 +1,5 @@
--- Chapter "Atomic": what a sweep from left to right through the threads of a term has met, while no pick was taken. The code has flags.
+-- Chapter "Atomic": what a sweep from left to right through the threads of a term has met, while no
+-- pick was taken. The code has flags.
 use Rattle.std.specs.Prelude.{◌≡◌, ℕ, Bool, true, false, List, ◌⊎◌}
 use Rattle.fort_core.specs.declared.form.Mode.{Mode}
 use Rattle.fort_core.specs.declared.program.Program.{Program}
@@ -27,7 +28,8 @@ use Rattle.fort_turns.specs.declared.next.Next.{Next}
 use Rattle.fort_turns.specs.declared.next.Next.TheVariants as next
 use Rattle.fort_turns.specs.Walks.{Walks}
 
--- A thread has nothing to do in a machine, an attempt's or the root's: no legal step, no `abort()` in an attempt, and it is no atomic form.
+-- A thread has nothing to do in a machine, an attempt's or the root's: no legal step, no `abort()`
+-- in an attempt, and it is no atomic form.
 pub record HasNoStep (p : Program) (inner : Bool) (s : Store) (a : Term) : Type 0 where
   pub no_step : (loc : ℕ) (b : Term) (d : Effect) → Local p inner loc a b d → FitsAll d s → ⊥
   pub no_abort : inner ≡ true → Acts p a ends → ⊥
@@ -38,29 +40,35 @@ abbrev pub IsIdle : Program → Bool → Store → Sweep → Term → Type 0
 IsIdle p inner s w a = ((w.wakes ≡ false) × Sleeps s a) ⊎ ((w.stuck ≡ true) × HasNoStep p inner s a)
 
 -- The threads before a place don't go on; where one of them is awake, the flag says so.
-pub record Idles (p : Program) (inner : Bool) (s : Store) (w : Sweep) (whole : Term) (before : List Term → Type 0) : Type 0 where
+pub record Idles (p : Program) (inner : Bool) (s : Store) (w : Sweep) (whole : Term)
+    (before : List Term → Type 0) : Type 0 where
   pub met : List Term
   pub swept : before met
   pub idle : (a : Term) → IsOneOf a met → IsIdle p inner s w a
   pub awake : w.stuck ≡ true → (path : List ℕ) × Awake s whole path
 
--- So they do in the innermost machine of a run, where no pick was taken since the left end of its term.
+-- So they do in the innermost machine of a run, where no pick was taken since the left end of its
+-- term.
 abbrev pub AreIdle : Program → Course → Sweep → Term → (List Term → Type 0) → Type 0
-AreIdle p c w whole before = w.idle ≡ true → Idles p (is_inner (around c)) (seen (levels_of c.layers)) w whole before
+AreIdle p c w whole before = w.idle ≡ true
+    → Idles p (is_inner (around c)) (seen (levels_of c.layers)) w whole before
 
 -- Where sleepers are tried no thread of its term is awake.
 abbrev pub AreAsleep : Course → Sweep → Term → Type 0
 AreAsleep c w whole = w.wakes ≡ true → NoneAwake (seen (levels_of c.layers)) whole
 
 -- A run that goes on stands at a form of a place, before which no thread goes on.
-pub record IsAtForm (p : Program) (c : Course) (w : Sweep) (place : Place) (a : Term) (before : List Term → Type 0) : Type 0 where
+pub record IsAtForm (p : Program) (c : Course) (w : Sweep) (place : Place) (a : Term)
+    (before : List Term → Type 0) : Type 0 where
   pub stands : StandsAt p c place a
   pub idles : AreIdle p c w (rebuilt c.clock (frames place.stack) a) before
   pub asleep : AreAsleep c w (rebuilt c.clock (frames place.stack) a)
 
 -- Between two turns.
 abbrev pub IsWalking : Program → Walking → Type 0
-IsWalking p w = IsAtForm p w.going.course w.sweep w.going.state.place (term_at w.going.state.«at») (λ met. SweptTo met w.going.state)
+IsWalking p w =
+    IsAtForm p w.going.course w.sweep w.going.state.place (term_at w.going.state.«at»)
+    (λ met. SweptTo met w.going.state)
 
 -- At a form of the term.
 abbrev pub IsAtPlace : Program → Course → Sweep → Place → Term → Type 0
@@ -72,9 +80,11 @@ IsAtThread p c w place a = IsAtPlace p c w place a × Ready a
 
 -- Past a form of the term, which is left for now.
 abbrev pub IsAtLeft : Program → Course → Sweep → Place → Term → Type 0
-IsAtLeft p c w place a = IsAtForm p c w place a (λ met. SweptTo met (record { place = place; «at» = at.Left a }))
+IsAtLeft p c w place a =
+    IsAtForm p c w place a (λ met. SweptTo met (record { place = place; «at» = at.Left a }))
 
--- Out of the whole term of the innermost machine: it is finished; or it is left, and where no pick was taken since its left end, none of its threads goes on.
+-- Out of the whole term of the innermost machine: it is finished; or it is left, and where no pick
+-- was taken since its left end, none of its threads goes on.
 pub record IsAtEndOf (p : Program) (c : Course) (w : Sweep) (a : At) : Type 0 where
   pub come : HasCome p c (goes (term_at a))
   pub idles : AreIdle p c w (term_at a) (λ met. IsLeftAt met a)
@@ -85,7 +95,8 @@ abbrev pub Follows : Program → ℕ → Next → Type 0
 Follows p fuel (next.Goes w) = IsWalking p w × (w.going.course.fuel ≡ fuel)
 Follows p fuel (next.Ends x) = Walks p fuel x
 
--- Whether a form rests: it sleeps, and sleepers aren't tried; else sleepers are tried, or it doesn't sleep.
+-- Whether a form rests: it sleeps, and sleepers aren't tried; else sleepers are tried, or it
+-- doesn't sleep.
 abbrev pub Rests : Bool → Bool → Type 0 → Type 0
 Rests true wakes S = (wakes ≡ false) × S
 Rests false wakes S = (wakes ≡ true) ⊎ (S → ⊥)

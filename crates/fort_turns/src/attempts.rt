@@ -76,7 +76,8 @@ fn sleeps(course: &Execution, form: &Term) -> bool
 }
 
 fn unchanged(course: &Execution, marks: &List<(Loc, Value)>) -> bool
-    ensures { IsTrue result ↔ ((l : ℕ) (v : Value) → In l v marks.now → seen (levels_of course.now.layers) l ≡ Some v) }
+    ensures { IsTrue result
+        ↔ ((l : ℕ) (v : Value) → In l v marks.now → seen (levels_of course.now.layers) l ≡ Some v) }
 {
     for mark in marks.as_slice() {
         if !has(course, mark.0, &mark.1) {
@@ -199,7 +200,8 @@ fn throws(
     place: Place,
     value: Value,
 ) -> Result<Next, Memory>
-    requires may { (next : Term) → next ≡ throw_of value → MayStep program.now course place 0 next (printed [] 1) }
+    requires may { (next : Term) → next ≡ throw_of value
+        → MayStep program.now course place 0 next (printed [] 1) }
     ensures { IfOk result (Follows program.now course.fuel) }
 {
     let thrown = Shared::new(alloc, Term::Value(value))?;

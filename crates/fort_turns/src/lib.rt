@@ -1,5 +1,5 @@
-//! The turn of one thread of a run: its step, its attempt, or that it is passed. The chapters "Runs"
-//! and "Atomic" of docs/MACHINE.md.
+//! The turn of one thread of a run: its step, its attempt, or that it is passed. The chapters
+//! "Runs" and "Atomic" of docs/MACHINE.md.
 #![tactic(auto)]
 
 mod attempts;

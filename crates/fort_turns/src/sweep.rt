@@ -73,8 +73,8 @@ impl Sweep {
         }
     }
 
-    /// Whether the thread of a place had its turn; the root's thread has none beside it, and one that
-    /// stands deep in its term isn't left.
+    /// Whether the thread of a place had its turn; the root's thread has none beside it, and one
+    /// that stands deep in its term isn't left.
     pub fn is_over(self, place: &Place) -> bool
         ensures { IsTrue result → self.idle ≡ false }
     {

@@ -30,8 +30,8 @@ use fort_frames::Place;
 use fort_moves::Ready;
 use std::alloc::Global;
 
-/// A thread takes its step, or its turn is over, or it has no step. A call's declaration is found by
-/// the program's tables.
+/// A thread takes its step, or its turn is over, or it has no step. A call's declaration is found
+/// by the program's tables.
 pub fn at_thread(
     alloc: Global,
     tables: &Tables,
@@ -224,7 +224,8 @@ fn asks(
     requires thread { IsAtThread program.now course sweep place (ready_term ready) }
     requires made { IsMade ready }
     requires acts { Acts program.now (ready_term ready) (acts.asks loc.0 (λ v. next_value goes v)) }
-    requires only { OnlyDoes program.now (ready_term ready) (acts.asks loc.0 (λ v. next_value goes v)) }
+    requires only { OnlyDoes program.now (ready_term ready)
+        (acts.asks loc.0 (λ v. next_value goes v)) }
     ensures { IfOk result (Follows program.now course.fuel) }
 {
     let value = match course.look(loc) {
@@ -251,7 +252,8 @@ fn reads(
     goes: Goes,
     value: Value,
 ) -> Result<Next, Memory>
-    requires may { (next : a_term.Term) → next ≡ next_value goes value → MayStep program.now course place 0 next (reading loc.0 value) }
+    requires may { (next : a_term.Term) → next ≡ next_value goes value
+        → MayStep program.now course place 0 next (reading loc.0 value) }
     requires there { seen (levels_of course.layers) loc.0 ≡ Some value }
     ensures { IfOk result (Follows program.now course.fuel) }
 {
@@ -302,7 +304,8 @@ fn writes(
     loc: Loc,
     value: Value,
 ) -> Result<Next, Memory>
-    requires may { (next : a_term.Term) → next ≡ a_term.Value acts.unit → MayStep program.now course place 0 next (writing loc.0 value) }
+    requires may { (next : a_term.Term) → next ≡ a_term.Value acts.unit
+        → MayStep program.now course place 0 next (writing loc.0 value) }
     requires there { IsSome (seen (levels_of course.layers) loc.0) }
     ensures { IfOk result (Follows program.now course.fuel) }
 {
@@ -326,7 +329,8 @@ fn makes_some(
     makes: Makes,
 ) -> Result<Next, Memory>
     requires thread { IsAtThread program.now course sweep place (ready_term ready) }
-    requires acts { Acts program.now (ready_term ready) (acts.makes (values_of makes) (λ l. term_of makes l) (making_cost makes)) }
+    requires acts { Acts program.now (ready_term ready)
+        (acts.makes (values_of makes) (λ l. term_of makes l) (making_cost makes)) }
     ensures { IfOk result (Follows program.now course.fuel) }
 {
     let _ready = ready;

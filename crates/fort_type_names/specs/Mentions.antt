@@ -1,4 +1,5 @@
--- The chapter "Types": the names that stand as types in one level of each tree, in the order of the text.
+-- The chapter "Types": the names that stand as types in one level of each tree, in the order of the
+-- text.
 use Rattle.std.specs.Prelude.{[], ◌∷◌, ◌++◌, Option, Some, None}
 use Rattle.std.specs.List.{flat_map}
 use Rattle.fort_tree.specs.declared.declarations.Parameters.{Parameters}
@@ -34,24 +35,33 @@ mention_type_list list = list.first ++ all_mentioned list.others
 
 -- of a type, at every depth
 unfoldable pub mentioned_type : TypeTree → Mentioned
-mentioned_type = fold-TypeTree Mentioned Mentioned Mentioned Mentioned mention_simple_type mention_type_tree mention_next_type mention_type_list
+mentioned_type =
+    fold-TypeTree Mentioned Mentioned Mentioned Mentioned mention_simple_type mention_type_tree
+    mention_next_type mention_type_list
 
 -- of a simple type, at every depth
 unfoldable pub mentioned_simple_type : SimpleType → Mentioned
-mentioned_simple_type = fold-SimpleType Mentioned Mentioned Mentioned Mentioned mention_simple_type mention_type_tree mention_next_type mention_type_list
+mentioned_simple_type =
+    fold-SimpleType Mentioned Mentioned Mentioned Mentioned mention_simple_type mention_type_tree
+    mention_next_type mention_type_list
 
 -- of a further type of a list, at every depth
 unfoldable pub mentioned_next_type : NextType → Mentioned
-mentioned_next_type = fold-NextType Mentioned Mentioned Mentioned Mentioned mention_simple_type mention_type_tree mention_next_type mention_type_list
+mentioned_next_type =
+    fold-NextType Mentioned Mentioned Mentioned Mentioned mention_simple_type mention_type_tree
+    mention_next_type mention_type_list
 
 -- of a list of types, at every depth
 unfoldable pub mentioned_type_list : TypeList → Mentioned
-mentioned_type_list = fold-TypeList Mentioned Mentioned Mentioned Mentioned mention_simple_type mention_type_tree mention_next_type mention_type_list
+mentioned_type_list =
+    fold-TypeList Mentioned Mentioned Mentioned Mentioned mention_simple_type mention_type_tree
+    mention_next_type mention_type_list
 
 -- of the types of parameters
 abbrev pub mentioned_parameters : Option Parameters → Mentioned
 mentioned_parameters None = []
-mentioned_parameters (Some list) = mentioned_type list.first.ty ++ flat_map (λ next. mentioned_type next.parameter.ty) list.others
+mentioned_parameters (Some list) =
+    mentioned_type list.first.ty ++ flat_map (λ next. mentioned_type next.parameter.ty) list.others
 
 -- ---- expressions
 
@@ -133,7 +143,8 @@ mention_variable v = mentioned_type v.ty ++ v.value
 -- of an item
 abbrev pub mention_item : MentionedItem → Mentioned
 mention_item (Item-F.Variable variable) = variable
-mention_item (Item-F.Names left first others right colon ty equals value) = mentioned_type ty ++ value
+mention_item (Item-F.Names left first others right colon ty equals value) =
+    mentioned_type ty ++ value
 mention_item (Item-F.Expr expr) = expr
 
 -- of an item with its `;`
@@ -178,10 +189,17 @@ mention_catch c = all_mentioned c.clauses
 
 -- of a form that ends with `end`
 abbrev pub mention_delimited : MentionedDelimited → Mentioned
-mention_delimited (Delimited-F.Do at_do block others end) = all_mentioned block ++ all_mentioned others
-mention_delimited (Delimited-F.If at_if condition then block elifs otherwise end) = condition ++ (all_mentioned block ++ (all_mentioned elifs ++ maybe_mentioned otherwise))
-mention_delimited (Delimited-F.While at_while condition at_do block end) = condition ++ all_mentioned block
-mention_delimited (Delimited-F.For at_for generator others at_do block end) = generator ++ (all_mentioned others ++ all_mentioned block)
-mention_delimited (Delimited-F.Case at_case subject of clauses otherwise end) = subject ++ (all_mentioned clauses ++ maybe_mentioned otherwise)
-mention_delimited (Delimited-F.Typecase at_typecase name equals subject of clauses otherwise end) = subject ++ (all_mentioned clauses ++ maybe_mentioned otherwise)
-mention_delimited (Delimited-F.Try at_try block catch finally end) = all_mentioned block ++ (maybe_mentioned catch ++ maybe_mentioned finally)
+mention_delimited (Delimited-F.Do at_do block others end) =
+    all_mentioned block ++ all_mentioned others
+mention_delimited (Delimited-F.If at_if condition then block elifs otherwise end) =
+    condition ++ (all_mentioned block ++ (all_mentioned elifs ++ maybe_mentioned otherwise))
+mention_delimited (Delimited-F.While at_while condition at_do block end) =
+    condition ++ all_mentioned block
+mention_delimited (Delimited-F.For at_for generator others at_do block end) =
+    generator ++ (all_mentioned others ++ all_mentioned block)
+mention_delimited (Delimited-F.Case at_case subject of clauses otherwise end) =
+    subject ++ (all_mentioned clauses ++ maybe_mentioned otherwise)
+mention_delimited (Delimited-F.Typecase at_typecase name equals subject of clauses otherwise end) =
+    subject ++ (all_mentioned clauses ++ maybe_mentioned otherwise)
+mention_delimited (Delimited-F.Try at_try block catch finally end) =
+    all_mentioned block ++ (maybe_mentioned catch ++ maybe_mentioned finally)

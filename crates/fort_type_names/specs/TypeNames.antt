@@ -1,4 +1,5 @@
--- The chapter "Types": the names that stand as types in a component. The code puts them at the end of one list as it walks.
+-- The chapter "Types": the names that stand as types in a component. The code puts them at the end
+-- of one list as it walks.
 use Rattle.std.specs.Prelude.{List, [], ◌∷◌, ◌++◌, Option, Some, None, map}
 use Rattle.std.specs.List.{flat_map}
 use Rattle.fort_tree.specs.declared.spot.Name.{Name}
@@ -29,7 +30,8 @@ use Rattle.fort_type_names.specs.Mentioning.{mentioned_expr, mentioned_variable}
 
 -- of a function
 abbrev pub mentioned_function : Function → List Name
-mentioned_function f = mentioned_parameters f.parameters ++ (mentioned_type f.result ++ mentioned_expr f.body)
+mentioned_function f =
+    mentioned_parameters f.parameters ++ (mentioned_type f.result ++ mentioned_expr f.body)
 
 -- of a parameter of a method
 abbrev pub mentioned_method_parameter : MethodParameter → List Name
@@ -39,7 +41,9 @@ mentioned_method_parameter (method_parameter.Self_ s) = []
 -- of the parameters of a method
 abbrev pub mentioned_method_parameters : Option MethodParameters → List Name
 mentioned_method_parameters None = []
-mentioned_method_parameters (Some list) = mentioned_method_parameter list.first ++ flat_map (λ next. mentioned_method_parameter next.parameter) list.others
+mentioned_method_parameters (Some list) =
+    mentioned_method_parameter list.first
+    ++ flat_map (λ next. mentioned_method_parameter next.parameter) list.others
 
 -- of a method's body
 abbrev pub mentioned_body : Option MethodBody → List Name
@@ -48,7 +52,8 @@ mentioned_body (Some b) = mentioned_expr b.body
 
 -- of a method
 abbrev pub mentioned_method : Method → List Name
-mentioned_method m = mentioned_method_parameters m.parameters ++ (mentioned_type m.result ++ mentioned_body m.body)
+mentioned_method m =
+    mentioned_method_parameters m.parameters ++ (mentioned_type m.result ++ mentioned_body m.body)
 
 -- the names of a list of names
 abbrev pub listed_names : Names → List Name
@@ -77,7 +82,10 @@ mentioned_trait_member (trait_member.Method method) = mentioned_method method
 
 -- of a trait
 abbrev pub mentioned_trait : Trait → List Name
-mentioned_trait t = extended t.extends ++ (excluded t.excludes ++ (comprised t.comprises ++ flat_map (λ e. mentioned_trait_member e.member) t.members))
+mentioned_trait t =
+    extended t.extends
+    ++ (excluded t.excludes
+    ++ (comprised t.comprises ++ flat_map (λ e. mentioned_trait_member e.member) t.members))
 
 -- of a member of an object
 abbrev pub mentioned_object_member : ObjectMember → List Name
@@ -87,7 +95,8 @@ mentioned_object_member (object_member.Method method) = mentioned_method method
 -- of a list of parameters of an object
 abbrev pub mentioned_object_parameter_list : Option ObjectParameterList → List Name
 mentioned_object_parameter_list None = []
-mentioned_object_parameter_list (Some list) = mentioned_type list.first.ty ++ flat_map (λ next. mentioned_type next.parameter.ty) list.others
+mentioned_object_parameter_list (Some list) =
+    mentioned_type list.first.ty ++ flat_map (λ next. mentioned_type next.parameter.ty) list.others
 
 -- of the parameters of an object
 abbrev pub mentioned_object_parameters : Option ObjectParameters → List Name
@@ -96,7 +105,9 @@ mentioned_object_parameters (Some p) = mentioned_object_parameter_list p.paramet
 
 -- of an object
 abbrev pub mentioned_object : Object → List Name
-mentioned_object o = mentioned_object_parameters o.parameters ++ (extended o.extends ++ flat_map (λ e. mentioned_object_member e.member) o.members)
+mentioned_object o =
+    mentioned_object_parameters o.parameters
+    ++ (extended o.extends ++ flat_map (λ e. mentioned_object_member e.member) o.members)
 
 -- of a declaration
 abbrev pub mentioned_declaration : Declaration → List Name
@@ -105,6 +116,7 @@ mentioned_declaration (declaration.Function function) = mentioned_function funct
 mentioned_declaration (declaration.Trait tr) = mentioned_trait tr
 mentioned_declaration (declaration.Object object) = mentioned_object object
 
--- The names that stand as types in a component, in the order of the text, each as often as it stands there.
+-- The names that stand as types in a component, in the order of the text, each as often as it
+-- stands there.
 abbrev pub type_names : Component → List Name
 type_names c = flat_map (λ d. mentioned_declaration d.declaration) c.declarations

@@ -86,7 +86,8 @@ pub fn add_form(form: &Delimited, names: &mut List<Name>) -> Result<(), Memory>
 
 #[cycle(tree)]
 fn add_block(block: &[BlockItem], names: &mut List<Name>) -> Result<(), Memory>
-    ensures { OnOk result (names.new ≡ names.old ++ all_mentioned (map mentioned_block_item block.now)) }
+    ensures { OnOk result (names.new
+        ≡ names.old ++ all_mentioned (map mentioned_block_item block.now)) }
 {
     for entry in block {
         add_item(&entry.item, names)?;
@@ -150,7 +151,8 @@ fn add_elif(elif: &Elif, names: &mut List<Name>) -> Result<(), Memory>
 
 #[cycle(tree)]
 fn add_else_block(otherwise: &Option<ElseBlock>, names: &mut List<Name>) -> Result<(), Memory>
-    ensures { OnOk result (names.new ≡ names.old ++ maybe_mentioned (option_map mentioned_else_block otherwise.now)) }
+    ensures { OnOk result (names.new
+        ≡ names.old ++ maybe_mentioned (option_map mentioned_else_block otherwise.now)) }
 {
     if let Some(otherwise) = otherwise {
         add_block(otherwise.block.as_slice(), names)?;
@@ -160,7 +162,8 @@ fn add_else_block(otherwise: &Option<ElseBlock>, names: &mut List<Name>) -> Resu
 
 #[cycle(tree)]
 fn add_next_generators(others: &[NextGenerator], names: &mut List<Name>) -> Result<(), Memory>
-    ensures { OnOk result (names.new ≡ names.old ++ all_mentioned (map mentioned_next_generator others.now)) }
+    ensures { OnOk result (names.new
+        ≡ names.old ++ all_mentioned (map mentioned_next_generator others.now)) }
 {
     for next in others {
         add_generator(&next.generator, names)?;
@@ -170,7 +173,8 @@ fn add_next_generators(others: &[NextGenerator], names: &mut List<Name>) -> Resu
 
 #[cycle(tree)]
 fn add_case_clauses(clauses: &[CaseClause], names: &mut List<Name>) -> Result<(), Memory>
-    ensures { OnOk result (names.new ≡ names.old ++ all_mentioned (map mentioned_case_clause clauses.now)) }
+    ensures { OnOk result (names.new
+        ≡ names.old ++ all_mentioned (map mentioned_case_clause clauses.now)) }
 {
     for clause in clauses {
         add_case_clause(clause, names)?;
@@ -189,7 +193,8 @@ fn add_case_clause(clause: &CaseClause, names: &mut List<Name>) -> Result<(), Me
 
 #[cycle(tree)]
 fn add_type_clauses(clauses: &[TypeClause], names: &mut List<Name>) -> Result<(), Memory>
-    ensures { OnOk result (names.new ≡ names.old ++ all_mentioned (map mentioned_type_clause clauses.now)) }
+    ensures { OnOk result (names.new
+        ≡ names.old ++ all_mentioned (map mentioned_type_clause clauses.now)) }
 {
     for clause in clauses {
         add_type_clause(clause, names)?;
@@ -211,7 +216,8 @@ fn add_else_clause(
     otherwise: &Option<Boxed<ElseClause>>,
     names: &mut List<Name>,
 ) -> Result<(), Memory>
-    ensures { OnOk result (names.new ≡ names.old ++ maybe_mentioned (option_map mentioned_else_clause otherwise.now)) }
+    ensures { OnOk result (names.new
+        ≡ names.old ++ maybe_mentioned (option_map mentioned_else_clause otherwise.now)) }
 {
     if let Some(otherwise) = otherwise {
         add_expr(&otherwise.get().value, names)?;
@@ -221,7 +227,8 @@ fn add_else_clause(
 
 #[cycle(tree)]
 fn add_catch(catch: &Option<Catch>, names: &mut List<Name>) -> Result<(), Memory>
-    ensures { OnOk result (names.new ≡ names.old ++ maybe_mentioned (option_map mentioned_catch catch.now)) }
+    ensures { OnOk result (names.new
+        ≡ names.old ++ maybe_mentioned (option_map mentioned_catch catch.now)) }
 {
     if let Some(catch) = catch {
         add_type_clauses(catch.clauses.as_slice(), names)?;
@@ -231,7 +238,8 @@ fn add_catch(catch: &Option<Catch>, names: &mut List<Name>) -> Result<(), Memory
 
 #[cycle(tree)]
 fn add_finally(finally: &Option<Finally>, names: &mut List<Name>) -> Result<(), Memory>
-    ensures { OnOk result (names.new ≡ names.old ++ maybe_mentioned (option_map mentioned_finally finally.now)) }
+    ensures { OnOk result (names.new
+        ≡ names.old ++ maybe_mentioned (option_map mentioned_finally finally.now)) }
 {
     if let Some(finally) = finally {
         add_block(finally.block.as_slice(), names)?;

@@ -17,7 +17,8 @@ use fort_tree::{
 
 /// Walks over declarations.
 pub fn add_declarations(declarations: &[Declared], names: &mut List<Name>) -> Result<(), Memory>
-    ensures { OnOk result (names.new ≡ names.old ++ flat_map (λ d. mentioned_declaration d.declaration) declarations.now) }
+    ensures { OnOk result (names.new
+        ≡ names.old ++ flat_map (λ d. mentioned_declaration d.declaration) declarations.now) }
 {
     for declared in declarations {
         add_declaration(&declared.declaration, names)?;
@@ -82,7 +83,9 @@ fn add_next_method_parameters(
     parameters: &[NextMethodParameter],
     names: &mut List<Name>,
 ) -> Result<(), Memory>
-    ensures { OnOk result (names.new ≡ names.old ++ flat_map (λ next. mentioned_method_parameter next.parameter) parameters.now) }
+    ensures { OnOk result (names.new
+        ≡ names.old
+        ++ flat_map (λ next. mentioned_method_parameter next.parameter) parameters.now) }
 {
     for next in parameters {
         add_method_parameter(&next.parameter, names)?;
@@ -110,7 +113,8 @@ fn add_trait(tr: &Trait, names: &mut List<Name>) -> Result<(), Memory>
 }
 
 fn add_trait_members(members: &[TraitEntry], names: &mut List<Name>) -> Result<(), Memory>
-    ensures { OnOk result (names.new ≡ names.old ++ flat_map (λ e. mentioned_trait_member e.member) members.now) }
+    ensures { OnOk result (names.new
+        ≡ names.old ++ flat_map (λ e. mentioned_trait_member e.member) members.now) }
 {
     for entry in members {
         add_trait_member(&entry.member, names)?;
@@ -166,7 +170,8 @@ fn add_next_object_parameters(
     parameters: &[NextObjectParameter],
     names: &mut List<Name>,
 ) -> Result<(), Memory>
-    ensures { OnOk result (names.new ≡ names.old ++ flat_map (λ next. mentioned_type next.parameter.ty) parameters.now) }
+    ensures { OnOk result (names.new
+        ≡ names.old ++ flat_map (λ next. mentioned_type next.parameter.ty) parameters.now) }
 {
     for next in parameters {
         add_type(&next.parameter.ty, names)?;
@@ -175,7 +180,8 @@ fn add_next_object_parameters(
 }
 
 fn add_object_members(members: &[ObjectEntry], names: &mut List<Name>) -> Result<(), Memory>
-    ensures { OnOk result (names.new ≡ names.old ++ flat_map (λ e. mentioned_object_member e.member) members.now) }
+    ensures { OnOk result (names.new
+        ≡ names.old ++ flat_map (λ e. mentioned_object_member e.member) members.now) }
 {
     for entry in members {
         add_object_member(&entry.member, names)?;

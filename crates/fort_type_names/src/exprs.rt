@@ -48,7 +48,8 @@ pub fn add_expr(expr: &Expr, names: &mut List<Name>) -> Result<(), Memory>
 
 #[cycle(tree)]
 fn add_maybe_head(head: &Option<Boxed<Head>>, names: &mut List<Name>) -> Result<(), Memory>
-    ensures { OnOk result (names.new ≡ names.old ++ maybe_mentioned (option_map mentioned_head head.now)) }
+    ensures { OnOk result (names.new
+        ≡ names.old ++ maybe_mentioned (option_map mentioned_head head.now)) }
 {
     if let Some(head) = head {
         add_head(head.get(), names)?;
@@ -94,7 +95,8 @@ pub fn add_flat(flat: &Flat, names: &mut List<Name>) -> Result<(), Memory>
 
 #[cycle(tree)]
 fn add_flat_parts(parts: &[FlatPart], names: &mut List<Name>) -> Result<(), Memory>
-    ensures { OnOk result (names.new ≡ names.old ++ all_mentioned (map mentioned_flat_part parts.now)) }
+    ensures { OnOk result (names.new
+        ≡ names.old ++ all_mentioned (map mentioned_flat_part parts.now)) }
 {
     for part in parts {
         add_flat_part(part, names)?;
@@ -132,7 +134,8 @@ fn add_run(run: &Run, names: &mut List<Name>) -> Result<(), Memory>
 
 #[cycle(tree)]
 fn add_run_parts(parts: &[RunPart], names: &mut List<Name>) -> Result<(), Memory>
-    ensures { OnOk result (names.new ≡ names.old ++ all_mentioned (map mentioned_run_part parts.now)) }
+    ensures { OnOk result (names.new
+        ≡ names.old ++ all_mentioned (map mentioned_run_part parts.now)) }
 {
     for part in parts {
         add_run_part(part, names)?;
@@ -193,7 +196,8 @@ fn add_atom(atom: &Atom, names: &mut List<Name>) -> Result<(), Memory>
 
 #[cycle(tree)]
 fn add_expr_list(list: &Option<ExprList>, names: &mut List<Name>) -> Result<(), Memory>
-    ensures { OnOk result (names.new ≡ names.old ++ maybe_mentioned (option_map mentioned_expr_list list.now)) }
+    ensures { OnOk result (names.new
+        ≡ names.old ++ maybe_mentioned (option_map mentioned_expr_list list.now)) }
 {
     if let Some(list) = list {
         add_expr(list.first.get(), names)?;
@@ -204,7 +208,8 @@ fn add_expr_list(list: &Option<ExprList>, names: &mut List<Name>) -> Result<(), 
 
 #[cycle(tree)]
 fn add_next_exprs(exprs: &[NextExpr], names: &mut List<Name>) -> Result<(), Memory>
-    ensures { OnOk result (names.new ≡ names.old ++ all_mentioned (map mentioned_next_expr exprs.now)) }
+    ensures { OnOk result (names.new
+        ≡ names.old ++ all_mentioned (map mentioned_next_expr exprs.now)) }
 {
     for next in exprs {
         add_expr(&next.expr, names)?;

@@ -36,7 +36,8 @@ fn add_simple_type(simple: &SimpleType, names: &mut List<Name>) -> Result<(), Me
 
 #[cycle(types)]
 fn add_maybe_types(parts: &Option<TypeList>, names: &mut List<Name>) -> Result<(), Memory>
-    ensures { OnOk result (names.new ≡ names.old ++ maybe_mentioned (option_map mentioned_type_list parts.now)) }
+    ensures { OnOk result (names.new
+        ≡ names.old ++ maybe_mentioned (option_map mentioned_type_list parts.now)) }
 {
     if let Some(list) = parts {
         add_type(list.first.get(), names)?;
@@ -47,7 +48,8 @@ fn add_maybe_types(parts: &Option<TypeList>, names: &mut List<Name>) -> Result<(
 
 #[cycle(types)]
 fn add_next_types(types: &[NextType], names: &mut List<Name>) -> Result<(), Memory>
-    ensures { OnOk result (names.new ≡ names.old ++ all_mentioned (map mentioned_next_type types.now)) }
+    ensures { OnOk result (names.new
+        ≡ names.old ++ all_mentioned (map mentioned_next_type types.now)) }
 {
     for next in types {
         add_type(&next.ty, names)?;
@@ -67,7 +69,8 @@ pub fn add_parameters(parameters: &Option<Parameters>, names: &mut List<Name>) -
 }
 
 fn add_next_parameters(parameters: &[NextParameter], names: &mut List<Name>) -> Result<(), Memory>
-    ensures { OnOk result (names.new ≡ names.old ++ flat_map (λ next. mentioned_type next.parameter.ty) parameters.now) }
+    ensures { OnOk result (names.new
+        ≡ names.old ++ flat_map (λ next. mentioned_type next.parameter.ty) parameters.now) }
 {
     for next in parameters {
         add_type(&next.parameter.ty, names)?;

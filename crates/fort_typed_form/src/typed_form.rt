@@ -4,8 +4,8 @@ use fort_form::{Parameter, Reduction};
 
 /// A form with its type, which stands first.
 ///
-/// Lists that go together have one length. A name that is bound by a form is in scope where the chapter "Names in scope"
-/// has it.
+/// Lists that go together have one length. A name that is bound by a form is in scope where the
+/// chapter "Names in scope" has it.
 #[cycle(typed)]
 #[derive(Drop)]
 pub enum TypedForm {
@@ -37,7 +37,8 @@ pub enum TypedForm {
     Call(Ty, Chosen, List<TypedForm>),
     /// A call of an operator, juxtaposition and `^` among them; its operands from left to right.
     Operation(Ty, Chosen, List<TypedForm>),
-    /// A chain of relations: the set that joins its comparisons, the call of each comparison, the sides.
+    /// A chain of relations: the set that joins its comparisons, the call of each comparison, the
+    /// sides.
     Chain(Ty, SetId, List<Chosen>, List<TypedForm>),
     /// A function value and its argument.
     Apply(Ty, Boxed<TypedForm>, Boxed<TypedForm>),
@@ -47,7 +48,8 @@ pub enum TypedForm {
     Block(Ty, List<TypedForm>),
     /// An item of a block: a local variable, whether it is mutable, its written type, its initial.
     Bind(Ty, NameId, bool, Ty, Boxed<TypedForm>),
-    /// An item of a block: local variables for the parts of a tuple, with their types, and the tuple.
+    /// An item of a block: local variables for the parts of a tuple, with their types, and the
+    /// tuple.
     Binds(Ty, List<(NameId, Ty)>, Boxed<TypedForm>),
     /// Blocks that run in parallel, two or more.
     Also(Ty, List<TypedForm>),
@@ -57,7 +59,8 @@ pub enum TypedForm {
     While(Ty, Boxed<TypedForm>, Boxed<TypedForm>),
     /// The names of the generators and whether each is in order, their sources, and the block.
     For(Ty, List<(NameId, bool)>, List<TypedForm>, Boxed<TypedForm>),
-    /// The subject, the call of `=` of each clause, what each compares with, what each gives, and the `else`.
+    /// The subject, the call of `=` of each clause, what each compares with, what each gives, and
+    /// the `else`.
     Case(
         Ty,
         Boxed<TypedForm>,
@@ -68,7 +71,8 @@ pub enum TypedForm {
     ),
     /// The name, the subject, the type of each clause, what each gives, and the `else`.
     Typecase(Ty, NameId, Boxed<TypedForm>, List<Ty>, List<TypedForm>, Option<Boxed<TypedForm>>),
-    /// The block, the name where there is a `catch`, the type of each clause, what each gives, and the `finally`.
+    /// The block, the name where there is a `catch`, the type of each clause, what each gives, and
+    /// the `finally`.
     Try(Ty, Boxed<TypedForm>, Option<NameId>, List<Ty>, List<TypedForm>, Option<Boxed<TypedForm>>),
     /// `atomic e`
     Atomic(Ty, Boxed<TypedForm>),
@@ -76,8 +80,8 @@ pub enum TypedForm {
     Tryatomic(Ty, Boxed<TypedForm>),
     /// `throw e`
     Throw(Ty, Boxed<TypedForm>),
-    /// What it joins by and the set of that operator, the generator's name and whether it is in order, its source, the
-    /// body.
+    /// What it joins by and the set of that operator, the generator's name and whether it is in
+    /// order, its source, the body.
     Reduce(Ty, Reduction, SetId, NameId, bool, Boxed<TypedForm>, Boxed<TypedForm>),
     /// `t := e`: the target, which is a `Local`, a `Top`, a `ReadField` or a `ReadElement`, and e.
     Assign(Ty, Boxed<TypedForm>, Boxed<TypedForm>),
@@ -85,7 +89,8 @@ pub enum TypedForm {
     Update(Ty, Boxed<TypedForm>, Chosen, Boxed<TypedForm>),
 }
 
-/// A call: its set, by its number among the component's sets, and which of its arguments are widened from ZZ32 to ZZ64.
+/// A call: its set, by its number among the component's sets, and which of its arguments are
+/// widened from ZZ32 to ZZ64.
 #[derive(Drop)]
 pub struct Chosen {
     pub set: SetId,

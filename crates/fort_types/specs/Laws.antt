@@ -21,7 +21,8 @@ BelowBothWays = (h : DeclaredTypes) → Sound h → (a b : Ty) → Below h a b �
 
 -- No solid type is below two types that are apart.
 abbrev pub NeverBelowTwo : Type 0
-NeverBelowTwo = (h : DeclaredTypes) → Sound h → (a b x : Ty) → Apart h a b → Solid x → Below h x a → Below h x b → ⊥
+NeverBelowTwo = (h : DeclaredTypes) → Sound h → (a b x : Ty) → Apart h a b → Solid x → Below h x a
+    → Below h x b → ⊥
 
 -- Of two that are apart, each is apart from the other.
 abbrev pub ApartEitherWay : Type 0
@@ -29,13 +30,17 @@ ApartEitherWay = (h : DeclaredTypes) (a b : Ty) → Apart h a b → Apart h b a
 
 -- What is below two that are apart are apart.
 abbrev pub ApartGoesDown : Type 0
-ApartGoesDown = (h : DeclaredTypes) (a b c d : Ty) → Apart h a b → Below h c a → Below h d b → Apart h c d
+ApartGoesDown = (h : DeclaredTypes) (a b c d : Ty) → Apart h a b → Below h c a → Below h d b
+    → Apart h c d
 
 -- `Nothing` is apart from each type but `Any`, itself too.
 abbrev pub NothingIsApart : Type 0
 NothingIsApart = (h : DeclaredTypes) (a b : Ty) → shape a ≡ bottom → Apart h a b ↔ (shape b ≢ top)
 
--- Asked of the rows of an accepted hierarchy, one way round or the other, the computed truth is that of below.
+-- Asked of the rows of an accepted hierarchy, one way round or the other, the computed truth is
+-- that of below.
 abbrev pub RelationIsBelow : Type 0
-RelationIsBelow = (h : DeclaredTypes) (table : TypeTable) → Sound h → HasRows h table → (a b : Ty) → IsNumbered (length h) a → IsNumbered (length h) b
-    → (IsTrue (relation table.below a true b) ↔ Below h a b) × (IsTrue (relation table.below a false b) ↔ Below h b a)
+RelationIsBelow = (h : DeclaredTypes) (table : TypeTable) → Sound h → HasRows h table → (a b : Ty)
+    → IsNumbered (length h) a → IsNumbered (length h) b
+    → (IsTrue (relation table.below a true b) ↔ Below h a b)
+    × (IsTrue (relation table.below a false b) ↔ Below h b a)

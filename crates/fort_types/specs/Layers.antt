@@ -1,4 +1,5 @@
--- The chapter "Types", read by the outermost layers of two types: what `Below` and `Apart` come to there. The code has a case for each of these lines.
+-- The chapter "Types", read by the outermost layers of two types: what `Below` and `Apart` come to
+-- there. The code has a case for each of these lines.
 use Rattle.std.specs.Prelude.{◌≡◌, ◌≢◌, ◌⊎◌, ℕ, Bool, true, false, List, length, slice_get, Some}
 use Rattle.fort_base.specs.declared.ty.Ty.{Ty}
 use Rattle.fort_base.specs.declared.ty.Ty.TheOpen.{Ty-F}
@@ -7,7 +8,8 @@ use Rattle.fort_types.specs.Types.{Apart, Below}
 
 -- Two lists of one length, related place by place.
 abbrev pub Along : {A B : Type 0} → (A → B → Type 0) → List A → List B → Type 0
-Along {A} {B} R xs ys = (length xs ≡ length ys) × ((k : ℕ) (x : A) (y : B) → slice_get xs k ≡ Some x → slice_get ys k ≡ Some y → R x y)
+Along {A} {B} R xs ys = (length xs ≡ length ys)
+    × ((k : ℕ) (x : A) (y : B) → slice_get xs k ≡ Some x → slice_get ys k ≡ Some y → R x y)
 
 -- Each type of the first list is below the one in its place of the second.
 abbrev pub AllBelow : DeclaredTypes → List Ty → List Ty → Type 0
@@ -15,7 +17,8 @@ AllBelow h xs ys = Along (Below h) xs ys
 
 -- Some place of two lists has related types.
 abbrev pub Somewhere : (Ty → Ty → Type 0) → List Ty → List Ty → Type 0
-Somewhere R xs ys = (k : ℕ) × (x : Ty) × (y : Ty) × (slice_get xs k ≡ Some x) × (slice_get ys k ≡ Some y) × R x y
+Somewhere R xs ys = (k : ℕ) × (x : Ty) × (y : Ty) × (slice_get xs k ≡ Some x)
+    × (slice_get ys k ≡ Some y) × R x y
 
 -- Tuples are apart by their lengths or, of one length, at some part.
 abbrev pub Differ : DeclaredTypes → List Ty → List Ty → Type 0

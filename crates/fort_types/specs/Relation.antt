@@ -1,10 +1,12 @@
--- The chapter "Types": below as a truth that is computed from the rows, which is what a run asks. It goes down the first type and asks which way round; the code goes down both types together.
+-- The chapter "Types": below as a truth that is computed from the rows, which is what a run asks.
+-- It goes down the first type and asks which way round; the code goes down both types together.
 use Rattle.std.specs.Prelude.{ℕ, Bool, true, false, not, ◌&&◌, List, [], ◌∷◌}
 use Rattle.fort_base.specs.declared.ty.Ty.{Ty, out-Ty, fold-Ty}
 use Rattle.fort_base.specs.declared.ty.Ty.TheOpen.{Ty-F}
 use Rattle.fort_types.specs.Table.{is_set}
 
--- Which way round two types are asked: the first below the second at `true`, the second below the first at `false`.
+-- Which way round two types are asked: the first below the second at `true`, the second below the
+-- first at `false`.
 abbrev pub named_below : List (List Bool) → Bool → ℕ → ℕ → Bool
 named_below rows true i j = is_set rows i j
 named_below rows false i j = is_set rows j i
@@ -20,7 +22,8 @@ each_below [] up (b ∷ bs) = false
 each_below (r ∷ rs) up [] = false
 each_below (r ∷ rs) up (b ∷ bs) = r up b && each_below rs up bs
 
--- Nothing is below all types and `Any` above all; declared types go by their rows, tuples by their parts, arrows with the domain turned round, arrays by elements that are below each other.
+-- Nothing is below all types and `Any` above all; declared types go by their rows, tuples by their
+-- parts, arrows with the domain turned round, arrays by elements that are below each other.
 abbrev pub below_at : List (List Bool) → Ty-F Relation → Bool → Ty-F Ty → Bool
 below_at rows Ty-F.Nothing true b = true
 below_at rows Ty-F.Nothing false Ty-F.Nothing = true

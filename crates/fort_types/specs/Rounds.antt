@@ -27,7 +27,8 @@ pub data Parts (h : DeclaredTypes) (rows : Bits) (a b : ℕ) : Type 0 where
   by_exclusion : Trait h a → Trait h b → Excludes h a b → Parts h rows a b
   by_leaf : Leaf h a → (Path h a b → ⊥) → (Path h b a → ⊥) → Parts h rows a b
   by_above : (c : ℕ) → Extends h a c → Bit rows c b → Parts h rows a b
-  by_list : (u : ℕ) → Trait h a → Lists h a u → ((v : ℕ) → Lists h a v → Bit rows v b) → Parts h rows a b
+  by_list : (u : ℕ) → Trait h a → Lists h a u → ((v : ℕ) → Lists h a v → Bit rows v b)
+      → Parts h rows a b
 
 -- The bits are closed at one pair, in a row up to a place, in the rows up to one.
 abbrev pub ClosedAt : DeclaredTypes → Bits → ℕ → ℕ → Type 0

@@ -1,4 +1,5 @@
--- The chapter "Types": a square of bits by its rows. The code keeps one while it closes the rows of apart.
+-- The chapter "Types": a square of bits by its rows. The code keeps one while it closes the rows of
+-- apart.
 use Rattle.std.specs.Prelude.{◌≡◌, ◌<◌, ℕ, Bool, true, false, List, [], length, get_or, slice_index, replicate}
 use Rattle.std.specs.List.{sum_by}
 

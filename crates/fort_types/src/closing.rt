@@ -13,9 +13,12 @@ use crate::supertypes::supertypes;
 use fort_base::{List, Memory, TypeTable};
 use std::alloc::Global;
 
-/// The table of the declared types, each of whose numbers is its place in the list: a type is below another exactly where a path of `extends` leads there, and apart from another exactly where the rules say so.
+/// The table of the declared types, each of whose numbers is its place in the list: a type is below
+/// another exactly where a path of `extends` leads there, and apart from another exactly where the
+/// rules say so.
 ///
-/// Any list will do: what makes a hierarchy an accepted one can be read off its table. Where memory is wanting there is no table.
+/// Any list will do: what makes a hierarchy an accepted one can be read off its table. Where memory
+/// is wanting there is no table.
 pub fn rows(alloc: Global, hierarchy: &[DeclaredType]) -> Result<TypeTable, Memory>
     ensures { IfOk result (HasRows hierarchy.now) }
 {
@@ -39,7 +42,8 @@ fn aparts(
     Ok(rows.into_rows())
 }
 
-/// The types with fewest supertypes first, each after how many it has. The order only makes the rounds few.
+/// The types with fewest supertypes first, each after how many it has. The order only makes the
+/// rounds few.
 fn by_height(alloc: Global, below: &List<List<bool>>) -> Result<Vec<(usize, usize)>, Memory> {
     let mut order = Vec::new(alloc);
     for (number, row) in below.as_slice().iter().enumerate() {
@@ -67,7 +71,8 @@ fn grown(
     round(types, below, rows)
 }
 
-/// Adds bits from the top of the hierarchy down, for what is inherited, and from the bottom up, for what is listed.
+/// Adds bits from the top of the hierarchy down, for what is inherited, and from the bottom up, for
+/// what is listed.
 fn sweep(
     types: &[DeclaredType],
     below: &List<List<bool>>,
@@ -106,7 +111,8 @@ fn round(types: &[DeclaredType], below: &List<List<bool>>, rows: &mut Square) ->
     requires below { IsExact (Path types.now) (length types.now) below.now }
     requires holds { Holds types.now rows.old }
     ensures holds { Holds types.now rows.new }
-    ensures progress { Progress rows.old rows.new result (ClosedTo types.now rows.old (length types.now)) }
+    ensures progress { Progress rows.old rows.new result
+        (ClosedTo types.now rows.old (length types.now)) }
 {
     let mut grown = false;
     for a in 0..types.len() {
@@ -122,7 +128,8 @@ fn grow_row(types: &[DeclaredType], below: &List<List<bool>>, rows: &mut Square,
     requires holds { Holds types.now rows.old }
     requires inside { a < length types.now }
     ensures holds { Holds types.now rows.new }
-    ensures progress { Progress rows.old rows.new result (ClosedIn types.now rows.old a (length types.now)) }
+    ensures progress { Progress rows.old rows.new result
+        (ClosedIn types.now rows.old a (length types.now)) }
 {
     let mut grown = false;
     for b in 0..types.len() {

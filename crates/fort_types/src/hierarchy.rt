@@ -15,7 +15,8 @@ pub enum TypeKind {
     Leaf,
 }
 
-/// A declared type: its kind, and the numbers of the declared types that its head names, each number a place in the hierarchy.
+/// A declared type: its kind, and the numbers of the declared types that its head names, each
+/// number a place in the hierarchy.
 ///
 /// A number past the hierarchy's end names no type and counts for nothing.
 #[derive(Drop)]

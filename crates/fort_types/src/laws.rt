@@ -8,7 +8,8 @@ pub fn below_is_an_order()
     ensures antisymmetric { BelowBothWays }
 {}
 
-/// A law: in an accepted hierarchy no solid type is below two types that are apart, so no value has both.
+/// A law: in an accepted hierarchy no solid type is below two types that are apart, so no value has
+/// both.
 pub fn no_type_below_two()
     ensures { NeverBelowTwo }
 {}
@@ -20,7 +21,8 @@ pub fn apart_is_symmetric()
     ensures nothing { NothingIsApart }
 {}
 
-/// A law: in an accepted hierarchy, below of types whose numbers are the hierarchy's is the truth that a run computes from the rows.
+/// A law: in an accepted hierarchy, below of types whose numbers are the hierarchy's is the truth
+/// that a run computes from the rows.
 pub fn relation_is_below()
     ensures { RelationIsBelow }
 {}

@@ -1,4 +1,5 @@
-//! The order of types: which type is below which, and which types are apart, over the words of every crate.
+//! The order of types: which type is below which, and which types are apart, over the words of
+//! every crate.
 #![tactic(auto)]
 
 mod closing;

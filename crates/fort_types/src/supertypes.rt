@@ -1,6 +1,7 @@
 //! The rows of below: for each type, itself and the types above it.
 //!
-//! Each row takes the steps up from its type that lead anywhere new, so the order of the types doesn't matter.
+//! Each row takes the steps up from its type that lead anywhere new, so the order of the types
+//! doesn't matter.
 ghost use Rattle.std.specs.Prelude.{◌≡◌, ◌<◌, length, IfOk, OnOk};
 ghost use Rattle.fort_types.specs.Hierarchy.{Path};
 ghost use Rattle.fort_types.specs.Table.{IsExact};
@@ -22,7 +23,8 @@ pub fn supertypes(alloc: Global, types: &[DeclaredType]) -> Result<List<List<boo
     Ok(rows)
 }
 
-/// The row of one type. What is marked stands in a list once, and the list is walked until nothing new is found.
+/// The row of one type. What is marked stands in a list once, and the list is walked until nothing
+/// new is found.
 #[tactic(auto, using(crate::proofs::Upwards::index_inside))]
 fn row_of(alloc: Global, types: &[DeclaredType], a: usize) -> Result<List<bool>, Memory>
     requires { a < length types.now }
@@ -44,7 +46,8 @@ fn row_of(alloc: Global, types: &[DeclaredType], a: usize) -> Result<List<bool>,
 /// Looks at each number of a list.
 #[tactic(auto, using(crate::proofs::Upwards::none_reached, crate::proofs::Upwards::one_reached))]
 fn reach_each(list: &[usize], row: &mut List<bool>, found: &mut List<usize>) -> Result<(), Memory>
-    ensures { OnOk result (ReachesEach list.now (length list.now) row.old row.new found.old found.new) }
+    ensures { OnOk result
+        (ReachesEach list.now (length list.now) row.old row.new found.old found.new) }
 {
     for b in list {
         reach(*b, row, found)?;

@@ -11,7 +11,8 @@ ghost use Rattle.fort_base.specs.declared.ty.Ty.TheOpen.{Ty-F};
 use crate::square::set_at;
 use fort_base::{List, Ty, TypeId, TypeTable};
 
-/// Whether one type is below another, of whatever hierarchy the table has the rows; it takes no memory.
+/// Whether one type is below another, of whatever hierarchy the table has the rows; it takes no
+/// memory.
 pub fn below(table: &TypeTable, a: &Ty, b: &Ty) -> bool
     ensures { (h : Seq DeclaredType) → HasRows h table.now → IsTrue result ↔ Below h a.now b.now }
 {
@@ -28,7 +29,8 @@ pub fn apart(table: &TypeTable, a: &Ty, b: &Ty) -> bool
 /// Whether the first type is below the second or, the other way round, the second below the first.
 #[cycle(below)]
 fn layer_below(table: &TypeTable, up: bool, a: &Ty, b: &Ty) -> bool
-    ensures { (h : Seq DeclaredType) → HasRows h table.now → IsTrue result ↔ Sided h up (out-Ty a.now) (out-Ty b.now) }
+    ensures { (h : Seq DeclaredType) → HasRows h table.now → IsTrue result
+        ↔ Sided h up (out-Ty a.now) (out-Ty b.now) }
 {
     match (a, b) {
         (Ty::Nothing, Ty::Nothing) => true,
@@ -49,7 +51,8 @@ fn layer_below(table: &TypeTable, up: bool, a: &Ty, b: &Ty) -> bool
 
 #[cycle(below)]
 fn parts_below(table: &TypeTable, up: bool, xs: &List<Ty>, ys: &List<Ty>) -> bool
-    ensures { (h : Seq DeclaredType) → HasRows h table.now → IsTrue result ↔ Sided h up (Ty-F.Tuple xs.now) (Ty-F.Tuple ys.now) }
+    ensures { (h : Seq DeclaredType) → HasRows h table.now → IsTrue result
+        ↔ Sided h up (Ty-F.Tuple xs.now) (Ty-F.Tuple ys.now) }
 {
     let left = xs.as_slice();
     let right = ys.as_slice();
@@ -66,7 +69,8 @@ fn parts_below(table: &TypeTable, up: bool, xs: &List<Ty>, ys: &List<Ty>) -> boo
 
 #[cycle(apart)]
 fn layer_apart(table: &TypeTable, a: &Ty, b: &Ty) -> bool
-    ensures { (h : Seq DeclaredType) → HasRows h table.now → IsTrue result ↔ ApartLayer h (out-Ty a.now) (out-Ty b.now) }
+    ensures { (h : Seq DeclaredType) → HasRows h table.now → IsTrue result
+        ↔ ApartLayer h (out-Ty a.now) (out-Ty b.now) }
 {
     match (a, b) {
         (Ty::Any, _) => false,
@@ -81,7 +85,8 @@ fn layer_apart(table: &TypeTable, a: &Ty, b: &Ty) -> bool
 
 #[cycle(apart)]
 fn parts_apart(table: &TypeTable, xs: &List<Ty>, ys: &List<Ty>) -> bool
-    ensures { (h : Seq DeclaredType) → HasRows h table.now → IsTrue result ↔ Differ h xs.now ys.now }
+    ensures { (h : Seq DeclaredType) → HasRows h table.now → IsTrue result
+        ↔ Differ h xs.now ys.now }
 {
     let left = xs.as_slice();
     let right = ys.as_slice();
@@ -96,10 +101,12 @@ fn parts_apart(table: &TypeTable, xs: &List<Ty>, ys: &List<Ty>) -> bool
     false
 }
 
-/// Whether a declared type is below another, or the other way round; each is below itself, one past the table too.
+/// Whether a declared type is below another, or the other way round; each is below itself, one past
+/// the table too.
 #[tactic(auto, using(crate::proofs::Arms::told_same, crate::proofs::Arms::told_below, crate::proofs::Arms::told_above))]
 fn declared_below(table: &TypeTable, up: bool, a: TypeId, b: TypeId) -> bool
-    ensures { (h : Seq DeclaredType) → HasRows h table.now → IsTrue result ↔ Sided h up (Ty-F.Named a) (Ty-F.Named b) }
+    ensures { (h : Seq DeclaredType) → HasRows h table.now → IsTrue result
+        ↔ Sided h up (Ty-F.Named a) (Ty-F.Named b) }
 {
     if a == b {
         return true;
@@ -114,7 +121,8 @@ fn declared_below(table: &TypeTable, up: bool, a: TypeId, b: TypeId) -> bool
 /// Whether two declared types are apart; none past the table is apart from any.
 #[tactic(auto, using(crate::proofs::Arms::told_apart))]
 fn declared_apart(table: &TypeTable, a: TypeId, b: TypeId) -> bool
-    ensures { (h : Seq DeclaredType) → HasRows h table.now → IsTrue result ↔ DeclaredApart h a.0 b.0 }
+    ensures { (h : Seq DeclaredType) → HasRows h table.now → IsTrue result
+        ↔ DeclaredApart h a.0 b.0 }
 {
     set_at(table.apart.as_slice(), a.0 as usize, b.0 as usize)
 }

@@ -1,5 +1,6 @@
--- The chapter "Typing", calls: what a call of a set has for the types of its arguments, and which rule it breaks. Which declaration is applicable, most
--- specific, or widened least, is told by the chapter "Overload rules".
+-- The chapter "Typing", calls: what a call of a set has for the types of its arguments, and which
+-- rule it breaks. Which declaration is applicable, most specific, or widened least, is told by the
+-- chapter "Overload rules".
 use Rattle.std.specs.Prelude.{◌≡◌, ◌↔◌, ℕ, Bool, false, IsTrue, List, length, slice_get, get_or, replicate, Option, Some, None}
 use Rattle.fort_base.specs.declared.ids.SetId.{SetId}
 use Rattle.fort_base.specs.declared.refusal.Rule.{Rule}
@@ -34,13 +35,18 @@ abbrev pub Calling : Type 1
 Calling = SetId → List Ty → Ty → List Bool → Type 0
 
 -- A call of a set with arguments of these types has this result, and these of them are widened.
-pub data Calls (k : Knows) (set : SetId) (types : List Ty) (result : Ty) (widened : List Bool) : Type 0 where
+pub data Calls (k : Knows) (set : SetId) (types : List Ty) (result : Ty)
+    (widened : List Bool) : Type 0 where
   -- a declaration is applicable: the most specific one
-  plain : (s : MemberSet) (i : ℕ) (d : Member) → set_at k set ≡ Some s → Chooses k.declared s types (choice.At i) → StandsAt s i d
-      → result ≡ d.result → widened ≡ replicate (length types) false → Calls k set types result widened
+  plain : (s : MemberSet) (i : ℕ) (d : Member) → set_at k set ≡ Some s
+      → Chooses k.declared s types (choice.At i) → StandsAt s i d
+      → result ≡ d.result → widened ≡ replicate (length types) false
+      → Calls k set types result widened
   -- none is: the most specific one for the types that are widened least
-  widening : (s : MemberSet) (i j : ℕ) (p d : Member) (wide : List Ty) → set_at k set ≡ Some s → Chooses k.declared s types choice.NoneApplicable
-      → Widens k.declared to_zz64 s types (choice.At i) → StandsAt s i p → AreWidened to_zz64 p types wide → Chooses k.declared s wide (choice.At j) → StandsAt s j d
+  widening : (s : MemberSet) (i j : ℕ) (p d : Member) (wide : List Ty) → set_at k set ≡ Some s
+      → Chooses k.declared s types choice.NoneApplicable
+      → Widens k.declared to_zz64 s types (choice.At i) → StandsAt s i p
+      → AreWidened to_zz64 p types wide → Chooses k.declared s wide (choice.At j) → StandsAt s j d
       → result ≡ d.result → ArePositions p types widened → Calls k set types result widened
 
 -- A call of a set with arguments of these types breaks a rule.
@@ -48,13 +54,22 @@ pub data CallBreaks (k : Knows) (set : SetId) (types : List Ty) (rule : Rule) : 
   -- there is no such set: 602
   no_set : set_at k set ≡ None → rule ≡ NOT_APPLICABLE → CallBreaks k set types rule
   -- no declaration is applicable, also with widening: 602
-  not_applicable : (s : MemberSet) → set_at k set ≡ Some s → Chooses k.declared s types choice.NoneApplicable
-      → Widens k.declared to_zz64 s types choice.NoneApplicable → rule ≡ NOT_APPLICABLE → CallBreaks k set types rule
+  not_applicable : (s : MemberSet) → set_at k set ≡ Some s
+      → Chooses k.declared s types choice.NoneApplicable
+      → Widens k.declared to_zz64 s types choice.NoneApplicable → rule ≡ NOT_APPLICABLE
+      → CallBreaks k set types rule
   -- some are with widening, and none of these widens least: 614
-  unclear : (s : MemberSet) → set_at k set ≡ Some s → Chooses k.declared s types choice.NoneApplicable
-      → Widens k.declared to_zz64 s types choice.Unclear → rule ≡ WIDENING_UNCLEAR → CallBreaks k set types rule
-  -- some are applicable and none is the most specific one, which no set that keeps the overload rules has: 602
-  no_best : (s : MemberSet) → set_at k set ≡ Some s → Chooses k.declared s types choice.Unclear → rule ≡ NOT_APPLICABLE → CallBreaks k set types rule
-  no_best_widened : (s : MemberSet) (i : ℕ) (p : Member) (wide : List Ty) → set_at k set ≡ Some s → Chooses k.declared s types choice.NoneApplicable
-      → Widens k.declared to_zz64 s types (choice.At i) → StandsAt s i p → AreWidened to_zz64 p types wide
-      → ((j : ℕ) → IsMostSpecific k.declared s wide j → ⊥) → rule ≡ NOT_APPLICABLE → CallBreaks k set types rule
+  unclear : (s : MemberSet) → set_at k set ≡ Some s
+      → Chooses k.declared s types choice.NoneApplicable
+      → Widens k.declared to_zz64 s types choice.Unclear → rule ≡ WIDENING_UNCLEAR
+      → CallBreaks k set types rule
+  -- some are applicable and none is the most specific one, which no set that keeps the overload
+  -- rules has: 602
+  no_best : (s : MemberSet) → set_at k set ≡ Some s → Chooses k.declared s types choice.Unclear
+      → rule ≡ NOT_APPLICABLE → CallBreaks k set types rule
+  no_best_widened : (s : MemberSet) (i : ℕ) (p : Member) (wide : List Ty) → set_at k set ≡ Some s
+      → Chooses k.declared s types choice.NoneApplicable
+      → Widens k.declared to_zz64 s types (choice.At i) → StandsAt s i p
+      → AreWidened to_zz64 p types wide
+      → ((j : ℕ) → IsMostSpecific k.declared s wide j → ⊥) → rule ≡ NOT_APPLICABLE
+      → CallBreaks k set types rule

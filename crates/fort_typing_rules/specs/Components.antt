@@ -1,4 +1,5 @@
--- The chapter "Typing", declarations, and which refusal comes. The code asks one declaration after another.
+-- The chapter "Typing", declarations, and which refusal comes. The code asks one declaration after
+-- another.
 use Rattle.std.specs.Prelude.{◌≡◌, ◌<◌, ℕ, Bool, false, List, [], ◌∷◌, length, map, slice_get, codes, Option, Some}
 use Rattle.fort_base.specs.Places.{IsBefore}
 use Rattle.fort_base.specs.declared.ids.NameId.{NameId}
@@ -33,13 +34,20 @@ use Rattle.fort_typing_rules.specs.Breaking.{BreaksAs, BindingBreaks}
 
 -- A form is a constant: a number, `-` before a number, a text, a truth value, or `()`.
 pub data IsConstant (k : Knows) (e : Form) (t : TypedForm) : Type 0 where
-  number : (p : Place) (n : ℕ) → out-Form e ≡ Form-F.Number p n → t ≡ a_typed.Number (number_type n) n → IsConstant k e t
+  number : (p : Place) (n : ℕ) → out-Form e ≡ Form-F.Number p n
+      → t ≡ a_typed.Number (number_type n) n → IsConstant k e t
   -- it has the type of the number
-  negative : (p q : Place) (d : Form) (n : ℕ) → out-Form e ≡ Form-F.Operator p an_op.Minus (d ∷ []) → out-Form d ≡ Form-F.Number q n
-      → t ≡ a_typed.Operation (number_type n) (chosen (operator_set k.facts an_op.Minus 1) (false ∷ [])) (a_typed.Number (number_type n) n ∷ []) → IsConstant k e t
-  words : (p : Place) (n : ℕ) → out-Form e ≡ Form-F.Text p n → t ≡ a_typed.Text string n → IsConstant k e t
-  truth : (p : Place) (b : Bool) → out-Form e ≡ Form-F.Truth p b → t ≡ a_typed.Truth boolean b → IsConstant k e t
-  nothing : (p : Place) → out-Form e ≡ Form-F.Tuple p [] → t ≡ a_typed.Tuple unit [] → IsConstant k e t
+  negative : (p q : Place) (d : Form) (n : ℕ) → out-Form e ≡ Form-F.Operator p an_op.Minus (d ∷ [])
+      → out-Form d ≡ Form-F.Number q n
+      → t ≡ a_typed.Operation (number_type n)
+      (chosen (operator_set k.facts an_op.Minus 1) (false ∷ []))
+      (a_typed.Number (number_type n) n ∷ []) → IsConstant k e t
+  words : (p : Place) (n : ℕ) → out-Form e ≡ Form-F.Text p n → t ≡ a_typed.Text string n
+      → IsConstant k e t
+  truth : (p : Place) (b : Bool) → out-Form e ≡ Form-F.Truth p b → t ≡ a_typed.Truth boolean b
+      → IsConstant k e t
+  nothing : (p : Place) → out-Form e ≡ Form-F.Tuple p [] → t ≡ a_typed.Tuple unit []
+      → IsConstant k e t
 
 -- ---- declarations
 
@@ -49,17 +57,24 @@ pub data HasInitial (k : Knows) (i : InitialForm) (t : TypedForm) : Type 0 where
 
 -- An initial is no constant (608), or its type isn't below the written one (603).
 pub data InitialBreaks (k : Knows) (i : InitialForm) (x : Fault) : Type 0 where
-  no_constant : ((t : TypedForm) → IsConstant k i.value t → ⊥) → x ≡ fault INITIAL_NOT_CONSTANT (place_of i.value) → InitialBreaks k i x
-  unlike : (t : TypedForm) → IsConstant k i.value t → (IsBelow k (type_of t) i.ty → ⊥) → x ≡ fault MISMATCH (place_of i.value) → InitialBreaks k i x
+  no_constant : ((t : TypedForm) → IsConstant k i.value t → ⊥)
+      → x ≡ fault INITIAL_NOT_CONSTANT (place_of i.value) → InitialBreaks k i x
+  unlike : (t : TypedForm) → IsConstant k i.value t → (IsBelow k (type_of t) i.ty → ⊥)
+      → x ≡ fault MISMATCH (place_of i.value) → InitialBreaks k i x
 
 -- A body has a type below its written result, with its parameters bound.
 pub data HasBody (k : Knows) (b : BodyForm) (t : TypedForm) : Type 0 where
-  body : (inner : List Binding) → Binds (within k b.owner) [] (map parameter_binding b.parameters) inner → HasAs (within k b.owner) (Calls k) inner (below b.result) b.body t → HasBody k b t
+  body : (inner : List Binding)
+      → Binds (within k b.owner) [] (map parameter_binding b.parameters) inner
+      → HasAs (within k b.owner) (Calls k) inner (below b.result) b.body t → HasBody k b t
 
 -- A parameter of a body is visible (613), or the body breaks a rule.
 pub data BodyBreaks (k : Knows) (b : BodyForm) (x : Fault) : Type 0 where
-  parameters : BindingBreaks (within k b.owner) [] (map parameter_binding b.parameters) x → BodyBreaks k b x
-  within_ : (inner : List Binding) → Binds (within k b.owner) [] (map parameter_binding b.parameters) inner → BreaksAs (within k b.owner) inner (below b.result) b.body x → BodyBreaks k b x
+  parameters : BindingBreaks (within k b.owner) [] (map parameter_binding b.parameters) x
+      → BodyBreaks k b x
+  within_ : (inner : List Binding)
+      → Binds (within k b.owner) [] (map parameter_binding b.parameters) inner
+      → BreaksAs (within k b.owner) inner (below b.result) b.body x → BodyBreaks k b x
 
 -- There is a function `run` without parameters and with the result `()`.
 pub record HasRun (k : Knows) : Type 0 where
@@ -78,27 +93,35 @@ typed_initial i t = (i.owner, i.name, i.ty, t)
 
 -- what a typed body keeps of it
 abbrev pub typed_body : BodyForm → TypedForm → TypedBody
-typed_body b t = record { place = b.place; parameters = b.parameters; receiver = b.receiver; body = t }
+typed_body b t =
+    record { place = b.place; parameters = b.parameters; receiver = b.receiver; body = t }
 
 -- The forms of a component become this typed component.
 pub record HasTypes (k : Knows) (forms : Forms) (typed : Typed) : Type 0 where
   pub initials : length typed.initials ≡ length forms.initials
-  pub each_initial : (n : ℕ) (i : InitialForm) → slice_get forms.initials n ≡ Some i → (t : TypedForm) × HasInitial k i t × (slice_get typed.initials n ≡ Some (typed_initial i t))
+  pub each_initial : (n : ℕ) (i : InitialForm) → slice_get forms.initials n ≡ Some i
+      → (t : TypedForm) × HasInitial k i t × (slice_get typed.initials n ≡ Some (typed_initial i t))
   pub bodies : length typed.bodies ≡ length forms.bodies
-  pub each_body : (n : ℕ) (b : BodyForm) → slice_get forms.bodies n ≡ Some b → (t : TypedForm) × HasBody k b t × (slice_get typed.bodies n ≡ Some (typed_body b t))
+  pub each_body : (n : ℕ) (b : BodyForm) → slice_get forms.bodies n ≡ Some b
+      → (t : TypedForm) × HasBody k b t × (slice_get typed.bodies n ≡ Some (typed_body b t))
   pub runs : HasRun k
 
 -- A declaration of a component breaks a rule.
 pub data DeclarationBreaks (k : Knows) (forms : Forms) (x : Fault) : Type 0 where
-  initial : (n : ℕ) (i : InitialForm) → slice_get forms.initials n ≡ Some i → InitialBreaks k i x → DeclarationBreaks k forms x
-  body : (n : ℕ) (b : BodyForm) → slice_get forms.bodies n ≡ Some b → BodyBreaks k b x → DeclarationBreaks k forms x
+  initial : (n : ℕ) (i : InitialForm) → slice_get forms.initials n ≡ Some i → InitialBreaks k i x
+      → DeclarationBreaks k forms x
+  body : (n : ℕ) (b : BodyForm) → slice_get forms.bodies n ≡ Some b → BodyBreaks k b x
+      → DeclarationBreaks k forms x
 
 -- One broken rule goes before another: by its place, and at one place by its number.
 pub data GoesBefore (x y : Fault) : Type 0 where
   earlier : IsBefore x.place y.place → GoesBefore x y
   lower : x.place ≡ y.place → x.rule.0 < y.rule.0 → GoesBefore x y
 
--- The broken rule that is reported: the first one of a declaration; or 609 at the component's name where no declaration breaks one.
+-- The broken rule that is reported: the first one of a declaration; or 609 at the component's name
+-- where no declaration breaks one.
 pub data IsReported (k : Knows) (forms : Forms) (x : Fault) : Type 0 where
-  first : DeclarationBreaks k forms x → ((y : Fault) → DeclarationBreaks k forms y → GoesBefore y x → ⊥) → IsReported k forms x
-  no_run : ((y : Fault) → DeclarationBreaks k forms y → ⊥) → (HasRun k → ⊥) → x ≡ fault NO_RUN forms.name → IsReported k forms x
+  first : DeclarationBreaks k forms x
+      → ((y : Fault) → DeclarationBreaks k forms y → GoesBefore y x → ⊥) → IsReported k forms x
+  no_run : ((y : Fault) → DeclarationBreaks k forms y → ⊥) → (HasRun k → ⊥)
+      → x ≡ fault NO_RUN forms.name → IsReported k forms x

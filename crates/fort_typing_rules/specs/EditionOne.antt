@@ -1,4 +1,5 @@
--- The chapter "Typing", edition 1: calls without widening, for the one law that what edition 1 accepts is accepted with the same typed form.
+-- The chapter "Typing", edition 1: calls without widening, for the one law that what edition 1
+-- accepts is accepted with the same typed form.
 use Rattle.std.specs.Prelude.{◌≡◌, ℕ, Bool, false, List, length, replicate, Some}
 use Rattle.fort_base.specs.declared.ids.SetId.{SetId}
 use Rattle.fort_base.specs.declared.ty.Ty.{Ty}
@@ -13,11 +14,16 @@ use Rattle.fort_known.specs.Known.{Knows}
 use Rattle.fort_typing_rules.specs.Calls.{Calls, set_at}
 use Rattle.fort_typing_rules.specs.Typing.{Has}
 
--- In edition 1 a call has the result of the most specific declaration that is applicable to the types of its arguments.
-pub data CallsInOne (k : Knows) (set : SetId) (types : List Ty) (result : Ty) (widened : List Bool) : Type 0 where
-  plain : (s : MemberSet) (i : ℕ) (d : Member) → set_at k set ≡ Some s → IsMostSpecific k.declared s types i → StandsAt s i d
-      → result ≡ d.result → widened ≡ replicate (length types) false → CallsInOne k set types result widened
+-- In edition 1 a call has the result of the most specific declaration that is applicable to the
+-- types of its arguments.
+pub data CallsInOne (k : Knows) (set : SetId) (types : List Ty) (result : Ty)
+    (widened : List Bool) : Type 0 where
+  plain : (s : MemberSet) (i : ℕ) (d : Member) → set_at k set ≡ Some s
+      → IsMostSpecific k.declared s types i → StandsAt s i d
+      → result ≡ d.result → widened ≡ replicate (length types) false
+      → CallsInOne k set types result widened
 
 -- What a form becomes in edition 1, it becomes now.
 abbrev pub EditionOneIsKept : Type 0
-EditionOneIsKept = (k : Knows) (bs : List Binding) (e : Form) (t : TypedForm) → Has k (CallsInOne k) bs e t → Has k (Calls k) bs e t
+EditionOneIsKept = (k : Knows) (bs : List Binding) (e : Form) (t : TypedForm)
+    → Has k (CallsInOne k) bs e t → Has k (Calls k) bs e t

@@ -1,4 +1,5 @@
-//! The rules of typing: which form has which type, and which rule a form breaks, as relations that the code is held against.
+//! The rules of typing: which form has which type, and which rule a form breaks, as relations that
+//! the code is held against.
 #![tactic(auto)]
 
 mod laws;

@@ -16,19 +16,29 @@ abbrev pub for_inside : Facts → List Giving → Judge → State → State
 for_inside k gs b s = unless_lost (ask k a_slot.Last a_want.Unit b) (sources k gs s)
 
 abbrev pub reduce_inside : Facts → Reduction → Giving → Judge → State → State
-reduce_inside k r g e s = unless_lost (ask k a_slot.Last (reduction_want r) e) (sources k (g ∷ []) s)
+reduce_inside k r g e s =
+    unless_lost (ask k a_slot.Last (reduction_want r) e) (sources k (g ∷ []) s)
 
 abbrev pub case_inside : Facts → Judge → List Arm → Option Judge → State → State
-case_inside k j as_ other s = ask_if k a_slot.Last a_want.Value other (clauses k as_ (take_subject k j.place (said j s)))
+case_inside k j as_ other s =
+    ask_if k a_slot.Last a_want.Value other (clauses k as_ (take_subject k j.place (said j s)))
 
-abbrev pub typecase_inside : Facts → Place × NameId → Judge → List Clause → Option Judge → State → State
-typecase_inside k name j cs other s = unless_lost (λ t. else_with k (Some name) other (cases k (Some name) cs t)) (lost_if_broken (ask k a_slot.Head a_want.Value j (watch k (Some name) s)))
+abbrev pub typecase_inside : Facts → Place × NameId → Judge → List Clause → Option Judge → State
+    → State
+typecase_inside k name j cs other s =
+    unless_lost (λ t. else_with k (Some name) other (cases k (Some name) cs t))
+    (lost_if_broken (ask k a_slot.Head a_want.Value j (watch k (Some name) s)))
 
-abbrev pub try_inside : Facts → Judge → Option (Place × NameId) → List Clause → Option Judge → State → State
-try_inside k j name cs last s = ask_if k a_slot.Last a_want.Unit last (unless_lost (cases k name cs) (catches k cs (watch k name (ask k a_slot.Head a_want.Value j s))))
+abbrev pub try_inside : Facts → Judge → Option (Place × NameId) → List Clause → Option Judge → State
+    → State
+try_inside k j name cs last s =
+    ask_if k a_slot.Last a_want.Unit last
+    (unless_lost (cases k name cs)
+    (catches k cs (watch k name (ask k a_slot.Head a_want.Value j s))))
 
 abbrev pub fn_inside : Facts → List Parameter → Judge → State → State
-fn_inside k ps e s = unless_lost (ask k a_slot.Head a_want.Value e) (bind_all k (map parameter_binding ps) s)
+fn_inside k ps e s =
+    unless_lost (ask k a_slot.Head a_want.Value e) (bind_all k (map parameter_binding ps) s)
 
 abbrev pub assign_inside : Facts → Judge → Update → Judge → State → State
 assign_inside k j sign e s = assigned_part k (update_operator sign) e (take_target k j (said j s))

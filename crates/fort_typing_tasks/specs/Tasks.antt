@@ -1,4 +1,5 @@
--- The chapter "Typing": what the tasks of a walk mean, in the judge's words. The code keeps them on a stack, the next one on its top.
+-- The chapter "Typing": what the tasks of a walk mean, in the judge's words. The code keeps them on
+-- a stack, the next one on its top.
 use Rattle.std.specs.Prelude.{◌≡◌, ℕ, Bool, true, false, cond, List, [], ◌∷◌, map, take, Option, Some, None, option_map}
 use Rattle.fort_base.specs.declared.ids.NameId.{NameId}
 use Rattle.fort_base.specs.declared.refusal.Place.{Place}
@@ -48,16 +49,20 @@ bindings_of ((at, name) ∷ names) (t ∷ types) = binding at name t ∷ binding
 
 -- a generator's source is asked, and its name is bound
 abbrev pub on_source : Facts → Giving → State → State
-on_source k g s = take_source k g.place g.name g.source.place (said g.source (watch k (Some (g.place, g.name)) s))
+on_source k g s =
+    take_source k g.place g.name g.source.place (said g.source (watch k (Some (g.place, g.name)) s))
 
 -- what stands behind the `else` of a `typecase`, unless the scope isn't known
 abbrev pub on_otherwise : Facts → Option (Place × NameId) → Option Judge → State → State
 on_otherwise k name None s = s
 on_otherwise k name (Some j) s = unless_lost (else_with k name (Some j)) s
 
--- A form is closed: what it is stands in the place of what was asked last, and the frame and the bindings around it come back.
+-- A form is closed: what it is stands in the place of what was asked last, and the frame and the
+-- bindings around it come back.
 unfoldable pub closing : Facts → Form-F Judge Piece Arm Giving Clause → Frame → ℕ → State → State
-closing k form outer mark s = let bs = take mark s.bindings in let o = closed k form bs s in record { seen = o.seen; frame = outer; bindings = bs; found = o.found }
+closing k form outer mark s =
+    let bs = take mark s.bindings in let o = closed k form bs s
+    in record { seen = o.seen; frame = outer; bindings = bs; found = o.found }
 
 -- ---- tasks
 
@@ -66,7 +71,8 @@ abbrev pub taking : Facts → Taking → Judge → State → State
 taking k (a_taking.Kept slot want) j s = take_part k slot want j.place s
 taking k (a_taking.Below ty) j s = take_below k ty.now j.place s
 taking k (a_taking.Initial name mutable ty) j s = take_initial k name mutable ty.now j.place s
-taking k (a_taking.Initials at names ty) j s = take_initials k at ty.now (named_parts names.now ty.now) j.place s
+taking k (a_taking.Initials at names ty) j s =
+    take_initials k at ty.now (named_parts names.now ty.now) j.place s
 taking k (a_taking.Source at name) j s = take_source k at name j.place s
 taking k (a_taking.Compared op) j s = take_side k op j.place s
 taking k a_taking.Subject j s = take_subject k j.place s
@@ -100,7 +106,8 @@ casing k (a_casing.KnownValues name) cs s = unless_lost (cases k name cs) s
 
 -- how bindings change
 abbrev pub scoping : Facts → Scoping → State → State
-scoping k (a_scoping.Name at name mutable ty) s = bind k (record { name = name; place = at; ty = ty.now; mutable = mutable }) s
+scoping k (a_scoping.Name at name mutable ty) s =
+    bind k (record { name = name; place = at; ty = ty.now; mutable = mutable }) s
 scoping k (a_scoping.Names names ty) s = bind_parts k (named_parts names.now ty.now) s
 scoping k (a_scoping.Typed names types) s = bind_all k (bindings_of names.now types.now) s
 scoping k (a_scoping.Parameters ps) s = bind_all k (map parameter_binding ps.now) s

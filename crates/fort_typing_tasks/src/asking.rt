@@ -20,7 +20,9 @@ pub fn ask<'a>(
     form: &'a Form,
     tasks: &mut Stack<Task<'a>>,
 ) -> Result<(), Memory>
-    ensures { OnOk result ((k : Facts) (s : State) → run k tasks.new s ≡ run k tasks.old (on_ask k slot want.entry (judged k form.now) s)) }
+    ensures { OnOk result ((k : Facts) (s : State)
+        → run k tasks.new s
+        ≡ run k tasks.old (on_ask k slot want.entry (judged k form.now) s)) }
 {
     tasks.push(Task::Take(Taking::Kept(slot, want), form))?;
     tasks.push(Task::See(form))
@@ -33,7 +35,9 @@ pub fn ask_if<'a>(
     form: &'a Option<Boxed<Form>>,
     tasks: &mut Stack<Task<'a>>,
 ) -> Result<(), Memory>
-    ensures { OnOk result ((k : Facts) (s : State) → run k tasks.new s ≡ run k tasks.old (on_ask_if k slot want.entry (option_map (judged k) form.now) s)) }
+    ensures { OnOk result ((k : Facts) (s : State)
+        → run k tasks.new s
+        ≡ run k tasks.old (on_ask_if k slot want.entry (option_map (judged k) form.now) s)) }
 {
     match form {
         None => Ok(()),
@@ -44,7 +48,8 @@ pub fn ask_if<'a>(
 /// A part is asked that is to be below a type.
 #[tactic(auto, unfolding(fort_judge::specs::Parts::ask_below))]
 pub fn ask_below<'a>(ty: &'a Ty, form: &'a Form, tasks: &mut Stack<Task<'a>>) -> Result<(), Memory>
-    ensures { OnOk result ((k : Facts) (s : State) → run k tasks.new s ≡ run k tasks.old (on_ask_below k ty.now (judged k form.now) s)) }
+    ensures { OnOk result ((k : Facts) (s : State)
+        → run k tasks.new s ≡ run k tasks.old (on_ask_below k ty.now (judged k form.now) s)) }
 {
     tasks.push(Task::Take(Taking::Below(ty), form))?;
     tasks.push(Task::See(form))
@@ -58,7 +63,9 @@ pub fn ask_each<'a>(
     forms: &'a [Form],
     tasks: &mut Stack<Task<'a>>,
 ) -> Result<(), Memory>
-    ensures { OnOk result ((k : Facts) (s : State) → run k tasks.new s ≡ run k tasks.old (asks k slot want.entry (map (judged k) forms.now) s)) }
+    ensures { OnOk result ((k : Facts) (s : State)
+        → run k tasks.new s
+        ≡ run k tasks.old (asks k slot want.entry (map (judged k) forms.now) s)) }
 {
     match forms.split_first() {
         None => Ok(()),
@@ -72,7 +79,8 @@ pub fn ask_each<'a>(
 /// The elements of a run or of a juxtaposition are asked in their order.
 #[tactic(auto, unfolding(fort_judge::specs::Parts::elements))]
 pub fn elements<'a>(forms: &'a [Form], tasks: &mut Stack<Task<'a>>) -> Result<(), Memory>
-    ensures { OnOk result ((k : Facts) (s : State) → run k tasks.new s ≡ run k tasks.old (on_elements (map (judged k) forms.now) s)) }
+    ensures { OnOk result ((k : Facts) (s : State)
+        → run k tasks.new s ≡ run k tasks.old (on_elements (map (judged k) forms.now) s)) }
 {
     match forms.split_first() {
         None => Ok(()),
@@ -93,15 +101,19 @@ fn side<'a>(
     forms: &'a [Form],
     tasks: &mut Stack<Task<'a>>,
 ) -> Result<(), Memory>
-    ensures { OnOk result ((k : Facts) (s : State) → run k tasks.new s ≡ run k tasks.old (on_sides k next ops.now (map (judged k) forms.now) (take_side k before (judged k form.now).place (said (judged k form.now) s)))) }
+    ensures { OnOk result ((k : Facts) (s : State)
+        → run k tasks.new s
+        ≡ run k tasks.old
+        (on_sides k next ops.now (map (judged k) forms.now)
+        (take_side k before (judged k form.now).place (said (judged k form.now) s)))) }
 {
     tasks.push(Task::AskEach(Listing::Sides(next, ops), forms))?;
     tasks.push(Task::Take(Taking::Compared(before), form))?;
     tasks.push(Task::See(form))
 }
 
-/// The sides of a chain are asked in their order: the operator before the first one, if there is one, and the operators
-/// between them.
+/// The sides of a chain are asked in their order: the operator before the first one, if there is
+/// one, and the operators between them.
 #[tactic(auto, unfolding(fort_judge::specs::Parts::sides))]
 pub fn sides<'a>(
     before: Option<Op>,
@@ -109,7 +121,9 @@ pub fn sides<'a>(
     forms: &'a [Form],
     tasks: &mut Stack<Task<'a>>,
 ) -> Result<(), Memory>
-    ensures { OnOk result ((k : Facts) (s : State) → run k tasks.new s ≡ run k tasks.old (on_sides k before ops.now (map (judged k) forms.now) s)) }
+    ensures { OnOk result ((k : Facts) (s : State)
+        → run k tasks.new s
+        ≡ run k tasks.old (on_sides k before ops.now (map (judged k) forms.now) s)) }
 {
     match forms.split_first() {
         None => Ok(()),

@@ -16,7 +16,9 @@ use fort_stack::Stack;
 /// An item is gone through, which is as wanted where it is an expression.
 #[tactic(auto, using(crate::proofs::Levels::pieces))]
 fn item<'a>(want: Want<'a>, item: &'a Item, tasks: &mut Stack<Task<'a>>) -> Result<(), Memory>
-    ensures { OnOk result ((k : Facts) (s : State) → run k tasks.new s ≡ run k tasks.old (on_item k want.entry (judged_item k item.now) s)) }
+    ensures { OnOk result ((k : Facts) (s : State)
+        → run k tasks.new s
+        ≡ run k tasks.old (on_item k want.entry (judged_item k item.now) s)) }
 {
     match item {
         Item::Local(place, name, mutable, ty, form) => {
@@ -36,7 +38,8 @@ fn item<'a>(want: Want<'a>, item: &'a Item, tasks: &mut Stack<Task<'a>>) -> Resu
 /// The items of a block are gone through in their order.
 #[tactic(auto, unfolding(fort_judge::specs::Parts::items))]
 pub fn items<'a>(items: &'a [Item], tasks: &mut Stack<Task<'a>>) -> Result<(), Memory>
-    ensures { OnOk result ((k : Facts) (s : State) → run k tasks.new s ≡ run k tasks.old (on_items k (map (judged_item k) items.now) s)) }
+    ensures { OnOk result ((k : Facts) (s : State)
+        → run k tasks.new s ≡ run k tasks.old (on_items k (map (judged_item k) items.now) s)) }
 {
     match items.split_first() {
         None => Ok(()),
@@ -53,7 +56,9 @@ pub fn items<'a>(items: &'a [Item], tasks: &mut Stack<Task<'a>>) -> Result<(), M
 /// A generator's source is asked, and its name is bound.
 #[tactic(auto, using(crate::proofs::Levels::clauses))]
 pub fn source<'a>(generator: &'a Generator, tasks: &mut Stack<Task<'a>>) -> Result<(), Memory>
-    ensures { OnOk result ((k : Facts) (s : State) → run k tasks.new s ≡ run k tasks.old (on_source k (judged_generator k generator.now) s)) }
+    ensures { OnOk result ((k : Facts) (s : State)
+        → run k tasks.new s
+        ≡ run k tasks.old (on_source k (judged_generator k generator.now) s)) }
 {
     tasks.push(Task::Take(
         Taking::Source(generator.place, generator.name),
@@ -66,7 +71,9 @@ pub fn source<'a>(generator: &'a Generator, tasks: &mut Stack<Task<'a>>) -> Resu
 /// Generators are gone through in their order.
 #[tactic(auto, unfolding(fort_judge::specs::Parts::sources))]
 pub fn sources<'a>(generators: &'a [Generator], tasks: &mut Stack<Task<'a>>) -> Result<(), Memory>
-    ensures { OnOk result ((k : Facts) (s : State) → run k tasks.new s ≡ run k tasks.old (on_sources k (map (judged_generator k) generators.now) s)) }
+    ensures { OnOk result ((k : Facts) (s : State)
+        → run k tasks.new s
+        ≡ run k tasks.old (on_sources k (map (judged_generator k) generators.now) s)) }
 {
     match generators.split_first() {
         None => Ok(()),

@@ -19,7 +19,9 @@ pub fn arms<'a>(
     branches: &'a [Branch],
     tasks: &mut Stack<Task<'a>>,
 ) -> Result<(), Memory>
-    ensures { OnOk result ((k : Facts) (s : State) → run k tasks.new s ≡ run k tasks.old (on_arms k want.entry (map (judged_branch k) branches.now) s)) }
+    ensures { OnOk result ((k : Facts) (s : State)
+        → run k tasks.new s
+        ≡ run k tasks.old (on_arms k want.entry (map (judged_branch k) branches.now) s)) }
 {
     match branches.split_first() {
         None => Ok(()),
@@ -34,7 +36,9 @@ pub fn arms<'a>(
 /// The clauses of a `case` are asked in their order.
 #[tactic(auto, using(crate::proofs::Levels::clauses), unfolding(fort_judge::specs::Parts::clauses))]
 pub fn clauses<'a>(branches: &'a [Branch], tasks: &mut Stack<Task<'a>>) -> Result<(), Memory>
-    ensures { OnOk result ((k : Facts) (s : State) → run k tasks.new s ≡ run k tasks.old (on_clauses k (map (judged_branch k) branches.now) s)) }
+    ensures { OnOk result ((k : Facts) (s : State)
+        → run k tasks.new s
+        ≡ run k tasks.old (on_clauses k (map (judged_branch k) branches.now) s)) }
 {
     match branches.split_first() {
         None => Ok(()),
@@ -54,7 +58,9 @@ pub fn cases<'a>(
     branches: &'a [TypeBranch],
     tasks: &mut Stack<Task<'a>>,
 ) -> Result<(), Memory>
-    ensures { OnOk result ((k : Facts) (s : State) → run k tasks.new s ≡ run k tasks.old (on_cases k name (map (judged_clause k) branches.now) s)) }
+    ensures { OnOk result ((k : Facts) (s : State)
+        → run k tasks.new s
+        ≡ run k tasks.old (on_cases k name (map (judged_clause k) branches.now) s)) }
 {
     match branches.split_first() {
         None => Ok(()),

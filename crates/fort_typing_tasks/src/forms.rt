@@ -18,7 +18,8 @@ use fort_stack::Stack;
 
 /// The blocks of a `do`.
 fn blocks<'a>(forms: &'a [Form], tasks: &mut Stack<Task<'a>>) -> Result<(), Memory>
-    ensures { OnOk result ((k : Facts) (s : State) → run k tasks.new s ≡ run k tasks.old (done_parts k (map (judged k) forms.now) s)) }
+    ensures { OnOk result ((k : Facts) (s : State)
+        → run k tasks.new s ≡ run k tasks.old (done_parts k (map (judged k) forms.now) s)) }
 {
     match forms.split_first() {
         None => Ok(()),
@@ -37,7 +38,10 @@ fn if_inside<'a>(
     other: &'a Option<Boxed<Form>>,
     tasks: &mut Stack<Task<'a>>,
 ) -> Result<(), Memory>
-    ensures { OnOk result ((k : Facts) (s : State) → run k tasks.new s ≡ run k tasks.old (if_parts k (map (judged_branch k) branches.now) (option_map (judged k) other.now) s)) }
+    ensures { OnOk result ((k : Facts) (s : State)
+        → run k tasks.new s
+        ≡ run k tasks.old
+        (if_parts k (map (judged_branch k) branches.now) (option_map (judged k) other.now) s)) }
 {
     match other {
         None => arms(Want::Unit, branches, tasks),
@@ -54,7 +58,10 @@ fn for_inside<'a>(
     body: &'a Form,
     tasks: &mut Stack<Task<'a>>,
 ) -> Result<(), Memory>
-    ensures { OnOk result ((k : Facts) (s : State) → run k tasks.new s ≡ run k tasks.old (for_inside k (map (judged_generator k) generators.now) (judged k body.now) s)) }
+    ensures { OnOk result ((k : Facts) (s : State)
+        → run k tasks.new s
+        ≡ run k tasks.old
+        (for_inside k (map (judged_generator k) generators.now) (judged k body.now) s)) }
 {
     tasks.push(Task::Ask(Asking::Kept(Slot::Last, Want::Unit), body))?;
     sources(generators, tasks)
@@ -79,7 +86,10 @@ fn reduce_inside<'a>(
     body: &'a Form,
     tasks: &mut Stack<Task<'a>>,
 ) -> Result<(), Memory>
-    ensures { OnOk result ((k : Facts) (s : State) → run k tasks.new s ≡ run k tasks.old (reduce_inside k reduction (judged_generator k generator.now) (judged k body.now) s)) }
+    ensures { OnOk result ((k : Facts) (s : State)
+        → run k tasks.new s
+        ≡ run k tasks.old
+        (reduce_inside k reduction (judged_generator k generator.now) (judged k body.now) s)) }
 {
     tasks.push(Task::Ask(Asking::Kept(Slot::Last, reduction_want(reduction)), body))?;
     source(generator, tasks)
@@ -92,7 +102,11 @@ fn case_inside<'a>(
     other: &'a Option<Boxed<Form>>,
     tasks: &mut Stack<Task<'a>>,
 ) -> Result<(), Memory>
-    ensures { OnOk result ((k : Facts) (s : State) → run k tasks.new s ≡ run k tasks.old (case_inside k (judged k subject.now) (map (judged_branch k) branches.now) (option_map (judged k) other.now) s)) }
+    ensures { OnOk result ((k : Facts) (s : State)
+        → run k tasks.new s
+        ≡ run k tasks.old
+        (case_inside k (judged k subject.now) (map (judged_branch k) branches.now)
+        (option_map (judged k) other.now) s)) }
 {
     ask_if(Slot::Last, Want::Value, other, tasks)?;
     tasks.push(Task::Branches(Branching::Clauses, branches.as_slice()))?;
@@ -106,7 +120,9 @@ fn otherwise<'a>(
     other: &'a Option<Boxed<Form>>,
     tasks: &mut Stack<Task<'a>>,
 ) -> Result<(), Memory>
-    ensures { OnOk result ((k : Facts) (s : State) → run k tasks.new s ≡ run k tasks.old (on_otherwise k (Some name) (option_map (judged k) other.now) s)) }
+    ensures { OnOk result ((k : Facts) (s : State)
+        → run k tasks.new s
+        ≡ run k tasks.old (on_otherwise k (Some name) (option_map (judged k) other.now) s)) }
 {
     match other {
         None => Ok(()),
@@ -123,7 +139,11 @@ fn typecase_inside<'a>(
     other: &'a Option<Boxed<Form>>,
     tasks: &mut Stack<Task<'a>>,
 ) -> Result<(), Memory>
-    ensures { OnOk result ((k : Facts) (s : State) → run k tasks.new s ≡ run k tasks.old (typecase_inside k name (judged k subject.now) (map (judged_clause k) branches.now) (option_map (judged k) other.now) s)) }
+    ensures { OnOk result ((k : Facts) (s : State)
+        → run k tasks.new s
+        ≡ run k tasks.old
+        (typecase_inside k name (judged k subject.now) (map (judged_clause k) branches.now)
+        (option_map (judged k) other.now) s)) }
 {
     otherwise(name, other, tasks)?;
     tasks.push(Task::Cases(Casing::KnownValues(Some(name)), branches.as_slice()))?;
@@ -135,7 +155,8 @@ fn typecase_inside<'a>(
 /// A name, if there is one, has to be free.
 #[tactic(auto, unfolding(fort_judge::specs::Parts::watch))]
 fn watch<'a>(name: Option<(Place, NameId)>, tasks: &mut Stack<Task<'a>>) -> Result<(), Memory>
-    ensures { OnOk result ((k : Facts) (s : State) → run k tasks.new s ≡ run k tasks.old (watch k name s)) }
+    ensures { OnOk result ((k : Facts) (s : State)
+        → run k tasks.new s ≡ run k tasks.old (watch k name s)) }
 {
     match name {
         None => Ok(()),
@@ -151,7 +172,11 @@ fn try_inside<'a>(
     last: &'a Option<Boxed<Form>>,
     tasks: &mut Stack<Task<'a>>,
 ) -> Result<(), Memory>
-    ensures { OnOk result ((k : Facts) (s : State) → run k tasks.new s ≡ run k tasks.old (try_inside k (judged k block.now) name (map (judged_clause k) branches.now) (option_map (judged k) last.now) s)) }
+    ensures { OnOk result ((k : Facts) (s : State)
+        → run k tasks.new s
+        ≡ run k tasks.old
+        (try_inside k (judged k block.now) name (map (judged_clause k) branches.now)
+        (option_map (judged k) last.now) s)) }
 {
     ask_if(Slot::Last, Want::Unit, last, tasks)?;
     tasks.push(Task::Cases(Casing::KnownValues(name), branches.as_slice()))?;
@@ -166,7 +191,9 @@ fn fn_inside<'a>(
     body: &'a Form,
     tasks: &mut Stack<Task<'a>>,
 ) -> Result<(), Memory>
-    ensures { OnOk result ((k : Facts) (s : State) → run k tasks.new s ≡ run k tasks.old (fn_inside k parameters.now (judged k body.now) s)) }
+    ensures { OnOk result ((k : Facts) (s : State)
+        → run k tasks.new s
+        ≡ run k tasks.old (fn_inside k parameters.now (judged k body.now) s)) }
 {
     tasks.push(Task::Ask(Asking::Kept(Slot::Head, Want::Value), body))?;
     tasks.push(Task::Scope(Scoping::Parameters(parameters)))
@@ -175,7 +202,9 @@ fn fn_inside<'a>(
 /// An assigned value, or the right side of `+=` or `-=`.
 #[tactic(auto, unfolding(fort_judge::specs::Parts::ask))]
 fn assigned<'a>(sign: Update, value: &'a Form, tasks: &mut Stack<Task<'a>>) -> Result<(), Memory>
-    ensures { OnOk result ((k : Facts) (s : State) → run k tasks.new s ≡ run k tasks.old (assigned_part k (update_operator sign) (judged k value.now) s)) }
+    ensures { OnOk result ((k : Facts) (s : State)
+        → run k tasks.new s
+        ≡ run k tasks.old (assigned_part k (update_operator sign) (judged k value.now) s)) }
 {
     match sign {
         Update::Becomes => {
@@ -195,7 +224,9 @@ fn assign_inside<'a>(
     value: &'a Form,
     tasks: &mut Stack<Task<'a>>,
 ) -> Result<(), Memory>
-    ensures { OnOk result ((k : Facts) (s : State) → run k tasks.new s ≡ run k tasks.old (assign_inside k (judged k target.now) sign (judged k value.now) s)) }
+    ensures { OnOk result ((k : Facts) (s : State)
+        → run k tasks.new s
+        ≡ run k tasks.old (assign_inside k (judged k target.now) sign (judged k value.now) s)) }
 {
     assigned(sign, value, tasks)?;
     tasks.push(Task::Take(Taking::Target, target))?;
@@ -205,7 +236,8 @@ fn assign_inside<'a>(
 /// The parts of a form are asked in their order.
 #[tactic(auto, using(crate::proofs::Levels::levels))]
 pub fn inside<'a>(form: &'a Form, tasks: &mut Stack<Task<'a>>) -> Result<(), Memory>
-    ensures { OnOk result ((k : Facts) (s : State) → run k tasks.new s ≡ run k tasks.old (on_inside k (level k form.now) s)) }
+    ensures { OnOk result ((k : Facts) (s : State)
+        → run k tasks.new s ≡ run k tasks.old (on_inside k (level k form.now) s)) }
 {
     match form {
         Form::Number(_, _) => Ok(()),

@@ -67,8 +67,8 @@ pub enum Asking<'a> {
     Below(&'a Ty),
     /// As what a clause gives, where the name, if there is one, has this type.
     Case(Option<(Place, NameId)>, &'a Ty),
-    /// As what stands behind the `else` of a `typecase`, where the name has the subject's type, unless the scope isn't
-    /// known.
+    /// As what stands behind the `else` of a `typecase`, where the name has the subject's type,
+    /// unless the scope isn't known.
     Otherwise(Place, NameId),
 }
 
@@ -79,7 +79,8 @@ pub enum Listing<'a> {
     Kept(Slot, Want<'a>),
     /// As the elements of a run or of a juxtaposition.
     Elements,
-    /// As the sides of a chain: the operator before the first one, if there is one, and the operators between them.
+    /// As the sides of a chain: the operator before the first one, if there is one, and the
+    /// operators between them.
     Sides(Option<Op>, &'a [Op]),
 }
 

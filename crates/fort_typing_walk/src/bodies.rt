@@ -30,7 +30,8 @@ pub fn body(
     form: &Form,
     found: Option<Fault>,
 ) -> Result<Valued, Memory>
-    ensures { IfOk result (λ it. it ≡ body_answer (facts known.now) parameters.now written.now form.now found) }
+    ensures { IfOk result (λ it. it
+        ≡ body_answer (facts known.now) parameters.now written.now form.now found) }
 {
     let mut walk = Walk::new(alloc, found);
     let mut names = Stack::new(alloc);

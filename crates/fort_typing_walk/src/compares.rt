@@ -42,7 +42,11 @@ fn two(alloc: Global, left: Ty, right: Ty) -> Result<List<Ty>, Memory>
 impl Walk {
     /// A rule is broken, and the form that is open has no type.
     fn bars(&mut self, rule: Rule, place: Place)
-        ensures { state self.new ≡ record (state self.old) { frame = record self.old.frame { broken = true }; found = breaks_by rule place self.old.found } }
+        ensures { state self.new
+            ≡ record (state self.old) {
+              frame = record self.old.frame { broken = true };
+              found = breaks_by rule place self.old.found;
+            } }
     {
         self.frame.broken = true;
         self.found = breaks(rule, place, self.found);
@@ -56,7 +60,8 @@ impl Walk {
         place: Place,
         called: Called,
     ) -> Result<(), Memory>
-        ensures { OnOk result (state self.new ≡ compared_by (facts known.now) op place called (state self.old)) }
+        ensures { OnOk result (state self.new
+            ≡ compared_by (facts known.now) op place called (state self.old)) }
     {
         match called {
             Called::Result(result, widened) => {
@@ -84,7 +89,8 @@ impl Walk {
         left: Option<Ty>,
         right: Option<Ty>,
     ) -> Result<(), Memory>
-        ensures { OnOk result (state self.new ≡ compared_types (facts known.now) op place left right (state self.old)) }
+        ensures { OnOk result (state self.new
+            ≡ compared_types (facts known.now) op place left right (state self.old)) }
     {
         let Some(left) = left else {
             return Ok(());
@@ -106,7 +112,8 @@ impl Walk {
         place: Place,
         right: Option<Ty>,
     ) -> Result<(), Memory>
-        ensures { OnOk result (state self.new ≡ behind_side (facts known.now) op place right (state self.old)) }
+        ensures { OnOk result (state self.new
+            ≡ behind_side (facts known.now) op place right (state self.old)) }
     {
         match op {
             None => Ok(()),
@@ -121,7 +128,8 @@ impl Walk {
     /// As the next side of a chain, behind an operator or none.
     #[tactic(auto, using(crate::proofs::Sides::sides), unfolding(fort_judge::specs::Parts::take_side))]
     pub fn take_side(&mut self, known: &Known, op: Option<Op>, place: Place) -> Result<(), Memory>
-        ensures { OnOk result (state self.new ≡ take_side (facts known.now) op place (state self.old)) }
+        ensures { OnOk result (state self.new
+            ≡ take_side (facts known.now) op place (state self.old)) }
     {
         let seen = mem::replace(&mut self.seen, Meaning::Unknown);
         let Valued { node, found } = taken(
@@ -144,7 +152,8 @@ impl Walk {
     /// As what the subject of a `case` is compared with.
     #[tactic(auto, using(crate::proofs::Sides::sides), unfolding(fort_judge::specs::Parts::take_test))]
     pub fn take_test(&mut self, known: &Known, place: Place) -> Result<(), Memory>
-        ensures { OnOk result (state self.new ≡ take_test (facts known.now) place (state self.old)) }
+        ensures { OnOk result (state self.new
+            ≡ take_test (facts known.now) place (state self.old)) }
     {
         let left = side_type(self.alloc, &self.frame.side)?;
         let seen = mem::replace(&mut self.seen, Meaning::Unknown);

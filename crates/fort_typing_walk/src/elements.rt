@@ -56,7 +56,9 @@ fn unfitting(seen: Meaning, place: Place, found: Option<Fault>) -> Valued
 
 /// What a value has become that fits, or breaks 603.
 fn if_fitting(fits: bool, place: Place, typed: TypedForm, found: Option<Fault>) -> Valued
-    ensures { result ≡ cond fits (record { node = Some typed; found = found }) (no_node (broken MISMATCH place found)) }
+    ensures { result
+        ≡ cond fits (record { node = Some typed; found = found })
+        (no_node (broken MISMATCH place found)) }
 {
     if fits {
         return fitting(typed, found);
@@ -103,7 +105,9 @@ pub fn wanted_below(
     seen: Meaning,
     found: Option<Fault>,
 ) -> Valued
-    ensures { result ≡ below_by (facts known.now) ty.now place (valued place seen found).node (valued place seen found).found }
+    ensures { result
+        ≡ below_by (facts known.now) ty.now place (valued place seen found).node
+        (valued place seen found).found }
 {
     let Valued { node, found } = valued(place, seen, found);
     below_by(known, ty, place, node, found)
@@ -131,7 +135,11 @@ fn if_nothing(bars: bool, place: Place, typed: TypedForm, found: Option<Fault>) 
 
 /// What an element is that has a type.
 fn typed_element(place: Place, typed: TypedForm, found: Option<Fault>) -> Outcome
-    ensures { result ≡ record { seen = element_meaning (a_meaning.Value typed); found = element_found place (a_meaning.Value typed) found } }
+    ensures { result
+        ≡ record {
+          seen = element_meaning (a_meaning.Value typed);
+          found = element_found place (a_meaning.Value typed) found;
+        } }
 {
     let bars = is_nothing(type_of(&typed));
     if_nothing(bars, place, typed, found)
@@ -139,7 +147,8 @@ fn typed_element(place: Place, typed: TypedForm, found: Option<Fault>) -> Outcom
 
 /// What an element is: one that is `Nothing` breaks 603.
 pub fn element(place: Place, seen: Meaning, found: Option<Fault>) -> Outcome
-    ensures { result ≡ record { seen = element_meaning seen; found = element_found place seen found } }
+    ensures { result
+        ≡ record { seen = element_meaning seen; found = element_found place seen found } }
 {
     match seen {
         Meaning::Value(typed) => typed_element(place, typed, found),

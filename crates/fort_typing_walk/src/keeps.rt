@@ -98,7 +98,8 @@ fn declarations(
     types: &[Ty],
     typed: TypedForm,
 ) -> Result<TypedForm, Memory>
-    ensures { IfOk result (λ it. it ≡ a_typed.Binds unit_type (map name_and_type (bindings_of names.now types.now)) typed) }
+    ensures { IfOk result (λ it. it
+        ≡ a_typed.Binds unit_type (map name_and_type (bindings_of names.now types.now)) typed) }
 {
     let initial = Boxed::new(alloc, typed)?;
     let named = with_types(alloc, names, types)?;
@@ -113,7 +114,8 @@ pub fn declare_all(
     types: &[Ty],
     node: Option<TypedForm>,
 ) -> Result<(), Memory>
-    ensures { OnOk result (frame.new ≡ declares_all (map name_and_type (bindings_of names.now types.now)) node frame.old) }
+    ensures { OnOk result (frame.new
+        ≡ declares_all (map name_and_type (bindings_of names.now types.now)) node frame.old) }
 {
     match node {
         None => {

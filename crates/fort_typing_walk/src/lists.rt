@@ -16,7 +16,9 @@ pub fn ask_list<'a>(
     forms: &'a [Form],
     tasks: &mut Stack<Task<'a>>,
 ) -> Result<(), Memory>
-    ensures { OnOk result ((k : Facts) (s : State) → run k tasks.new s ≡ run k tasks.old (on_list k listing.entry (map (judged k) forms.now) s)) }
+    ensures { OnOk result ((k : Facts) (s : State)
+        → run k tasks.new s
+        ≡ run k tasks.old (on_list k listing.entry (map (judged k) forms.now) s)) }
 {
     match listing {
         Listing::Kept(slot, want) => ask_each(slot, want, forms, tasks),
@@ -31,7 +33,10 @@ pub fn ask_branches<'a>(
     branches: &'a [Branch],
     tasks: &mut Stack<Task<'a>>,
 ) -> Result<(), Memory>
-    ensures { OnOk result ((k : Facts) (s : State) → run k tasks.new s ≡ run k tasks.old (on_branches k branching.entry (map (judged_branch k) branches.now) s)) }
+    ensures { OnOk result ((k : Facts) (s : State)
+        → run k tasks.new s
+        ≡ run k tasks.old
+        (on_branches k branching.entry (map (judged_branch k) branches.now) s)) }
 {
     match branching {
         Branching::Arms(want) => arms(want, branches, tasks),

@@ -9,7 +9,8 @@ use std::alloc::Global;
 /// The types of the names of a local tuple, where its type is a tuple of as many parts.
 #[tactic(auto, using(crate::proofs::Named::named))]
 pub fn types_for<'a>(names: &'a [(Place, NameId)], ty: &'a Ty) -> Option<&'a [Ty]>
-    ensures some { IfSome result (λ types. named_parts names.now ty.now ≡ Some (bindings_of names.now types.now)) }
+    ensures some { IfSome result (λ types. named_parts names.now ty.now
+        ≡ Some (bindings_of names.now types.now)) }
     ensures none { IfNone result (named_parts names.now ty.now ≡ None) }
 {
     match ty {

@@ -43,7 +43,10 @@ impl Walk {
 
     /// A binding more.
     fn add(&mut self, place: Place, name: NameId, mutable: bool, ty: Ty) -> Result<(), Memory>
-        ensures { OnOk result (state self.new ≡ with_bindings (self.old.scope ++ record { name = name; place = place; ty = ty; mutable = mutable } ∷ []) (state self.old)) }
+        ensures { OnOk result (state self.new
+            ≡ with_bindings
+            (self.old.scope ++ record { name = name; place = place; ty = ty; mutable = mutable }
+            ∷ []) (state self.old)) }
     {
         match self.scope.bind(name, place, ty, mutable) {
             Ok(()) => Ok(()),
@@ -61,7 +64,10 @@ impl Walk {
         mutable: bool,
         ty: &Ty,
     ) -> Result<(), Memory>
-        ensures { OnOk result (state self.new ≡ bind (facts known.now) (record { name = name; place = place; ty = ty.now; mutable = mutable }) (state self.old)) }
+        ensures { OnOk result (state self.new
+            ≡ bind (facts known.now)
+            (record { name = name; place = place; ty = ty.now; mutable = mutable })
+            (state self.old)) }
     {
         if is_visible(known, &self.scope, name) {
             self.shadows(place);
@@ -79,7 +85,10 @@ impl Walk {
         parameters: &'a [Parameter],
         tasks: &mut Stack<Task<'a>>,
     ) -> Result<(), Memory>
-        ensures { OnOk result (run (facts known.now) tasks.new (state self.new) ≡ run (facts known.now) tasks.old (bind_all (facts known.now) (map parameter_binding parameters.now) (state self.old))) }
+        ensures { OnOk result (run (facts known.now) tasks.new (state self.new)
+            ≡ run (facts known.now) tasks.old
+            (bind_all (facts known.now) (map parameter_binding parameters.now)
+            (state self.old))) }
     {
         let Some((first, rest)) = parameters.split_first() else {
             return Ok(());
@@ -100,7 +109,9 @@ impl Walk {
         types: &'a [Ty],
         tasks: &mut Stack<Task<'a>>,
     ) -> Result<(), Memory>
-        ensures { OnOk result (run (facts known.now) tasks.new (state self.new) ≡ run (facts known.now) tasks.old (bind_all (facts known.now) (bindings_of names.now types.now) (state self.old))) }
+        ensures { OnOk result (run (facts known.now) tasks.new (state self.new)
+            ≡ run (facts known.now) tasks.old
+            (bind_all (facts known.now) (bindings_of names.now types.now) (state self.old))) }
     {
         let Some((name, rest)) = names.split_first() else {
             return Ok(());
@@ -122,7 +133,9 @@ impl Walk {
         ty: &'a Ty,
         tasks: &mut Stack<Task<'a>>,
     ) -> Result<(), Memory>
-        ensures { OnOk result ((k : Facts) → run k tasks.new (state self.new) ≡ run k tasks.old (bind_parts k (named_parts names.now ty.now) (state self.old))) }
+        ensures { OnOk result ((k : Facts)
+            → run k tasks.new (state self.new)
+            ≡ run k tasks.old (bind_parts k (named_parts names.now ty.now) (state self.old))) }
     {
         match types_for(names, ty) {
             Some(types) => tasks.push(Task::Scope(Scoping::Typed(names, types))),
@@ -150,7 +163,9 @@ impl Walk {
         scoping: Scoping<'a>,
         tasks: &mut Stack<Task<'a>>,
     ) -> Result<(), Memory>
-        ensures { OnOk result (run (facts known.now) tasks.new (state self.new) ≡ run (facts known.now) tasks.old (on_change (facts known.now) scoping.entry (state self.old))) }
+        ensures { OnOk result (run (facts known.now) tasks.new (state self.new)
+            ≡ run (facts known.now) tasks.old
+            (on_change (facts known.now) scoping.entry (state self.old))) }
     {
         match scoping {
             Scoping::Name(place, name, mutable, ty) => self.bind(known, place, name, mutable, ty),
@@ -190,7 +205,10 @@ impl Walk {
         branches: &'a [TypeBranch],
         tasks: &mut Stack<Task<'a>>,
     ) -> Result<(), Memory>
-        ensures { OnOk result (run (facts known.now) tasks.new (state self.new) ≡ run (facts known.now) tasks.old (catches (facts known.now) (map (judged_clause (facts known.now)) branches.now) (state self.old))) }
+        ensures { OnOk result (run (facts known.now) tasks.new (state self.new)
+            ≡ run (facts known.now) tasks.old
+            (catches (facts known.now) (map (judged_clause (facts known.now)) branches.now)
+            (state self.old))) }
     {
         let Some((first, rest)) = branches.split_first() else {
             return Ok(());
@@ -209,7 +227,9 @@ impl Walk {
         form: &'a Form,
         tasks: &mut Stack<Task<'a>>,
     ) -> Result<(), Memory>
-        ensures { OnOk result ((k : Facts) → run k tasks.new (state self.new) ≡ run k tasks.old (ask_with k name ty slot (judged k form.now) (state self.old))) }
+        ensures { OnOk result ((k : Facts)
+            → run k tasks.new (state self.new)
+            ≡ run k tasks.old (ask_with k name ty slot (judged k form.now) (state self.old))) }
     {
         let mark = self.scope.enter();
         tasks.push(Task::Scope(Scoping::Leave(mark)))?;
@@ -227,7 +247,10 @@ impl Walk {
         form: &'a Form,
         tasks: &mut Stack<Task<'a>>,
     ) -> Result<(), Memory>
-        ensures { OnOk result ((k : Facts) → run k tasks.new (state self.new) ≡ run k tasks.old (on_otherwise k (Some name) (Some (judged k form.now)) (state self.old))) }
+        ensures { OnOk result ((k : Facts)
+            → run k tasks.new (state self.new)
+            ≡ run k tasks.old
+            (on_otherwise k (Some name) (Some (judged k form.now)) (state self.old))) }
     {
         if self.frame.lost {
             return Ok(());
@@ -245,7 +268,8 @@ impl Walk {
         node: Option<TypedForm>,
         given: Option<Ty>,
     ) -> Result<(), Memory>
-        ensures { OnOk result ((k : Facts) → state self.new ≡ gives k at name place node given (state self.old)) }
+        ensures { OnOk result ((k : Facts)
+            → state self.new ≡ gives k at name place node given (state self.old)) }
     {
         let Some(typed) = node else {
             self.lose();
@@ -277,7 +301,8 @@ impl Walk {
         name: NameId,
         place: Place,
     ) -> Result<(), Memory>
-        ensures { OnOk result (state self.new ≡ take_source (facts known.now) at name place (state self.old)) }
+        ensures { OnOk result (state self.new
+            ≡ take_source (facts known.now) at name place (state self.old)) }
     {
         let seen = mem::replace(&mut self.seen, Meaning::Unknown);
         let Valued { node, found } = taken(

@@ -50,7 +50,8 @@ impl Walk {
         want: Want,
         place: Place,
     ) -> Result<(), Memory>
-        ensures { OnOk result (state self.new ≡ take_part (facts known.now) slot want.entry place (state self.old)) }
+        ensures { OnOk result (state self.new
+            ≡ take_part (facts known.now) slot want.entry place (state self.old)) }
     {
         let seen = mem::replace(&mut self.seen, Meaning::Unknown);
         let Valued { node, found } = taken(self.alloc, known, want, place, seen, self.found);
@@ -61,7 +62,8 @@ impl Walk {
     /// As the last part, below a type.
     #[tactic(auto, unfolding(fort_judge::specs::Parts::take_below, fort_judge::specs::Parts::as_wanted_below))]
     pub fn take_below(&mut self, known: &Known, ty: &Ty, place: Place) -> Result<(), Memory>
-        ensures { OnOk result (state self.new ≡ take_below (facts known.now) ty.now place (state self.old)) }
+        ensures { OnOk result (state self.new
+            ≡ take_below (facts known.now) ty.now place (state self.old)) }
     {
         let seen = mem::replace(&mut self.seen, Meaning::Unknown);
         let Valued { node, found } = wanted_below(known, ty, place, seen, self.found);
@@ -79,7 +81,8 @@ impl Walk {
         ty: &Ty,
         place: Place,
     ) -> Result<(), Memory>
-        ensures { OnOk result (state self.new ≡ take_initial (facts known.now) name mutable ty.now place (state self.old)) }
+        ensures { OnOk result (state self.new
+            ≡ take_initial (facts known.now) name mutable ty.now place (state self.old)) }
     {
         let seen = mem::replace(&mut self.seen, Meaning::Unknown);
         let Valued { node, found } = wanted_below(known, ty, place, seen, self.found);
@@ -97,7 +100,9 @@ impl Walk {
         ty: &Ty,
         place: Place,
     ) -> Result<(), Memory>
-        ensures { OnOk result (state self.new ≡ take_initials (facts known.now) at ty.now (named_parts names.now ty.now) place (state self.old)) }
+        ensures { OnOk result (state self.new
+            ≡ take_initials (facts known.now) at ty.now (named_parts names.now ty.now) place
+            (state self.old)) }
     {
         let seen = mem::replace(&mut self.seen, Meaning::Unknown);
         let Valued { node, found } = wanted_below(known, ty, place, seen, self.found);
@@ -118,7 +123,8 @@ impl Walk {
     /// As the subject of a `case`.
     #[tactic(auto, unfolding(fort_judge::specs::Parts::take_subject))]
     pub fn take_subject(&mut self, known: &Known, place: Place) -> Result<(), Memory>
-        ensures { OnOk result (state self.new ≡ take_subject (facts known.now) place (state self.old)) }
+        ensures { OnOk result (state self.new
+            ≡ take_subject (facts known.now) place (state self.old)) }
     {
         let seen = mem::replace(&mut self.seen, Meaning::Unknown);
         let Valued { node, found } = taken(
@@ -145,7 +151,8 @@ impl Walk {
         listed: bool,
         postfix: bool,
     ) -> Result<(), Memory>
-        ensures { OnOk result (state self.new ≡ take_element place parens listed postfix (state self.old)) }
+        ensures { OnOk result (state self.new
+            ≡ take_element place parens listed postfix (state self.old)) }
     {
         let asked = mem::replace(&mut self.seen, Meaning::Unknown);
         let Outcome { seen, found } = element(place, asked, self.found);
@@ -161,7 +168,11 @@ impl Walk {
 
     /// What can't be assigned to: 604.
     fn bars_target(&mut self, place: Place)
-        ensures { state self.new ≡ record (state self.old) { frame = record self.old.frame { broken = true }; found = breaks_by BARRED place self.old.found } }
+        ensures { state self.new
+            ≡ record (state self.old) {
+              frame = record self.old.frame { broken = true };
+              found = breaks_by BARRED place self.old.found;
+            } }
     {
         self.frame.broken = true;
         self.found = breaks(NOT_ASSIGNABLE, place, self.found);
@@ -170,7 +181,9 @@ impl Walk {
     /// As the target of an assignment.
     #[tactic(auto, using(crate::proofs::Told::flags_told), unfolding(fort_judge::specs::Judging::take_target))]
     pub fn take_target(&mut self, known: &Known, form: &Form)
-        ensures { state self.new ≡ forgotten (take_target (facts known.now) (judged (facts known.now) form.now) (state self.old)) }
+        ensures { state self.new
+            ≡ forgotten
+            (take_target (facts known.now) (judged (facts known.now) form.now) (state self.old)) }
     {
         let place = place_of(form);
         let target = is_target(form);
@@ -193,7 +206,8 @@ impl Walk {
     /// As an assigned value.
     #[tactic(auto, unfolding(fort_judge::specs::Parts::take_assigned, fort_judge::specs::Parts::as_wanted_below))]
     pub fn take_assigned(&mut self, known: &Known, place: Place) -> Result<(), Memory>
-        ensures { OnOk result (state self.new ≡ take_assigned (facts known.now) place (state self.old)) }
+        ensures { OnOk result (state self.new
+            ≡ take_assigned (facts known.now) place (state self.old)) }
     {
         let seen = mem::replace(&mut self.seen, Meaning::Unknown);
         let Valued { node, found } = assigned_valued(

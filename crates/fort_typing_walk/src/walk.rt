@@ -83,7 +83,9 @@ impl Walk {
     /// Closes a form, and goes back to the frame around it.
     #[tactic(auto, unfolding(fort_typing_tasks::specs::Tasks::closing))]
     fn close(&mut self, known: &Known, form: &Form, outer: Frame, mark: usize) -> Result<(), Memory>
-        ensures { OnOk result (state self.new ≡ closing (facts known.now) (level (facts known.now) form.now) outer mark (state self.old)) }
+        ensures { OnOk result (state self.new
+            ≡ closing (facts known.now) (level (facts known.now) form.now) outer mark
+            (state self.old)) }
     {
         self.scope.leave(mark);
         let frame = mem::replace(&mut self.frame, outer);
@@ -107,7 +109,9 @@ impl Walk {
         form: &'a Form,
         tasks: &mut Stack<Task<'a>>,
     ) -> Result<(), Memory>
-        ensures { OnOk result (run (facts known.now) tasks.new (state self.new) ≡ run (facts known.now) tasks.old (said (judged (facts known.now) form.now) (state self.old))) }
+        ensures { OnOk result (run (facts known.now) tasks.new (state self.new)
+            ≡ run (facts known.now) tasks.old
+            (said (judged (facts known.now) form.now) (state self.old))) }
     {
         let mark = self.scope.enter();
         let outer = self.open();
@@ -118,7 +122,9 @@ impl Walk {
     /// Takes the form that was asked.
     #[tactic(auto, using(crate::proofs::Told::flags_told))]
     fn take(&mut self, known: &Known, taking: Taking, form: &Form) -> Result<(), Memory>
-        ensures { OnOk result (state self.new ≡ on_take (facts known.now) taking.entry (judged (facts known.now) form.now) (state self.old)) }
+        ensures { OnOk result (state self.new
+            ≡ on_take (facts known.now) taking.entry (judged (facts known.now) form.now)
+            (state self.old)) }
     {
         let place = place_of(form);
         match taking {
@@ -150,7 +156,9 @@ impl Walk {
         form: &'a Form,
         tasks: &mut Stack<Task<'a>>,
     ) -> Result<(), Memory>
-        ensures { OnOk result ((k : Facts) → run k tasks.new (state self.new) ≡ run k tasks.old (on_ask k asking.entry (judged k form.now) (state self.old))) }
+        ensures { OnOk result ((k : Facts)
+            → run k tasks.new (state self.new)
+            ≡ run k tasks.old (on_ask k asking.entry (judged k form.now) (state self.old))) }
     {
         match asking {
             Asking::Kept(slot, want) => {
@@ -175,7 +183,10 @@ impl Walk {
 
     /// Goes through the items of a block, unless the scope isn't known.
     fn items<'a>(&self, list: &'a [Item], tasks: &mut Stack<Task<'a>>) -> Result<(), Memory>
-        ensures { OnOk result ((k : Facts) → run k tasks.new (state self.now) ≡ run k tasks.old (unless_lost (on_items k (map (judged_item k) list.now)) (state self.now))) }
+        ensures { OnOk result ((k : Facts)
+            → run k tasks.new (state self.now)
+            ≡ run k tasks.old
+            (unless_lost (on_items k (map (judged_item k) list.now)) (state self.now))) }
     {
         if self.frame.lost {
             return Ok(());
@@ -185,7 +196,10 @@ impl Walk {
 
     /// Goes through generators, unless the scope isn't known.
     fn sources<'a>(&self, list: &'a [Generator], tasks: &mut Stack<Task<'a>>) -> Result<(), Memory>
-        ensures { OnOk result ((k : Facts) → run k tasks.new (state self.now) ≡ run k tasks.old (unless_lost (on_sources k (map (judged_generator k) list.now)) (state self.now))) }
+        ensures { OnOk result ((k : Facts)
+            → run k tasks.new (state self.now)
+            ≡ run k tasks.old
+            (unless_lost (on_sources k (map (judged_generator k) list.now)) (state self.now))) }
     {
         if self.frame.lost {
             return Ok(());
@@ -201,7 +215,10 @@ impl Walk {
         branches: &'a [TypeBranch],
         tasks: &mut Stack<Task<'a>>,
     ) -> Result<(), Memory>
-        ensures { OnOk result (run (facts known.now) tasks.new (state self.new) ≡ run (facts known.now) tasks.old (on_cases (facts known.now) casing (map (judged_clause (facts known.now)) branches.now) (state self.old))) }
+        ensures { OnOk result (run (facts known.now) tasks.new (state self.new)
+            ≡ run (facts known.now) tasks.old
+            (on_cases (facts known.now) casing
+            (map (judged_clause (facts known.now)) branches.now) (state self.old))) }
     {
         match casing {
             Casing::Exceptions => self.exceptions(known, branches, tasks),
@@ -222,7 +239,9 @@ impl Walk {
         task: Task<'a>,
         tasks: &mut Stack<Task<'a>>,
     ) -> Result<(), Memory>
-        ensures { OnOk result (run (facts known.now) tasks.new (state self.new) ≡ run (facts known.now) tasks.old (on (facts known.now) task.entry (state self.old))) }
+        ensures { OnOk result (run (facts known.now) tasks.new (state self.new)
+            ≡ run (facts known.now) tasks.old
+            (on (facts known.now) task.entry (state self.old))) }
     {
         match task {
             Task::See(form) => self.see(known, form, tasks),

@@ -17,7 +17,9 @@ use Rattle.fort_typing_rules.specs.Elements.{chosen}
 
 -- `-` before a number has the number's type
 abbrev pub negative_at : Facts → Form-F Form Item Branch Generator TypeBranch → Option TypedForm
-negative_at k (Form-F.Number q n) = Some (a_typed.Operation (number_type n) (chosen (operator_set k an_op.Minus 1) (false ∷ [])) (a_typed.Number (number_type n) n ∷ []))
+negative_at k (Form-F.Number q n) =
+    Some (a_typed.Operation (number_type n) (chosen (operator_set k an_op.Minus 1) (false ∷ []))
+    (a_typed.Number (number_type n) n ∷ []))
 negative_at k _ = None
 
 abbrev pub operand_negative : Facts → List Form → Option TypedForm

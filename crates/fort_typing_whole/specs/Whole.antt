@@ -1,5 +1,6 @@
--- The chapter "Typing", declarations, and which refusal comes: what a component becomes, or its first broken rule. Its declarations are asked in the order
--- of their places, and what is found in one is handed on to the next.
+-- The chapter "Typing", declarations, and which refusal comes: what a component becomes, or its
+-- first broken rule. Its declarations are asked in the order of their places, and what is found in
+-- one is handed on to the next.
 use Rattle.std.specs.Prelude.{ℕ, Bool, true, false, cond, List, [], ◌∷◌, ◌++◌, map, slice_get, codes, Option, Some, None, Result, Ok, Err}
 use Rattle.fort_base.specs.declared.ids.NameId.{NameId}
 use Rattle.fort_base.specs.declared.ids.TypeId.{TypeId}
@@ -39,11 +40,16 @@ unfoldable pub judged_initial : Facts → InitialForm → Option Fault → Value
 judged_initial k i found = initial_by k i (constant k i.value) found
 
 abbrev pub body_in : Facts → BodyForm → State → Valued
-body_in k b s = cond s.frame.lost (no_node s.found) (as_wanted_below k b.result (judged k b.body).place (said (judged k b.body) s))
+body_in k b s =
+    cond s.frame.lost (no_node s.found)
+    (as_wanted_below k b.result (judged k b.body).place (said (judged k b.body) s))
 
--- A body: its parameters are bound, and it is below its written result. Where a parameter is visible the body isn't asked.
+-- A body: its parameters are bound, and it is below its written result. Where a parameter is
+-- visible the body isn't asked.
 unfoldable pub judged_body : Facts → BodyForm → Option Fault → Valued
-judged_body k b found = let j = facts_within k b.owner in body_in j b (bind_all j (map parameter_binding b.parameters) (begin [] found))
+judged_body k b found =
+    let j = facts_within k b.owner
+    in body_in j b (bind_all j (map parameter_binding b.parameters) (begin [] found))
 
 -- ---- components
 
@@ -53,12 +59,15 @@ pub record Whole : Type 0 where
   pub bodies : List TypedBody
   pub found : Option Fault
 
-abbrev pub more_initials : InitialForm → Option TypedForm → List (Option TypeId × NameId × Ty × TypedForm) → List (Option TypeId × NameId × Ty × TypedForm)
+abbrev pub more_initials : InitialForm → Option TypedForm
+    → List (Option TypeId × NameId × Ty × TypedForm)
+    → List (Option TypeId × NameId × Ty × TypedForm)
 more_initials i (Some t) ts = ts ++ typed_initial i t ∷ []
 more_initials i None ts = ts
 
 abbrev pub with_initial : InitialForm → Valued → Whole → Whole
-with_initial i v w = record { initials = more_initials i v.node w.initials; bodies = w.bodies; found = v.found }
+with_initial i v w =
+    record { initials = more_initials i v.node w.initials; bodies = w.bodies; found = v.found }
 
 unfoldable pub judged_initials : Facts → List InitialForm → Whole → Whole
 judged_initials k [] w = w
@@ -69,7 +78,8 @@ more_bodies b (Some t) ts = ts ++ typed_body b t ∷ []
 more_bodies b None ts = ts
 
 abbrev pub with_body : BodyForm → Valued → Whole → Whole
-with_body b v w = record { initials = w.initials; bodies = more_bodies b v.node w.bodies; found = v.found }
+with_body b v w =
+    record { initials = w.initials; bodies = more_bodies b v.node w.bodies; found = v.found }
 
 unfoldable pub judged_bodies : Facts → List BodyForm → Whole → Whole
 judged_bodies k [] w = w
@@ -108,6 +118,7 @@ whole_by name runs w (Some x) = Err x
 whole_by name true w None = Ok (record { initials = w.initials; bodies = w.bodies })
 whole_by name false w None = Err (fault NO_RUN name)
 
--- What a component becomes, or its first broken rule: 609 at its name where no declaration breaks one and there is no such `run`.
+-- What a component becomes, or its first broken rule: 609 at its name where no declaration breaks
+-- one and there is no such `run`.
 unfoldable pub typed_whole : Facts → Forms → Result Typed Fault
 typed_whole k forms = let w = whole k forms in whole_by forms.name (has_run k) w w.found

@@ -5,8 +5,9 @@ ghost use Rattle.fort_machine.specs.Texts.{each_same, same as same_values, same_
 use fort_base::{List, Ty};
 use fort_core::Value;
 
-/// Whether two values are the same: of one kind and made of the same. A function is never the same as anything, itself
-/// too, nor is a tuple in which one stands. It takes no memory. The chapter "Values".
+/// Whether two values are the same: of one kind and made of the same. A function is never the same
+/// as anything, itself too, nor is a tuple in which one stands. It takes no memory. The chapter
+/// "Values".
 #[cycle(same)]
 pub fn same(a: &Value, b: &Value) -> bool
     ensures { result ≡ same_values a.now b.now }

@@ -8,8 +8,9 @@ use fort_base::{Boxed, List, Memory, Ty, TypeId};
 use fort_core::{Closure, Program, Value};
 use std::alloc::Global;
 
-/// The type of a value: an object's is the one that it names, an array's that of arrays of its elements, a tuple's the
-/// tuple of its parts' types, a function's the arrow from what it takes to its result. The chapter "Values".
+/// The type of a value: an object's is the one that it names, an array's that of arrays of its
+/// elements, a tuple's the tuple of its parts' types, a function's the arrow from what it takes to
+/// its result. The chapter "Values".
 ///
 /// # Errors
 ///
@@ -49,7 +50,8 @@ fn array_of(alloc: Global, element: &Ty) -> Result<Ty, Memory>
 }
 
 fn arrow_of(alloc: Global, closure: &Closure) -> Result<Ty, Memory>
-    ensures { IfOk result (λ ty. ty ≡ Ty.Arrow (domain_of closure.now.parameters) closure.now.result) }
+    ensures { IfOk result (λ ty. ty
+        ≡ Ty.Arrow (domain_of closure.now.parameters) closure.now.result) }
 {
     let domain = Boxed::new(alloc, domain(alloc, closure.parameters.get())?)?;
     Ok(Ty::Arrow(
@@ -79,7 +81,8 @@ fn parameter_types(alloc: Global, parameters: &List<(u32, Ty)>) -> Result<List<T
     Ok(types)
 }
 
-/// Whether a value has a type: its own is below that one, by the program's rows. It takes no memory. The chapter "Values".
+/// Whether a value has a type: its own is below that one, by the program's rows. It takes no
+/// memory. The chapter "Values".
 #[inline(always)]
 #[cycle(has_type)]
 pub fn has_type(program: &Program, value: &Value, ty: &Ty) -> bool
@@ -112,7 +115,9 @@ fn declared_has(program: &Program, id: TypeId, ty: &Ty) -> bool
 #[inline(never)]
 #[cycle(has_type)]
 fn tuple_has(program: &Program, parts: &List<Value>, ty: &Ty) -> bool
-    ensures { result ≡ relation program.now.types.below (Ty.Tuple (map (type_at program.now) parts.now)) true ty.now }
+    ensures { result
+        ≡ relation program.now.types.below (Ty.Tuple (map (type_at program.now) parts.now)) true
+        ty.now }
 {
     match ty {
         Ty::Any => true,
@@ -121,7 +126,8 @@ fn tuple_has(program: &Program, parts: &List<Value>, ty: &Ty) -> bool
     }
 }
 
-/// Whether there are as many values as types, and each value has the type in its place. It takes no memory. The chapter "Calls".
+/// Whether there are as many values as types, and each value has the type in its place. It takes no
+/// memory. The chapter "Calls".
 #[cycle(has_type)]
 pub fn all_have(program: &Program, parts: &List<Value>, types: &List<Ty>) -> bool
     ensures { result ≡ all_below program.now (map (type_at program.now) parts.now) types.now }
@@ -155,7 +161,9 @@ fn array_has(program: &Program, element: &Ty, ty: &Ty) -> bool
 
 #[inline(never)]
 fn function_has(program: &Program, closure: &Closure, ty: &Ty) -> bool
-    ensures { result ≡ relation program.now.types.below (Ty.Arrow (domain_of closure.now.parameters) closure.now.result) true ty.now }
+    ensures { result
+        ≡ relation program.now.types.below
+        (Ty.Arrow (domain_of closure.now.parameters) closure.now.result) true ty.now }
 {
     match ty {
         Ty::Any => true,
@@ -183,7 +191,10 @@ fn takes(program: &Program, parameters: &List<(u32, Ty)>, ty: &Ty) -> bool
 }
 
 fn take_all(program: &Program, parameters: &List<(u32, Ty)>, types: &List<Ty>) -> bool
-    ensures { result ≡ each_below (map (relation program.now.types.below) (map (λ parameter. parameter.1) parameters.now)) false types.now }
+    ensures { result
+        ≡ each_below
+        (map (relation program.now.types.below) (map (λ parameter. parameter.1) parameters.now))
+        false types.now }
 {
     let left = parameters.as_slice();
     let right = types.as_slice();

@@ -1,5 +1,6 @@
-//! What is asked of values, whatever the step: the text of one, its type, whether it has a type, and whether two are the same;
-//! and the order of types, as the machine's definitions compute it from a program's rows.
+//! What is asked of values, whatever the step: the text of one, its type, whether it has a type,
+//! and whether two are the same; and the order of types, as the machine's definitions compute it
+//! from a program's rows.
 #![tactic(auto)]
 
 mod equal;

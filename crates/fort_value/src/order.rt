@@ -69,8 +69,8 @@ fn all_related(rows: &List<List<bool>>, up: bool, xs: &List<Ty>, ys: &List<Ty>) 
     true
 }
 
-/// Whether two lists of types have one length, and each type of the first is below the one in its place of the second. It
-/// takes no memory. The chapter "Calls".
+/// Whether two lists of types have one length, and each type of the first is below the one in its
+/// place of the second. It takes no memory. The chapter "Calls".
 pub fn are_below(program: &Program, types: &List<Ty>, others: &List<Ty>) -> bool
     ensures { result ≡ all_below program.now types.now others.now }
 {

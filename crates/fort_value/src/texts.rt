@@ -8,10 +8,12 @@ use fort_core::{Program, Value};
 use itoa::Buffer;
 use std::alloc::Global;
 
-/// The text of a value, in UTF-8: what `println` prints before its line feed, and what juxtaposition with a text joins.
+/// The text of a value, in UTF-8: what `println` prints before its line feed, and what
+/// juxtaposition with a text joins.
 ///
-/// Numbers are in decimal, a text is itself, a tuple has its parts in parentheses, a range its first number, `#` and its
-/// count, an object the name of its type, an array its size alone, and a function is `function`. The chapter "Values".
+/// Numbers are in decimal, a text is itself, a tuple has its parts in parentheses, a range its
+/// first number, `#` and its count, an object the name of its type, an array its size alone, and a
+/// function is `function`. The chapter "Values".
 ///
 /// # Errors
 ///
@@ -43,7 +45,9 @@ fn write(program: &Program, value: &Value, out: &mut Bytes) -> Result<(), Memory
 
 #[cycle(write)]
 fn write_tuple(program: &Program, parts: &List<Value>, out: &mut Bytes) -> Result<(), Memory>
-    ensures { OnOk result (out.new ≡ out.old ++ (codes "(" ++ (with_commas (map (text_of program.now) parts.now) ++ codes ")"))) }
+    ensures { OnOk result (out.new
+        ≡ out.old
+        ++ (codes "(" ++ (with_commas (map (text_of program.now) parts.now) ++ codes ")"))) }
 {
     out.push(b'(')?;
     write_parts(program, parts, out)?;
@@ -98,7 +102,8 @@ fn write_truth(truth: bool, out: &mut Bytes) -> Result<(), Memory>
 }
 
 fn write_range(first: i32, count: u64, out: &mut Bytes) -> Result<(), Memory>
-    ensures { OnOk result (out.new ≡ out.old ++ (signed_decimal first ++ (codes "#" ++ decimal count))) }
+    ensures { OnOk result (out.new
+        ≡ out.old ++ (signed_decimal first ++ (codes "#" ++ decimal count))) }
 {
     write_number(i64::from(first), out)?;
     out.push(b'#')?;
@@ -106,7 +111,8 @@ fn write_range(first: i32, count: u64, out: &mut Bytes) -> Result<(), Memory>
 }
 
 fn write_name(program: &Program, ty: TypeId, out: &mut Bytes) -> Result<(), Memory>
-    ensures { OnOk result (out.new ≡ out.old ++ unwrap_or (slice_get program.now.type_names ty.0) []) }
+    ensures { OnOk result (out.new
+        ≡ out.old ++ unwrap_or (slice_get program.now.type_names ty.0) []) }
 {
     match program.type_names.get(ty.0 as usize) {
         Some(name) => out.push_slice(name.as_slice()),
