@@ -15,13 +15,17 @@ abbrev Row : Type 0
 Row = Bor (List ℕ) × TypeKind × Option TypeId
 
 -- what a loop over the rows made, at its end
-pub whole : {Y : Type 0} (g : BuiltInType → Y) (rows : List Row) (i : ℕ) (made : List Y) → length rows ≤ i → map row_of rows ≡ types → made ≡ map g (map row_of (take i rows)) → made ≡ map g types
+pub whole : {Y : Type 0} (g : BuiltInType → Y) (rows : List Row) (i : ℕ) (made : List Y)
+    → length rows ≤ i → map row_of rows ≡ types → made ≡ map g (map row_of (take i rows))
+    → made ≡ map g types
 whole g rows i made l t e = e ∙ ap (λ z. map g (map row_of z)) (take_all i rows l) ∙ ap (map g) t
 
-pub name_within : (rows : List Row) (n : ℕ) (row : Row) → slice_get rows n ≡ Some row → map row_of rows ≡ types → row.0.now ≡ get_or type_spellings n []
+pub name_within : (rows : List Row) (n : ℕ) (row : Row) → slice_get rows n ≡ Some row
+    → map row_of rows ≡ types → row.0.now ≡ get_or type_spellings n []
 unfolding type_spellings declared_spellings
 name_within rows n row e t = sym (get_front declared_spellings any_spelling n row.0.now
-    (get_mapped type_name_of types n (row_of row) (subst (λ z. slice_get z n ≡ Some (row_of row)) t (get_mapped row_of rows n row e))))
+    (get_mapped type_name_of types n (row_of row)
+    (subst (λ z. slice_get z n ≡ Some (row_of row)) t (get_mapped row_of rows n row e))))
 
 pub names_long : length type_spellings ≡ TYPE_NAME_COUNT
 unfolding type_spellings declared_spellings types
@@ -34,7 +38,12 @@ any_last = refl
 pub any_at : (n : ℕ) → n ≡ TYPE_COUNT → any_spelling ≡ get_or type_spellings n []
 any_at n e = subst (λ k. any_spelling ≡ get_or type_spellings k []) (sym e) any_last
 
-pub shapes_whole : (rows : List Row) (i place first : ℕ) (made : List CoreShape) → length rows ≤ i → map row_of rows ≡ types
-    → made ++ shapes_of (map row_of (drop i rows)) place ≡ shapes_of (map row_of rows) first → made ≡ shapes_from first
+pub shapes_whole : (rows : List Row) (i place first : ℕ) (made : List CoreShape) → length rows ≤ i
+    → map row_of rows ≡ types
+    → made ++ shapes_of (map row_of (drop i rows)) place ≡ shapes_of (map row_of rows) first
+    → made ≡ shapes_from first
 unfolding shapes_from
-shapes_whole rows i place first made l t e = sym (append-nil made) ∙ ap (λ z. made ++ shapes_of (map row_of z) place) (sym (drop_all i rows l)) ∙ e ∙ ap (λ z. shapes_of z first) t
+shapes_whole rows i place first made l t e =
+    sym (append-nil made)
+    ∙ ap (λ z. made ++ shapes_of (map row_of z) place) (sym (drop_all i rows l)) ∙ e
+    ∙ ap (λ z. shapes_of z first) t

@@ -25,7 +25,8 @@ module _ (h : DeclaredTypes) (s : MemberSet) (ts : List Ty) where
   chooses_in choice.Unclear f = (f.0, λ i m. f.1 i (chosen_of i m))
   chooses_in choice.NoneApplicable f = f
 
-  pub chooses : (ms : List Member) (c : Choice) → ms ≡ s.members → Finds h asked.MostSpecific ms ts c → Chooses h s ts c
+  pub chooses : (ms : List Member) (c : Choice) → ms ≡ s.members
+      → Finds h asked.MostSpecific ms ts c → Chooses h s ts c
   chooses ms c e f = chooses_in c (subst (λ xs. Finds h asked.MostSpecific xs ts c) e f)
 
   module _ (w : Widening) where
@@ -40,5 +41,6 @@ module _ (h : DeclaredTypes) (s : MemberSet) (ts : List Ty) where
     widens_in choice.Unclear f = (f.0, λ i m. f.1 i (chosen_least i m))
     widens_in choice.NoneApplicable f = f
 
-    pub widens : (ms : List Member) (c : Choice) → ms ≡ s.members → Finds h (asked.LeastWidened w) ms ts c → Widens h w s ts c
+    pub widens : (ms : List Member) (c : Choice) → ms ≡ s.members
+        → Finds h (asked.LeastWidened w) ms ts c → Widens h w s ts c
     widens ms c e f = widens_in c (subst (λ xs. Finds h (asked.LeastWidened w) xs ts c) e f)

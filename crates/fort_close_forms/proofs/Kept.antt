@@ -21,7 +21,8 @@ use Rattle.fort_close_forms.specs.One.{one}
 
 -- ---- lists of one part
 
-pub one_there : (front : List TypedForm) (t : TypedForm) (ts : List TypedForm) → ts ≡ front ++ t ∷ [] → length ts ≡ 1 → ts ≡ t ∷ []
+pub one_there : (front : List TypedForm) (t : TypedForm) (ts : List TypedForm)
+    → ts ≡ front ++ t ∷ [] → length ts ≡ 1 → ts ≡ t ∷ []
 one_there [] t ts e l = e
 one_there (x ∷ []) t ts e l = absurd (let h = ap length e in omega (arith, h, l))
 one_there (x ∷ y ∷ front) t ts e l = absurd (let h = ap length e in omega (arith, h, l))
@@ -31,7 +32,8 @@ one_other [] n = refl
 one_other (x ∷ []) n = absurd (n refl)
 one_other (x ∷ y ∷ ts) n = refl
 
-pub reduced_other : (k : Facts) (r : Reduction) (g : Giving) (ts : List TypedForm) (u : TypedForm) (found : Option Fault) → one ts ≡ None → reduced k r g ts u found ≡ untyped found
+pub reduced_other : (k : Facts) (r : Reduction) (g : Giving) (ts : List TypedForm) (u : TypedForm)
+    (found : Option Fault) → one ts ≡ None → reduced k r g ts u found ≡ untyped found
 reduced_other k r g [] u found n = refl
 reduced_other k r g (t ∷ []) u found n = absurd cc
 reduced_other k r g (t ∷ s ∷ ts) u found n = refl
@@ -39,19 +41,34 @@ reduced_other k r g (t ∷ s ∷ ts) u found n = refl
 -- ---- names, types and places
 
 module _ (k : Facts) where
-  pub generator_is : (g : Generator) → judged_generator k g ≡ record { place = (out-Generator g).place; name = (out-Generator g).name; sequential = (out-Generator g).sequential; source = judged k (out-Generator g).source }
+  pub generator_is : (g : Generator)
+      → judged_generator k g
+      ≡ record {
+        place = (out-Generator g).place;
+        name = (out-Generator g).name;
+        sequential = (out-Generator g).sequential;
+        source = judged k (out-Generator g).source;
+      }
   generator_is g = giving-is k g
 
-  pub names_are : (gs : List Generator) → map giving_name (map (judged_generator k) gs) ≡ map generator_name gs
+  pub names_are : (gs : List Generator)
+      → map giving_name (map (judged_generator k) gs) ≡ map generator_name gs
   names_are [] = refl
-  names_are (g ∷ gs) = ap (λ j. giving_name j ∷ map giving_name (map (judged_generator k) gs)) (giving-is k g) ∙ ap (λ ns. generator_name g ∷ ns) (names_are gs)
+  names_are (g ∷ gs) =
+      ap (λ j. giving_name j ∷ map giving_name (map (judged_generator k) gs)) (giving-is k g)
+      ∙ ap (λ ns. generator_name g ∷ ns) (names_are gs)
 
-  pub types_are : (bs : List TypeBranch) → map clause_type (map (judged_clause k) bs) ≡ map type_of_clause bs
+  pub types_are : (bs : List TypeBranch)
+      → map clause_type (map (judged_clause k) bs) ≡ map type_of_clause bs
   types_are [] = refl
-  types_are (b ∷ bs) = ap (λ j. clause_type j ∷ map clause_type (map (judged_clause k) bs)) (clause-is k b) ∙ ap (λ ts. type_of_clause b ∷ ts) (types_are bs)
+  types_are (b ∷ bs) =
+      ap (λ j. clause_type j ∷ map clause_type (map (judged_clause k) bs)) (clause-is k b)
+      ∙ ap (λ ts. type_of_clause b ∷ ts) (types_are bs)
 
   place_kept : (x : Form-F Form Item Branch Generator TypeBranch)
-      → place_at (map-Form Form Item Branch Generator TypeBranch Judge Piece Arm Giving Clause (judged k) (judged_item k) (judged_branch k) (judged_generator k) (judged_clause k) x) ≡ place_at x
+      → place_at
+      (map-Form Form Item Branch Generator TypeBranch Judge Piece Arm Giving Clause (judged k)
+      (judged_item k) (judged_branch k) (judged_generator k) (judged_clause k) x) ≡ place_at x
   place_kept (Form-F.Number p a) = refl
   place_kept (Form-F.Text p a) = refl
   place_kept (Form-F.Truth p a) = refl

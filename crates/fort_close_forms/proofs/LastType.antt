@@ -5,15 +5,18 @@ use Rattle.fort_typed_form.specs.declared.typed_form.TypedForm.{TypedForm}
 use Rattle.fort_typing_rules.specs.Types.{unit, type_of}
 use Rattle.fort_judge.specs.Closing.{last_type}
 
-over_there : (x : TypedForm) (ts : List TypedForm) (t : TypedForm) → slice_get (x ∷ ts) (length ts) ≡ Some t → last_type (x ∷ ts) ≡ type_of t
+over_there : (x : TypedForm) (ts : List TypedForm) (t : TypedForm)
+    → slice_get (x ∷ ts) (length ts) ≡ Some t → last_type (x ∷ ts) ≡ type_of t
 over_there x [] t e = cc
 over_there x (y ∷ ts) t e = over_there y ts t e
 
-pub last_there : (ts : List TypedForm) (t : TypedForm) → slice_get ts (length ts - 1) ≡ Some t → last_type ts ≡ type_of t
+pub last_there : (ts : List TypedForm) (t : TypedForm) → slice_get ts (length ts - 1) ≡ Some t
+    → last_type ts ≡ type_of t
 last_there [] t e = absurd cc
 last_there (x ∷ ts) t e = over_there x ts t (simp unary_clauses at e)
 
-over_none : (x : TypedForm) (ts : List TypedForm) → slice_get (x ∷ ts) (length ts) ≡ None → last_type (x ∷ ts) ≡ unit
+over_none : (x : TypedForm) (ts : List TypedForm) → slice_get (x ∷ ts) (length ts) ≡ None
+    → last_type (x ∷ ts) ≡ unit
 over_none x [] e = absurd cc
 over_none x (y ∷ ts) e = over_none y ts e
 

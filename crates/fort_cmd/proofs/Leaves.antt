@@ -58,7 +58,8 @@ above = record (new_shape (codes "fortress")) {
 abbrev pub whole_line : App
 whole_line = record {
   top = above;
-  subs = leaf OfFile (codes "check") ∷ leaf OfFile (codes "show") ∷ leaf OfRun (codes "run") ∷ leaf OfFile (codes "bench") ∷ leaf OfRun (codes "record")
+  subs = leaf OfFile (codes "check") ∷ leaf OfFile (codes "show") ∷ leaf OfRun (codes "run")
+      ∷ leaf OfFile (codes "bench") ∷ leaf OfRun (codes "record")
       ∷ leaf OfAudit (codes "audit") ∷ [];
 }
 
@@ -71,6 +72,8 @@ line_simple = refl
 pub line_free : is_simple_and_free line ≡ true
 line_free = refl
 
-pub added : (old sub new : Command) (a b : App) → AddsSubcommand old sub new → app_of old ≡ a → (out-Command sub).has_globals ≡ false → app_of sub ≡ b
+pub added : (old sub new : Command) (a b : App) → AddsSubcommand old sub new → app_of old ≡ a
+    → (out-Command sub).has_globals ≡ false → app_of sub ≡ b
     → app_of new ≡ with_subcommand a b.top
-added old sub new a b adds is local sub_is = adds.shape local ∙ ap₂ with_subcommand is (ap (λ (x : App). x.top) sub_is)
+added old sub new a b adds is local sub_is =
+    adds.shape local ∙ ap₂ with_subcommand is (ap (λ (x : App). x.top) sub_is)

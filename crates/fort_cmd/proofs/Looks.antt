@@ -18,8 +18,10 @@ pub record IsPlain (word : Text) : Type 0 where
 pub data Look (word : Text) : Type 0 where
   Plain : NamesFile word → IsPlain word → Look word
   Mark : word ≡ codes "--" → Look word
-  Short : (flag : ℕ) (flags : Text) → word ≡ 45 ∷ flag ∷ flags → bytes_eq word (codes "--") ≡ false → long_of word ≡ None → short_of word ≡ Some (flag ∷ flags) → Look word
-  Long : (letter : ℕ) (letters : Text) → word ≡ 45 ∷ 45 ∷ letter ∷ letters → bytes_eq word (codes "--") ≡ false
+  Short : (flag : ℕ) (flags : Text) → word ≡ 45 ∷ flag ∷ flags → bytes_eq word (codes "--") ≡ false
+      → long_of word ≡ None → short_of word ≡ Some (flag ∷ flags) → Look word
+  Long : (letter : ℕ) (letters : Text) → word ≡ 45 ∷ 45 ∷ letter ∷ letters
+      → bytes_eq word (codes "--") ≡ false
       → long_of word ≡ Some (name_and_value (letter ∷ letters)) → Look word
 
 unlike_hyphen : (x : ℕ) (xs : Text) → (x == 45) ≡ false → IsPlain (x ∷ xs)
@@ -34,7 +36,8 @@ look (x ∷ xs) = go (x == 45) refl
   where
     short : (b : Bool) (y : ℕ) (ys : Text) → (y == 45) ≡ b → Look (45 ∷ y ∷ ys)
     short true y [] e = Mark (ap (λ z. 45 ∷ z ∷ []) (eqb-true y 45 e))
-    short true y (z ∷ zs) e = Long z zs (ap (λ w. 45 ∷ w ∷ z ∷ zs) (eqb-true y 45 e)) (rw e refl) (rw e refl)
+    short true y (z ∷ zs) e =
+        Long z zs (ap (λ w. 45 ∷ w ∷ z ∷ zs) (eqb-true y 45 e)) (rw e refl) (rw e refl)
     short false y ys e = Short y ys refl (rw e refl) (rw e refl) (rw e refl)
 
     hyphen : (ys : Text) → Look (45 ∷ ys)
@@ -46,12 +49,14 @@ look (x ∷ xs) = go (x == 45) refl
     go false e = Plain (unlike_file x xs e) (unlike_hyphen x xs e)
 
 -- A flag of a word that is a text is a character.
-pub flag_there : (flag : ℕ) (flags : Text) → IsUtf8 (45 ∷ flag ∷ flags) → slice_get (chars (flag ∷ flags)) 0 ≡ None → ⊥
+pub flag_there : (flag : ℕ) (flags : Text) → IsUtf8 (45 ∷ flag ∷ flags)
+    → slice_get (chars (flag ∷ flags)) 0 ≡ None → ⊥
 unfolding chars lib.Utf8.encode
 flag_there flag flags u none = go (chars (flag ∷ flags)) refl none
   where
     go : (cs : Text) → chars (flag ∷ flags) ≡ cs → slice_get cs 0 ≡ None → ⊥
     go [] e q =
         let all : chars (45 ∷ flag ∷ flags) ≡ 45 ∷ [] = ap (λ cs. 45 ∷ cs) e in
-        let same : 45 ∷ [] ≡ 45 ∷ flag ∷ flags = ap encode_utf8_all (sym all) ∙ encodes-chars (45 ∷ flag ∷ flags) u in cc
+        let same : 45 ∷ [] ≡ 45 ∷ flag ∷ flags =
+        ap encode_utf8_all (sym all) ∙ encodes-chars (45 ∷ flag ∷ flags) u in cc
     go (c ∷ cs) e q = cc

@@ -26,79 +26,114 @@ AllText (w ∷ ws) = IsUtf8 w × AllText ws
 -- ---- what is pending has no fault
 
 module _ (kind : Kind) (name : Text) (rows : List Row) (pending : Pending) where
-  end_settles : (waiting : Waiting) (position : ℕ) (trailing : Bool) → whole kind name (at rows pending waiting position trailing) [] ≡ [] → settles kind rows pending ≡ []
+  end_settles : (waiting : Waiting) (position : ℕ) (trailing : Bool)
+      → whole kind name (at rows pending waiting position trailing) [] ≡ []
+      → settles kind rows pending ≡ []
   end_settles waiting position trailing e =
-      left_none (settles kind rows pending) _ (sym (last_is kind name rows pending) ∙ sym (no_more kind name (at rows pending waiting position trailing)) ∙ e)
+      left_none (settles kind rows pending) _ (sym (last_is kind name rows pending)
+      ∙ sym (no_more kind name (at rows pending waiting position trailing)) ∙ e)
 
-  step_settles : (n : ℕ) → step_fault (leaf kind name) (suc n) (held rows pending) value ≡ [] → settles kind rows pending ≡ []
+  step_settles : (n : ℕ) → step_fault (leaf kind name) (suc n) (held rows pending) value ≡ []
+      → settles kind rows pending ≡ []
   step_settles n e = elim (cases_lt n (files_wanted kind)) [
     | inl l ↦ sym (roomy_step kind name n l rows pending) ∙ e
     | inr l ↦ absurd (full_step kind name n l rows pending e)
   ]
 
-  pub trailing_settles : (rest : List Text) (waiting : Waiting) (n : ℕ) → whole kind name (at rows pending waiting (suc n) true) rest ≡ [] → settles kind rows pending ≡ []
+  pub trailing_settles : (rest : List Text) (waiting : Waiting) (n : ℕ)
+      → whole kind name (at rows pending waiting (suc n) true) rest ≡ []
+      → settles kind rows pending ≡ []
   trailing_settles [] waiting n e = end_settles waiting (suc n) true e
   trailing_settles (x ∷ rest) waiting n e =
       step_settles n
       (sym (trailing_turn kind name rows pending waiting (suc n) x)
-      ∙ left_none (turn_fault (leaf kind name) [] (at rows pending waiting (suc n) true) x) _ (sym (Turns.more kind name (at rows pending waiting (suc n) true) x rest) ∙ e))
+      ∙ left_none (turn_fault (leaf kind name) [] (at rows pending waiting (suc n) true) x) _
+      (sym (Turns.more kind name (at rows pending waiting (suc n) true) x rest) ∙ e))
 
-  flag_settles : (waiting : Waiting) (position : ℕ) (word flag : Text) (given : Option Text) → subcommand_met [] waiting word ≡ None → bytes_eq word (codes "--") ≡ false
-      → long_of word ≡ Some (flag, given) → turn_fault (leaf kind name) [] (at rows pending waiting position false) word ≡ [] → settles kind rows pending ≡ []
-  flag_settles waiting position word flag given none no_mark long e = go (named kind flag) given long
+  flag_settles : (waiting : Waiting) (position : ℕ) (word flag : Text) (given : Option Text)
+      → subcommand_met [] waiting word ≡ None → bytes_eq word (codes "--") ≡ false
+      → long_of word ≡ Some (flag, given)
+      → turn_fault (leaf kind name) [] (at rows pending waiting position false) word ≡ []
+      → settles kind rows pending ≡ []
+  flag_settles waiting position word flag given none no_mark long e =
+      go (named kind flag) given long
     where
-      go : Named kind flag → (v : Option Text) → long_of word ≡ Some (flag, v) → settles kind rows pending ≡ []
-      go (Unnamed by) v q = absurd (unnamed_turn kind name rows pending waiting position word none no_mark flag v q by e)
-      go (Optional choice is same by) None q = sym (two_turn kind name rows pending waiting position word none no_mark flag choice q by) ∙ e
+      go : Named kind flag → (v : Option Text) → long_of word ≡ Some (flag, v)
+          → settles kind rows pending ≡ []
+      go (Unnamed by) v q =
+          absurd (unnamed_turn kind name rows pending waiting position word none no_mark flag v q by
+          e)
+      go (Optional choice is same by) None q =
+          sym (two_turn kind name rows pending waiting position word none no_mark flag choice q by)
+          ∙ e
       go (Optional choice is same by) (Some v) q =
-          left_none (settles kind rows pending) _ (sym (one_turn kind name rows pending waiting position word none no_mark flag choice v q by) ∙ e)
+          left_none (settles kind rows pending) _
+          (sym (one_turn kind name rows pending waiting position word none no_mark flag choice v
+          q by) ∙ e)
 
-  pub idle_settles : (ws : List Text) (n : ℕ) → AllText ws → whole kind name (at rows pending idle (suc n) false) ws ≡ [] → settles kind rows pending ≡ []
+  pub idle_settles : (ws : List Text) (n : ℕ) → AllText ws
+      → whole kind name (at rows pending idle (suc n) false) ws ≡ []
+      → settles kind rows pending ≡ []
   idle_settles [] n u e = end_settles idle (suc n) false e
   idle_settles (x ∷ rest) n u e = go (look x)
     where
       w : Walk
       w = at rows pending idle (suc n) false
 
-      parts : or_else (turn_fault (leaf kind name) [] w x) (whole kind name (walked (rules kind) [] w x) rest) ≡ []
+      parts : or_else (turn_fault (leaf kind name) [] w x)
+          (whole kind name (walked (rules kind) [] w x) rest) ≡ []
       parts = sym (Turns.more kind name w x rest) ∙ e
 
       turn : turn_fault (leaf kind name) [] w x ≡ []
       turn = left_none (turn_fault (leaf kind name) [] w x) _ parts
 
       go : Look x → settles kind rows pending ≡ []
-      go (Plain names plain) = step_settles n (sym (plain_turn kind name rows pending (suc n) false x (λ q. plain)) ∙ turn)
+      go (Plain names plain) =
+          step_settles n (sym (plain_turn kind name rows pending (suc n) false x (λ q. plain))
+          ∙ turn)
       go (Mark q) =
-          let behind : whole kind name (walked (rules kind) [] w x) rest ≡ [] = right_none (turn_fault (leaf kind name) [] w x) _ parts in
+          let behind : whole kind name (walked (rules kind) [] w x) rest ≡ [] =
+          right_none (turn_fault (leaf kind name) [] w x) _ parts in
           let there : whole kind name (at rows pending idle (suc n) true) rest ≡ [] =
-          ap (λ v. whole kind name v rest) (sym (ap (walked (rules kind) [] w) q ∙ mark_walked kind rows pending (suc n))) ∙ behind in
+          ap (λ v. whole kind name v rest)
+          (sym (ap (walked (rules kind) [] w) q ∙ mark_walked kind rows pending (suc n)))
+          ∙ behind in
           trailing_settles rest idle n there
       go (Short flag flags q no_mark no_long short) =
-          absurd (short_turn kind name rows pending idle (suc n) x flag flags refl no_mark no_long short (flag_there flag flags (subst IsUtf8 q u.0)) turn)
+          absurd (short_turn kind name rows pending idle (suc n) x flag flags refl no_mark no_long
+          short (flag_there flag flags (subst IsUtf8 q u.0)) turn)
       go (Long letter letters q no_mark long) =
-          flag_settles idle (suc n) x (name_and_value (letter ∷ letters)).0 (name_and_value (letter ∷ letters)).1 refl no_mark long turn
+          flag_settles idle (suc n) x (name_and_value (letter ∷ letters)).0
+          (name_and_value (letter ∷ letters)).1 refl no_mark long turn
 
 -- ---- the number of an option that stands in two words
 
 -- What stands behind an option that waits for its number.
-record Numbered (name : Text) (choice : Choice) (rows : List Row) (position : ℕ) (ws : List Text) : Type 0 where
+record Numbered (name : Text) (choice : Choice) (rows : List Row) (position : ℕ)
+    (ws : List Text) : Type 0 where
   number : Text
   rest : List Text
   words_are : ws ≡ number ∷ rest
   plain : IsPlain number
-  taken : whole OfRun name (at rows (Some (id_of choice, number ∷ [])) idle position false) rest ≡ []
+  taken : whole OfRun name (at rows (Some (id_of choice, number ∷ [])) idle position false) rest
+      ≡ []
   texts : AllText rest
 
-number_next : (name : Text) (choice : Choice) (rows : List Row) (n : ℕ) (ws : List Text) → AllText ws
-    → whole OfRun name (at rows (Some (id_of choice, [])) (option (id_of choice)) (suc n) false) ws ≡ [] → Numbered name choice rows (suc n) ws
+number_next : (name : Text) (choice : Choice) (rows : List Row) (n : ℕ) (ws : List Text)
+    → AllText ws
+    → whole OfRun name (at rows (Some (id_of choice, [])) (option (id_of choice)) (suc n) false) ws
+    ≡ [] → Numbered name choice rows (suc n) ws
 number_next name choice rows n [] u e =
-    absurd (option_waits choice rows (end_settles OfRun name rows (Some (id_of choice, [])) (option (id_of choice)) (suc n) false e))
+    absurd (option_waits choice rows
+    (end_settles OfRun name rows (Some (id_of choice, [])) (option (id_of choice)) (suc n)
+    false e))
 number_next name choice rows n (x ∷ rest) u e = go (look x)
   where
     w : Walk
     w = at rows (Some (id_of choice, [])) (option (id_of choice)) (suc n) false
 
-    parts : or_else (turn_fault (leaf OfRun name) [] w x) (whole OfRun name (walked (rules OfRun) [] w x) rest) ≡ []
+    parts : or_else (turn_fault (leaf OfRun name) [] w x)
+        (whole OfRun name (walked (rules OfRun) [] w x) rest) ≡ []
     parts = sym (Turns.more OfRun name w x rest) ∙ e
 
     turn : turn_fault (leaf OfRun name) [] w x ≡ []
@@ -113,44 +148,60 @@ number_next name choice rows n (x ∷ rest) u e = go (look x)
       rest = rest;
       words_are = refl;
       plain = plain;
-      taken = ap (λ v. whole OfRun name v rest) (sym (number_walked choice rows (suc n) x plain)) ∙ behind;
+      taken = ap (λ v. whole OfRun name v rest) (sym (number_walked choice rows (suc n) x plain))
+          ∙ behind;
       texts = u.1;
     }
     go (Mark q) =
-        let there : whole OfRun name (at rows (Some (id_of choice, [])) (option (id_of choice)) (suc n) true) rest ≡ [] =
-        ap (λ v. whole OfRun name v rest) (sym (ap (walked (rules OfRun) [] w) q ∙ mark_walked_option OfRun rows (Some (id_of choice, [])) (id_of choice) (suc n))) ∙ behind in
-        absurd (option_waits choice rows (trailing_settles OfRun name rows (Some (id_of choice, [])) rest (option (id_of choice)) n there))
+        let there : whole OfRun name
+        (at rows (Some (id_of choice, [])) (option (id_of choice)) (suc n) true) rest ≡ [] =
+        ap (λ v. whole OfRun name v rest)
+        (sym (ap (walked (rules OfRun) [] w) q
+        ∙ mark_walked_option OfRun rows (Some (id_of choice, [])) (id_of choice) (suc n)))
+        ∙ behind in
+        absurd (option_waits choice rows
+        (trailing_settles OfRun name rows (Some (id_of choice, [])) rest
+        (option (id_of choice)) n there))
     go (Short flag flags q no_mark no_long short) =
-        absurd (short_turn OfRun name rows (Some (id_of choice, [])) (option (id_of choice)) (suc n) x flag flags refl no_mark no_long short
+        absurd (short_turn OfRun name rows (Some (id_of choice, [])) (option (id_of choice)) (suc n)
+        x flag flags refl no_mark no_long short
         (flag_there flag flags (subst IsUtf8 q u.0)) turn)
     go (Long letter letters q no_mark long) =
         absurd (option_waits choice rows
-        (flag_settles OfRun name rows (Some (id_of choice, [])) (option (id_of choice)) (suc n) x (name_and_value (letter ∷ letters)).0 (name_and_value (letter ∷ letters)).1
+        (flag_settles OfRun name rows (Some (id_of choice, [])) (option (id_of choice)) (suc n) x
+        (name_and_value (letter ∷ letters)).0 (name_and_value (letter ∷ letters)).1
         refl no_mark long turn))
 
 -- ---- the word of an option
 
-cut : (t : Text) → has_byte 61 t ≡ true → t ≡ before_first (λ x. x == 61) t ++ 61 ∷ after_first (λ x. x == 61) t
+cut : (t : Text) → has_byte 61 t ≡ true
+    → t ≡ before_first (λ x. x == 61) t ++ 61 ∷ after_first (λ x. x == 61) t
 cut [] e = cc
 cut (x ∷ xs) e = go (x == 61) refl (cut xs) e
   where
-    go : (b : Bool) → (x == 61) ≡ b → (has_byte 61 xs ≡ true → xs ≡ before_first (λ y. y == 61) xs ++ 61 ∷ after_first (λ y. y == 61) xs)
-        → has_byte 61 (x ∷ xs) ≡ true → x ∷ xs ≡ before_first (λ y. y == 61) (x ∷ xs) ++ 61 ∷ after_first (λ y. y == 61) (x ∷ xs)
+    go : (b : Bool) → (x == 61) ≡ b
+        → (has_byte 61 xs ≡ true
+        → xs ≡ before_first (λ y. y == 61) xs ++ 61 ∷ after_first (λ y. y == 61) xs)
+        → has_byte 61 (x ∷ xs) ≡ true
+        → x ∷ xs ≡ before_first (λ y. y == 61) (x ∷ xs) ++ 61 ∷ after_first (λ y. y == 61) (x ∷ xs)
     go true q k e = rw q (ap (λ y. y ∷ xs) (eqb-true x 61 q))
     go false q k e =
         let there : has_byte 61 xs ≡ true = sym (ap (λ b. b || has_byte 61 xs) q) ∙ e in
         let n : ℕ = prefix_len (λ y. not (y == 61)) xs in
         let one : 1 + n ≡ suc n = omega arith in
-        let two : suc n + 1 ≡ suc (n + 1) = omega arith in rw (q, one, two) (ap (λ ys. x ∷ ys) (k there))
+        let two : suc n + 1 ≡ suc (n + 1) = omega arith
+        in rw (q, one, two) (ap (λ ys. x ∷ ys) (k there))
 
 uncut : (t : Text) → has_byte 61 t ≡ false → before_first (λ x. x == 61) t ≡ t
 uncut [] e = refl
 uncut (x ∷ xs) e = go (x == 61) refl (uncut xs) e
   where
-    go : (b : Bool) → (x == 61) ≡ b → (has_byte 61 xs ≡ false → before_first (λ y. y == 61) xs ≡ xs) → has_byte 61 (x ∷ xs) ≡ false
+    go : (b : Bool) → (x == 61) ≡ b → (has_byte 61 xs ≡ false → before_first (λ y. y == 61) xs ≡ xs)
+        → has_byte 61 (x ∷ xs) ≡ false
         → before_first (λ y. y == 61) (x ∷ xs) ≡ x ∷ xs
     go true q k e = let z : true ≡ false = sym (ap (λ b. b || has_byte 61 xs) q) ∙ e in absurd cc
-    go false q k e = let there : has_byte 61 xs ≡ false = sym (ap (λ b. b || has_byte 61 xs) q) ∙ e in
+    go false q k e =
+        let there : has_byte 61 xs ≡ false = sym (ap (λ b. b || has_byte 61 xs) q) ∙ e in
         let n : ℕ = prefix_len (λ y. not (y == 61)) xs in
         let one : 1 + n ≡ suc n = omega arith in rw (q, one) (ap (λ ys. x ∷ ys) (k there))
 
@@ -158,23 +209,28 @@ name_is : (choice : Choice) → name_of choice ≡ 45 ∷ 45 ∷ id_of choice
 name_is Workers = refl
 name_is Fuel = refl
 
-one_word : (choice : Choice) (v : Text) → 45 ∷ 45 ∷ (id_of choice ++ 61 ∷ v) ≡ name_of choice ++ codes "=" ++ v
+one_word : (choice : Choice) (v : Text)
+    → 45 ∷ 45 ∷ (id_of choice ++ 61 ∷ v) ≡ name_of choice ++ codes "=" ++ v
 one_word Workers v = refl
 one_word Fuel v = refl
 
 -- A word with a long flag: it is the option's name, or its name with a value.
 data Written (choice : Choice) (word : Text) : Option Text → Type 0 where
   InTwoWords : word ≡ name_of choice → Written choice word None
-  InOneWord : (value : Text) → word ≡ name_of choice ++ codes "=" ++ value → Written choice word (Some value)
+  InOneWord : (value : Text) → word ≡ name_of choice ++ codes "=" ++ value
+      → Written choice word (Some value)
 
-written : (choice : Choice) (word t : Text) → word ≡ 45 ∷ 45 ∷ t → before_first (λ x. x == 61) t ≡ id_of choice → Written choice word (name_and_value t).1
+written : (choice : Choice) (word t : Text) → word ≡ 45 ∷ 45 ∷ t
+    → before_first (λ x. x == 61) t ≡ id_of choice → Written choice word (name_and_value t).1
 written choice word t e is = go (has_byte 61 t) refl
   where
     go : (b : Bool) → has_byte 61 t ≡ b → Written choice word (name_and_value t).1
     go true q = rw q
         (InOneWord (after_first (λ x. x == 61) t)
-        (e ∙ ap (λ y. 45 ∷ 45 ∷ y) (cut t q ∙ ap (λ y. y ++ 61 ∷ after_first (λ x. x == 61) t) is) ∙ one_word choice (after_first (λ x. x == 61) t)))
-    go false q = rw q (InTwoWords (e ∙ ap (λ y. 45 ∷ 45 ∷ y) (sym (uncut t q) ∙ is) ∙ sym (name_is choice)))
+        (e ∙ ap (λ y. 45 ∷ 45 ∷ y) (cut t q ∙ ap (λ y. y ++ 61 ∷ after_first (λ x. x == 61) t) is)
+        ∙ one_word choice (after_first (λ x. x == 61) t)))
+    go false q =
+        rw q (InTwoWords (e ∙ ap (λ y. 45 ∷ 45 ∷ y) (sym (uncut t q) ∙ is) ∙ sym (name_is choice)))
 
 -- ---- what is given then
 
@@ -182,11 +238,13 @@ plus : Choice → ℕ → Given → Given
 plus Workers n g = record g { workers = Some n }
 plus Fuel n g = record g { fuel = Some n }
 
-number_absent : (choice : Choice) (rows : List Row) (n : Option ℕ) → FoundNumber choice rows n → row_of_id (id_of choice) rows ≡ None → n ≡ None
+number_absent : (choice : Choice) (rows : List Row) (n : Option ℕ) → FoundNumber choice rows n
+    → row_of_id (id_of choice) rows ≡ None → n ≡ None
 number_absent choice rows None f e = refl
 number_absent choice rows (Some n) f e = absurd (some_none (row (id_of choice) f.0) (sym f.1 ∙ e))
 
-adds_number : (choice : Choice) (rows : List Row) (g : Given) (n : ℕ) → Found rows g → row_of_id (id_of choice) rows ≡ None → AddsNumber choice g n (plus choice n g)
+adds_number : (choice : Choice) (rows : List Row) (g : Given) (n : ℕ) → Found rows g
+    → row_of_id (id_of choice) rows ≡ None → AddsNumber choice g n (plus choice n g)
 unfolding plus
 adds_number Workers rows g n f e = (number_absent Workers rows g.workers f.workers e, refl)
 adds_number Fuel rows g n f e = (number_absent Fuel rows g.fuel f.fuel e, refl)
@@ -198,28 +256,42 @@ plus_files Fuel n g = refl
 
 -- ---- behind the mark
 
-record Trailed (kind : Kind) (rows : List Row) (files : List Text) (workers fuel : Option ℕ) : Type 0 where
+record Trailed (kind : Kind) (rows : List Row) (files : List Text)
+    (workers fuel : Option ℕ) : Type 0 where
   found : Found rows (all files workers fuel)
   as_many : length files ≡ files_wanted kind
 
 module _ (kind : Kind) (name : Text) (workers fuel : Option ℕ) where
-  trailing_sound : (rest files : List Text) (rows : List Row) (pending : Pending) (waiting : Waiting)
-      → whole kind name (at rows pending waiting (suc (length files)) true) rest ≡ [] → Found (after kind rows pending) (all files workers fuel)
-      → length files ≤ files_wanted kind → Trailed kind (finish kind (at rows pending waiting (suc (length files)) true) rest) (files ++ rest) workers fuel
+  trailing_sound : (rest files : List Text) (rows : List Row) (pending : Pending)
+      (waiting : Waiting)
+      → whole kind name (at rows pending waiting (suc (length files)) true) rest ≡ []
+      → Found (after kind rows pending) (all files workers fuel)
+      → length files ≤ files_wanted kind
+      → Trailed kind (finish kind (at rows pending waiting (suc (length files)) true) rest)
+      (files ++ rest) workers fuel
   trailing_sound [] files rows pending waiting e f l =
-      let ended : or_else (settles kind rows pending) (check_fault (leaf kind name) (after kind rows pending) false) ≡ [] =
-      sym (last_is kind name rows pending) ∙ sym (no_more kind name (at rows pending waiting (suc (length files)) true)) ∙ e in
-      let there = all_there name (after kind rows pending) workers fuel kind files f l (right_none (settles kind rows pending) _ ended) in
+      let ended : or_else (settles kind rows pending)
+      (check_fault (leaf kind name) (after kind rows pending) false) ≡ [] =
+      sym (last_is kind name rows pending)
+      ∙ sym (no_more kind name (at rows pending waiting (suc (length files)) true)) ∙ e in
+      let there =
+      all_there name (after kind rows pending) workers fuel kind files f l
+      (right_none (settles kind rows pending) _ ended) in
       let same : files ≡ files ++ [] = sym (append_nil files) in
-      subst (λ fs. Trailed kind (finish kind (at rows pending waiting (suc (length files)) true) []) fs workers fuel) same (record {
-        found = subst (λ rs. Found rs (all files workers fuel)) (sym (finished_is kind rows pending)) f;
+      subst (λ fs. Trailed kind (finish kind (at rows pending waiting (suc (length files)) true) [])
+      fs workers fuel) same (record {
+        found = subst (λ rs. Found rs (all files workers fuel))
+            (sym (finished_is kind rows pending)) f;
         as_many = there;
       })
   trailing_sound (x ∷ rest) files rows pending waiting e f l =
       let w : Walk = at rows pending waiting (suc (length files)) true in
-      let parts : or_else (turn_fault (leaf kind name) [] w x) (whole kind name (walked (rules kind) [] w x) rest) ≡ [] = sym (Turns.more kind name w x rest) ∙ e in
+      let parts : or_else (turn_fault (leaf kind name) [] w x)
+      (whole kind name (walked (rules kind) [] w x) rest) ≡ [] =
+      sym (Turns.more kind name w x rest) ∙ e in
       let turn : step_fault (leaf kind name) (suc (length files)) (held rows pending) value ≡ [] =
-      sym (trailing_turn kind name rows pending waiting (suc (length files)) x) ∙ left_none (turn_fault (leaf kind name) [] w x) _ parts in
+      sym (trailing_turn kind name rows pending waiting (suc (length files)) x)
+      ∙ left_none (turn_fault (leaf kind name) [] w x) _ parts in
       elim (cases_lt (length files) (files_wanted kind)) [
         | inr m ↦ absurd (full_step kind name (length files) m rows pending turn)
         | inl less ↦
@@ -227,14 +299,25 @@ module _ (kind : Kind) (name : Text) (workers fuel : Option ℕ) where
             let id : Text = id_at (length files) in
             let two : length files < 2 = few kind (length files) less in
             let none : row_of_id id now ≡ None = none_at files workers fuel now two f in
-            let found : Found (after kind now (Some (id, x ∷ []))) (all (files ++ x ∷ []) workers fuel) =
-            subst (λ rs. Found rs (all (files ++ x ∷ []) workers fuel)) (sym (word_after kind now (length files) less x none)) (file_found files workers fuel now x two f) in
-            let step : walked (rules kind) [] w x ≡ at now (Some (id, x ∷ [])) idle (suc (length (files ++ x ∷ []))) true =
-            trailing_walked kind (length files) less rows pending waiting x ∙ ap (λ n. at now (Some (id, x ∷ [])) idle (suc n) true) (sym (longer files x)) in
+            let found : Found (after kind now (Some (id, x ∷ [])))
+            (all (files ++ x ∷ []) workers fuel) =
+            subst (λ rs. Found rs (all (files ++ x ∷ []) workers fuel))
+            (sym (word_after kind now (length files) less x none))
+            (file_found files workers fuel now x two f) in
+            let step : walked (rules kind) [] w x
+            ≡ at now (Some (id, x ∷ [])) idle (suc (length (files ++ x ∷ []))) true =
+            trailing_walked kind (length files) less rows pending waiting x
+            ∙ ap (λ n. at now (Some (id, x ∷ [])) idle (suc n) true) (sym (longer files x)) in
             let rec = trailing_sound rest (files ++ x ∷ []) now (Some (id, x ∷ [])) idle
-            (ap (λ v. whole kind name v rest) (sym step) ∙ right_none (turn_fault (leaf kind name) [] w x) _ parts) found (omega (arith, less, longer files x)) in
-            subst (λ v. Trailed kind (finish kind v rest) (files ++ x ∷ rest) workers fuel) (sym step)
-            (subst (λ fs. Trailed kind (finish kind (at now (Some (id, x ∷ [])) idle (suc (length (files ++ x ∷ []))) true) rest) fs workers fuel) (append_assoc files (x ∷ []) rest) rec)
+            (ap (λ v. whole kind name v rest) (sym step)
+            ∙ right_none (turn_fault (leaf kind name) [] w x) _ parts) found
+            (omega (arith, less, longer files x)) in
+            subst (λ v. Trailed kind (finish kind v rest) (files ++ x ∷ rest) workers fuel)
+            (sym step)
+            (subst (λ fs. Trailed kind
+            (finish kind
+            (at now (Some (id, x ∷ [])) idle (suc (length (files ++ x ∷ []))) true) rest) fs
+            workers fuel) (append_assoc files (x ∷ []) rest) rec)
       ]
 
 -- ---- all words
@@ -248,7 +331,8 @@ pub record Result (kind : Kind) (rows : List Row) (ws : List Text) (g : Given) :
   pub options : TakesOptions kind given
 
 -- A part in front of what is read.
-went_on : (kind : Kind) (rows now : List Row) (ws rest : List Text) (g more : Given) → Adds ws g more rest → now ≡ rows → Result kind now rest more → Result kind rows ws g
+went_on : (kind : Kind) (rows now : List Row) (ws rest : List Text) (g more : Given)
+    → Adds ws g more rest → now ≡ rows → Result kind now rest more → Result kind rows ws g
 went_on kind rows now ws rest g more part e r = record {
   given = r.given;
   gives = GivesPart more rest part r.gives;
@@ -257,28 +341,37 @@ went_on kind rows now ws rest g more part e r = record {
   options = r.options;
 }
 
-same_options : (kind : Kind) (g more : Given) → more.workers ≡ g.workers → more.fuel ≡ g.fuel → TakesOptions kind g → TakesOptions kind more
+same_options : (kind : Kind) (g more : Given) → more.workers ≡ g.workers → more.fuel ≡ g.fuel
+    → TakesOptions kind g → TakesOptions kind more
 same_options OfRun g more e q o = tt
 same_options OfFile g more e q o = (e ∙ o.0, q ∙ o.1)
 same_options OfAudit g more e q o = (e ∙ o.0, q ∙ o.1)
 
 -- What the rest of the words is shown to give.
 abbrev Rest : Kind → Text → List Text → Given → Type 0
-Rest kind name rest more = (now : List Row) (then : Pending) → whole kind name (at now then idle (suc (length more.files)) false) rest ≡ []
-    → (settles kind now then ≡ [] → Found (after kind now then) more) → length more.files ≤ files_wanted kind → TakesOptions kind more
+Rest kind name rest more = (now : List Row) (then : Pending)
+    → whole kind name (at now then idle (suc (length more.files)) false) rest ≡ []
+    → (settles kind now then ≡ [] → Found (after kind now then) more)
+    → length more.files ≤ files_wanted kind → TakesOptions kind more
     → Result kind (finish kind (at now then idle (suc (length more.files)) false) rest) rest more
 
-module _ (kind : Kind) (name : Text) (g : Given) (rows : List Row) (pending : Pending) (s : settles kind rows pending ≡ []) (f : Found (after kind rows pending) g)
+module _ (kind : Kind) (name : Text) (g : Given) (rows : List Row) (pending : Pending)
+    (s : settles kind rows pending ≡ []) (f : Found (after kind rows pending) g)
     (l : length g.files ≤ files_wanted kind) (o : TakesOptions kind g) where
-  file_sound : (x : Text) (rest : List Text) → NamesFile x → IsPlain x → Rest kind name rest (all (g.files ++ x ∷ []) g.workers g.fuel)
+  file_sound : (x : Text) (rest : List Text) → NamesFile x → IsPlain x
+      → Rest kind name rest (all (g.files ++ x ∷ []) g.workers g.fuel)
       → whole kind name (at rows pending idle (suc (length g.files)) false) (x ∷ rest) ≡ []
-      → Result kind (finish kind (at rows pending idle (suc (length g.files)) false) (x ∷ rest)) (x ∷ rest) g
+      → Result kind (finish kind (at rows pending idle (suc (length g.files)) false) (x ∷ rest))
+      (x ∷ rest) g
   file_sound x rest names plain next e =
       let n : ℕ = length g.files in
       let w : Walk = at rows pending idle (suc n) false in
-      let parts : or_else (turn_fault (leaf kind name) [] w x) (whole kind name (walked (rules kind) [] w x) rest) ≡ [] = sym (Turns.more kind name w x rest) ∙ e in
+      let parts : or_else (turn_fault (leaf kind name) [] w x)
+      (whole kind name (walked (rules kind) [] w x) rest) ≡ [] =
+      sym (Turns.more kind name w x rest) ∙ e in
       let turn : step_fault (leaf kind name) (suc n) (held rows pending) value ≡ [] =
-      sym (plain_turn kind name rows pending (suc n) false x (λ q. plain)) ∙ left_none (turn_fault (leaf kind name) [] w x) _ parts in
+      sym (plain_turn kind name rows pending (suc n) false x (λ q. plain))
+      ∙ left_none (turn_fault (leaf kind name) [] w x) _ parts in
       elim (cases_lt n (files_wanted kind)) [
         | inr m ↦ absurd (full_step kind name n m rows pending turn)
         | inl less ↦
@@ -288,34 +381,61 @@ module _ (kind : Kind) (name : Text) (g : Given) (rows : List Row) (pending : Pe
             let more : Given = all (g.files ++ x ∷ []) g.workers g.fuel in
             let none : row_of_id id now ≡ None = none_at g.files g.workers g.fuel now two f in
             let found : Found (after kind now (Some (id, x ∷ []))) more =
-            subst (λ rs. Found rs more) (sym (word_after kind now n less x none)) (file_found g.files g.workers g.fuel now x two f) in
-            let step : walked (rules kind) [] w x ≡ at now (Some (id, x ∷ [])) idle (suc (length more.files)) false =
-            plain_walked kind n less rows pending false x (λ q. plain) ∙ ap (λ k. at now (Some (id, x ∷ [])) idle (suc k) false) (sym (longer g.files x)) in
-            went_on kind (finish kind w (x ∷ rest)) (finish kind (at now (Some (id, x ∷ [])) idle (suc (length more.files)) false) rest) (x ∷ rest) rest g more
+            subst (λ rs. Found rs more) (sym (word_after kind now n less x none))
+            (file_found g.files g.workers g.fuel now x two f) in
+            let step : walked (rules kind) [] w x
+            ≡ at now (Some (id, x ∷ [])) idle (suc (length more.files)) false =
+            plain_walked kind n less rows pending false x (λ q. plain)
+            ∙ ap (λ k. at now (Some (id, x ∷ [])) idle (suc k) false) (sym (longer g.files x))
+            in
+            went_on kind (finish kind w (x ∷ rest))
+            (finish kind (at now (Some (id, x ∷ [])) idle (suc (length more.files)) false) rest)
+            (x ∷ rest) rest g more
             (AddsNamed x names refl refl) (ap (λ v. finish kind v rest) (sym step))
-            (next now (Some (id, x ∷ [])) (ap (λ v. whole kind name v rest) (sym step) ∙ right_none (turn_fault (leaf kind name) [] w x) _ parts) (λ q. found)
+            (next now (Some (id, x ∷ [])) (ap (λ v. whole kind name v rest) (sym step)
+            ∙ right_none (turn_fault (leaf kind name) [] w x) _ parts) (λ q. found)
             (omega (arith, less, longer g.files x)) (same_options kind g more refl refl o))
       ]
 
-  mark_sound : (x : Text) (rest : List Text) → x ≡ codes "--" → whole kind name (at rows pending idle (suc (length g.files)) false) (x ∷ rest) ≡ []
-      → Result kind (finish kind (at rows pending idle (suc (length g.files)) false) (x ∷ rest)) (x ∷ rest) g
+  mark_sound : (x : Text) (rest : List Text) → x ≡ codes "--"
+      → whole kind name (at rows pending idle (suc (length g.files)) false) (x ∷ rest) ≡ []
+      → Result kind (finish kind (at rows pending idle (suc (length g.files)) false) (x ∷ rest))
+      (x ∷ rest) g
   mark_sound x rest q e =
       let n : ℕ = length g.files in
       let w : Walk = at rows pending idle (suc n) false in
-      let step : walked (rules kind) [] w x ≡ at rows pending idle (suc n) true = ap (walked (rules kind) [] w) q ∙ mark_walked kind rows pending (suc n) in
-      let parts : or_else (turn_fault (leaf kind name) [] w x) (whole kind name (walked (rules kind) [] w x) rest) ≡ [] = sym (Turns.more kind name w x rest) ∙ e in
+      let step : walked (rules kind) [] w x ≡ at rows pending idle (suc n) true =
+      ap (walked (rules kind) [] w) q ∙ mark_walked kind rows pending (suc n) in
+      let parts : or_else (turn_fault (leaf kind name) [] w x)
+      (whole kind name (walked (rules kind) [] w x) rest) ≡ [] =
+      sym (Turns.more kind name w x rest) ∙ e in
       let t = trailing_sound kind name g.workers g.fuel rest g.files rows pending idle
-      (ap (λ v. whole kind name v rest) (sym step) ∙ right_none (turn_fault (leaf kind name) [] w x) _ parts) f l in
-      went_on kind (finish kind w (x ∷ rest)) (finish kind (at rows pending idle (suc n) true) rest) (x ∷ rest) [] g (all (g.files ++ rest) g.workers g.fuel)
+      (ap (λ v. whole kind name v rest) (sym step)
+      ∙ right_none (turn_fault (leaf kind name) [] w x) _ parts) f l in
+      went_on kind (finish kind w (x ∷ rest)) (finish kind (at rows pending idle (suc n) true) rest)
+      (x ∷ rest) [] g (all (g.files ++ rest) g.workers g.fuel)
       (AddsMarked rest (ap (λ y. y ∷ rest) q) refl refl) (ap (λ v. finish kind v rest) (sym step))
-      (record { given = all (g.files ++ rest) g.workers g.fuel; gives = GivesNoMore refl refl; found = t.found; as_many = t.as_many; options = same_options kind g (all (g.files ++ rest) g.workers g.fuel) refl refl o })
+      (record {
+        given = all (g.files ++ rest) g.workers g.fuel;
+        gives = GivesNoMore refl refl;
+        found = t.found;
+        as_many = t.as_many;
+        options = same_options kind g (all (g.files ++ rest) g.workers g.fuel) refl refl o;
+      })
 
-module _ (name : Text) (choice : Choice) (g : Given) (rows : List Row) (pending : Pending) (s : settles OfRun rows pending ≡ []) (f : Found (after OfRun rows pending) g)
-    (l : length g.files ≤ 1) (flag : Text) (by : arg_by_long (rules OfRun) flag ≡ Some (option_built choice)) where
-  two_sound : (x number : Text) (rest : List Text) → x ≡ name_of choice → bytes_eq x (codes "--") ≡ false → long_of x ≡ Some (flag, None) → IsPlain number
-      → whole OfRun name (at (after OfRun rows pending) (Some (id_of choice, number ∷ [])) idle (suc (length g.files)) false) rest ≡ [] → AllText rest
+module _ (name : Text) (choice : Choice) (g : Given) (rows : List Row) (pending : Pending)
+    (s : settles OfRun rows pending ≡ []) (f : Found (after OfRun rows pending) g)
+    (l : length g.files ≤ 1) (flag : Text)
+    (by : arg_by_long (rules OfRun) flag ≡ Some (option_built choice)) where
+  two_sound : (x number : Text) (rest : List Text) → x ≡ name_of choice
+      → bytes_eq x (codes "--") ≡ false → long_of x ≡ Some (flag, None) → IsPlain number
+      → whole OfRun name
+      (at (after OfRun rows pending) (Some (id_of choice, number ∷ [])) idle (suc (length g.files))
+      false) rest ≡ [] → AllText rest
       → Rest OfRun name rest (plus choice (digits_value 10 (without_leading_plus number)) g)
-      → Result OfRun (finish OfRun (at rows pending idle (suc (length g.files)) false) (x ∷ number ∷ rest)) (x ∷ number ∷ rest) g
+      → Result OfRun
+      (finish OfRun (at rows pending idle (suc (length g.files)) false) (x ∷ number ∷ rest))
+      (x ∷ number ∷ rest) g
   two_sound x number rest q no_mark long plain e u next =
       let n : ℕ = digits_value 10 (without_leading_plus number) in
       let place : ℕ = suc (length g.files) in
@@ -323,22 +443,35 @@ module _ (name : Text) (choice : Choice) (g : Given) (rows : List Row) (pending 
       let then : Pending = Some (id_of choice, number ∷ []) in
       let more : Given = plus choice n g in
       let w : Walk = at rows pending idle place false in
-      let t : settles OfRun now then ≡ [] = idle_settles OfRun name now then rest (length g.files) u e in
+      let t : settles OfRun now then ≡ [] = idle_settles OfRun name now
+      then rest (length g.files) u e in
       let means = option_means choice number now (sym (option_settles choice now number) ∙ t) in
       let adds : AddsNumber choice g n more = adds_number choice now g n f means.0 in
       let found : Found (after OfRun now then) more =
-      subst (λ rs. Found rs more) (sym (option_after_two choice now number means.0)) (option_found choice now g more n number f adds means.1) in
+      subst (λ rs. Found rs more) (sym (option_after_two choice now number means.0))
+      (option_found choice now g more n number f adds means.1) in
       let files : more.files ≡ g.files = plus_files choice n g in
-      let step : walked (rules OfRun) [] (walked (rules OfRun) [] w x) number ≡ at now then idle (suc (length more.files)) false =
-      ap (λ v. walked (rules OfRun) [] v number) (two_walked OfRun rows pending place x no_mark flag choice by long) ∙ number_walked choice now place number plain
+      let step : walked (rules OfRun) [] (walked (rules OfRun) [] w x) number ≡ at now
+      then idle (suc (length more.files)) false =
+      ap (λ v. walked (rules OfRun) [] v number)
+      (two_walked OfRun rows pending place x no_mark flag choice by long)
+      ∙ number_walked choice now place number plain
       ∙ ap (λ fs. at now then idle (suc (length fs)) false) (sym files) in
-      went_on OfRun (finish OfRun w (x ∷ number ∷ rest)) (finish OfRun (at now then idle (suc (length more.files)) false) rest) (x ∷ number ∷ rest) rest g more
-      (AddsOption choice n (InTwo number means.1 (ap (λ y. y ∷ number ∷ rest) q)) adds) (ap (λ v. finish OfRun v rest) (sym step))
-      (next now then (ap (λ fs. whole OfRun name (at now then idle (suc (length fs)) false) rest) files ∙ e) (λ z. found) (omega (arith, l, ap length files)) tt)
+      went_on OfRun (finish OfRun w (x ∷ number ∷ rest))
+      (finish OfRun (at now then idle (suc (length more.files)) false) rest) (x ∷ number ∷ rest)
+      rest g more
+      (AddsOption choice n (InTwo number means.1 (ap (λ y. y ∷ number ∷ rest) q)) adds)
+      (ap (λ v. finish OfRun v rest) (sym step))
+      (next now
+      then (ap (λ fs. whole OfRun name (at now then idle (suc (length fs)) false) rest)
+      files ∙ e) (λ z. found) (omega (arith, l, ap length files)) tt)
 
-  one_sound : (x given : Text) (rest : List Text) → x ≡ name_of choice ++ codes "=" ++ given → bytes_eq x (codes "--") ≡ false → long_of x ≡ Some (flag, Some given)
-      → whole OfRun name (at rows pending idle (suc (length g.files)) false) (x ∷ rest) ≡ [] → Rest OfRun name rest (plus choice (digits_value 10 (without_leading_plus given)) g)
-      → Result OfRun (finish OfRun (at rows pending idle (suc (length g.files)) false) (x ∷ rest)) (x ∷ rest) g
+  one_sound : (x given : Text) (rest : List Text) → x ≡ name_of choice ++ codes "=" ++ given
+      → bytes_eq x (codes "--") ≡ false → long_of x ≡ Some (flag, Some given)
+      → whole OfRun name (at rows pending idle (suc (length g.files)) false) (x ∷ rest) ≡ []
+      → Rest OfRun name rest (plus choice (digits_value 10 (without_leading_plus given)) g)
+      → Result OfRun (finish OfRun (at rows pending idle (suc (length g.files)) false) (x ∷ rest))
+      (x ∷ rest) g
   one_sound x given rest q no_mark long e next =
       let n : ℕ = digits_value 10 (without_leading_plus given) in
       let place : ℕ = suc (length g.files) in
@@ -346,87 +479,146 @@ module _ (name : Text) (choice : Choice) (g : Given) (rows : List Row) (pending 
       let then : List Row = used (option_built choice) (given ∷ []) now in
       let more : Given = plus choice n g in
       let w : Walk = at rows pending idle place false in
-      let parts : or_else (turn_fault (leaf OfRun name) [] w x) (whole OfRun name (walked (rules OfRun) [] w x) rest) ≡ [] = sym (Turns.more OfRun name w x rest) ∙ e in
-      let turn : or_else (settles OfRun rows pending) (use_fault false (option_built choice) (given ∷ []) now) ≡ [] =
-      sym (one_turn OfRun name rows pending idle place x refl no_mark flag choice given long by) ∙ left_none (turn_fault (leaf OfRun name) [] w x) _ parts in
+      let parts : or_else (turn_fault (leaf OfRun name) [] w x)
+      (whole OfRun name (walked (rules OfRun) [] w x) rest) ≡ [] =
+      sym (Turns.more OfRun name w x rest) ∙ e in
+      let turn : or_else (settles OfRun rows pending)
+      (use_fault false (option_built choice) (given ∷ []) now) ≡ [] =
+      sym (one_turn OfRun name rows pending idle place x refl no_mark flag choice given long by)
+      ∙ left_none (turn_fault (leaf OfRun name) [] w x) _ parts in
       let means = option_means choice given now (right_none (settles OfRun rows pending) _ turn) in
       let adds : AddsNumber choice g n more = adds_number choice now g n f means.0 in
-      let found : Found then more = subst (λ rs. Found rs more) (sym (option_after choice now given means.0)) (option_found choice now g more n given f adds means.1) in
+      let found : Found
+      then more =
+      subst (λ rs. Found rs more) (sym (option_after choice now given means.0))
+      (option_found choice now g more n given f adds means.1) in
       let files : more.files ≡ g.files = plus_files choice n g in
       let step : walked (rules OfRun) [] w x ≡ at then None idle (suc (length more.files)) false =
-      one_walked OfRun rows pending place x no_mark flag choice by given long ∙ ap (λ fs. at then None idle (suc (length fs)) false) (sym files) in
-      went_on OfRun (finish OfRun w (x ∷ rest)) (finish OfRun (at then None idle (suc (length more.files)) false) rest) (x ∷ rest) rest g more
-      (AddsOption choice n (InOne given means.1 (ap (λ y. y ∷ rest) q)) adds) (ap (λ v. finish OfRun v rest) (sym step))
-      (next then None (ap (λ v. whole OfRun name v rest) (sym step) ∙ right_none (turn_fault (leaf OfRun name) [] w x) _ parts) (λ z. found) (omega (arith, l, ap length files)) tt)
+      one_walked OfRun rows pending place x no_mark flag choice by given long
+      ∙ ap (λ fs. at then None idle (suc (length fs)) false) (sym files) in
+      went_on OfRun (finish OfRun w (x ∷ rest))
+      (finish OfRun (at then None idle (suc (length more.files)) false) rest) (x ∷ rest) rest g
+      more
+      (AddsOption choice n (InOne given means.1 (ap (λ y. y ∷ rest) q)) adds)
+      (ap (λ v. finish OfRun v rest) (sym step))
+      (next then None (ap (λ v. whole OfRun name v rest) (sym step)
+      ∙ right_none (turn_fault (leaf OfRun name) [] w x) _ parts) (λ z. found)
+      (omega (arith, l, ap length files)) tt)
 
 -- What fewer words are shown to give.
 abbrev Fewer : Kind → Text → ℕ → Type 0
-Fewer kind name k = (ws : List Text) (more : Given) → length ws ≤ k → AllText ws → Rest kind name ws more
+Fewer kind name k = (ws : List Text) (more : Given) → length ws ≤ k → AllText ws
+    → Rest kind name ws more
 
-option_read : (name : Text) (choice : Choice) (g : Given) (rows : List Row) (pending : Pending) → settles OfRun rows pending ≡ [] → Found (after OfRun rows pending) g
-    → length g.files ≤ 1 → (flag : Text) → arg_by_long (rules OfRun) flag ≡ Some (option_built choice) → (k : ℕ) → Fewer OfRun name k → (x : Text) (rest : List Text)
-    → length rest ≤ k → AllText rest → bytes_eq x (codes "--") ≡ false → (v : Option Text) → Written choice x v → long_of x ≡ Some (flag, v)
+option_read : (name : Text) (choice : Choice) (g : Given) (rows : List Row) (pending : Pending)
+    → settles OfRun rows pending ≡ [] → Found (after OfRun rows pending) g
+    → length g.files ≤ 1 → (flag : Text)
+    → arg_by_long (rules OfRun) flag ≡ Some (option_built choice) → (k : ℕ) → Fewer OfRun name k
+    → (x : Text) (rest : List Text)
+    → length rest ≤ k → AllText rest → bytes_eq x (codes "--") ≡ false → (v : Option Text)
+    → Written choice x v → long_of x ≡ Some (flag, v)
     → whole OfRun name (at rows pending idle (suc (length g.files)) false) (x ∷ rest) ≡ []
-    → Result OfRun (finish OfRun (at rows pending idle (suc (length g.files)) false) (x ∷ rest)) (x ∷ rest) g
-option_read name choice g rows pending s f l flag by k next x rest m u no_mark v (InOneWord given q) long e =
-    one_sound name choice g rows pending s f l flag by x given rest q no_mark long e (next rest (plus choice (digits_value 10 (without_leading_plus given)) g) m u)
-option_read name choice g rows pending s f l flag by k next x rest m u no_mark v (InTwoWords q) long e =
+    → Result OfRun (finish OfRun (at rows pending idle (suc (length g.files)) false) (x ∷ rest))
+    (x ∷ rest) g
+option_read name choice g rows pending s f l flag by k next x rest m u no_mark v (InOneWord given q)
+    long e =
+    one_sound name choice g rows pending s f l flag by x given rest q no_mark long e
+    (next rest (plus choice (digits_value 10 (without_leading_plus given)) g) m u)
+option_read name choice g rows pending s f l flag by k next x rest m u no_mark v (InTwoWords q) long
+    e =
     let w : Walk = at rows pending idle (suc (length g.files)) false in
-    let parts : or_else (turn_fault (leaf OfRun name) [] w x) (whole OfRun name (walked (rules OfRun) [] w x) rest) ≡ [] = sym (Turns.more OfRun name w x rest) ∙ e in
-    let behind : whole OfRun name (at (after OfRun rows pending) (Some (id_of choice, [])) (option (id_of choice)) (suc (length g.files)) false) rest ≡ [] =
-    ap (λ v. whole OfRun name v rest) (sym (two_walked OfRun rows pending (suc (length g.files)) x no_mark flag choice by long))
+    let parts : or_else (turn_fault (leaf OfRun name) [] w x)
+    (whole OfRun name (walked (rules OfRun) [] w x) rest) ≡ [] =
+    sym (Turns.more OfRun name w x rest) ∙ e in
+    let behind : whole OfRun name
+    (at (after OfRun rows pending) (Some (id_of choice, [])) (option (id_of choice))
+    (suc (length g.files)) false) rest ≡ [] =
+    ap (λ v. whole OfRun name v rest)
+    (sym (two_walked OfRun rows pending (suc (length g.files)) x no_mark flag choice by long))
     ∙ right_none (turn_fault (leaf OfRun name) [] w x) _ parts in
     let t = number_next name choice (after OfRun rows pending) (length g.files) rest u behind in
     subst (λ r. Result OfRun (finish OfRun w (x ∷ r)) (x ∷ r) g) (sym t.words_are)
-    (two_sound name choice g rows pending s f l flag by x t.number t.rest q no_mark long t.plain t.taken t.texts
-    (next t.rest (plus choice (digits_value 10 (without_leading_plus t.number)) g) (omega (arith, m, ap length t.words_are)) t.texts))
+    (two_sound name choice g rows pending s f l flag by x t.number t.rest q no_mark long t.plain
+    t.taken t.texts
+    (next t.rest (plus choice (digits_value 10 (without_leading_plus t.number)) g)
+    (omega (arith, m, ap length t.words_are)) t.texts))
 
-flag_read : (kind : Kind) (name : Text) (g : Given) (rows : List Row) (pending : Pending) → settles kind rows pending ≡ [] → Found (after kind rows pending) g
-    → length g.files ≤ files_wanted kind → (k : ℕ) → Fewer kind name k → (x : Text) (rest : List Text) → length rest ≤ k → AllText rest → bytes_eq x (codes "--") ≡ false
-    → (t : Text) → x ≡ 45 ∷ 45 ∷ t → long_of x ≡ Some (name_and_value t) → Named kind (name_and_value t).0
+flag_read : (kind : Kind) (name : Text) (g : Given) (rows : List Row) (pending : Pending)
+    → settles kind rows pending ≡ [] → Found (after kind rows pending) g
+    → length g.files ≤ files_wanted kind → (k : ℕ) → Fewer kind name k
+    → (x : Text) (rest : List Text) → length rest ≤ k → AllText rest
+    → bytes_eq x (codes "--") ≡ false
+    → (t : Text) → x ≡ 45 ∷ 45 ∷ t → long_of x ≡ Some (name_and_value t)
+    → Named kind (name_and_value t).0
     → whole kind name (at rows pending idle (suc (length g.files)) false) (x ∷ rest) ≡ []
-    → Result kind (finish kind (at rows pending idle (suc (length g.files)) false) (x ∷ rest)) (x ∷ rest) g
+    → Result kind (finish kind (at rows pending idle (suc (length g.files)) false) (x ∷ rest))
+    (x ∷ rest) g
 flag_read kind name g rows pending s f l k next x rest m u no_mark t q long (Unnamed by) e =
-    absurd (unnamed_turn kind name rows pending idle (suc (length g.files)) x refl no_mark (name_and_value t).0 (name_and_value t).1 long by
-    (left_none (turn_fault (leaf kind name) [] (at rows pending idle (suc (length g.files)) false) x) _
+    absurd (unnamed_turn kind name rows pending idle (suc (length g.files)) x refl no_mark
+    (name_and_value t).0 (name_and_value t).1 long by
+    (left_none
+    (turn_fault (leaf kind name) [] (at rows pending idle (suc (length g.files)) false) x) _
     (sym (Turns.more kind name (at rows pending idle (suc (length g.files)) false) x rest) ∙ e)))
-flag_read OfRun name g rows pending s f l k next x rest m u no_mark t q long (Optional choice is same by) e =
-    option_read name choice g rows pending s f l (name_and_value t).0 by k next x rest m u no_mark (name_and_value t).1 (written choice x t q same) long e
-flag_read OfFile name g rows pending s f l k next x rest m u no_mark t q long (Optional choice is same by) e = absurd cc
-flag_read OfAudit name g rows pending s f l k next x rest m u no_mark t q long (Optional choice is same by) e = absurd cc
+flag_read OfRun name g rows pending s f l k next x rest m u no_mark t q long
+    (Optional choice is same by) e =
+    option_read name choice g rows pending s f l (name_and_value t).0 by k next x rest m u no_mark
+    (name_and_value t).1 (written choice x t q same) long e
+flag_read OfFile name g rows pending s f l k next x rest m u no_mark t q long
+    (Optional choice is same by) e = absurd cc
+flag_read OfAudit name g rows pending s f l k next x rest m u no_mark t q long
+    (Optional choice is same by) e = absurd cc
 
-word_read : (kind : Kind) (name : Text) (g : Given) (rows : List Row) (pending : Pending) → settles kind rows pending ≡ [] → Found (after kind rows pending) g
-    → length g.files ≤ files_wanted kind → TakesOptions kind g → (k : ℕ) → Fewer kind name k → (x : Text) (rest : List Text) → length rest ≤ k → IsUtf8 x → AllText rest → Look x
+word_read : (kind : Kind) (name : Text) (g : Given) (rows : List Row) (pending : Pending)
+    → settles kind rows pending ≡ [] → Found (after kind rows pending) g
+    → length g.files ≤ files_wanted kind → TakesOptions kind g → (k : ℕ) → Fewer kind name k
+    → (x : Text) (rest : List Text) → length rest ≤ k → IsUtf8 x → AllText rest → Look x
     → whole kind name (at rows pending idle (suc (length g.files)) false) (x ∷ rest) ≡ []
-    → Result kind (finish kind (at rows pending idle (suc (length g.files)) false) (x ∷ rest)) (x ∷ rest) g
+    → Result kind (finish kind (at rows pending idle (suc (length g.files)) false) (x ∷ rest))
+    (x ∷ rest) g
 word_read kind name g rows pending s f l o k next x rest m t u (Plain names plain) e =
-    file_sound kind name g rows pending s f l o x rest names plain (next rest (all (g.files ++ x ∷ []) g.workers g.fuel) m u) e
-word_read kind name g rows pending s f l o k next x rest m t u (Mark q) e = mark_sound kind name g rows pending s f l o x rest q e
-word_read kind name g rows pending s f l o k next x rest m t u (Short flag flags q no_mark no_long short) e =
-    absurd (short_turn kind name rows pending idle (suc (length g.files)) x flag flags refl no_mark no_long short (flag_there flag flags (subst IsUtf8 q t))
-    (left_none (turn_fault (leaf kind name) [] (at rows pending idle (suc (length g.files)) false) x) _
+    file_sound kind name g rows pending s f l o x rest names plain
+    (next rest (all (g.files ++ x ∷ []) g.workers g.fuel) m u) e
+word_read kind name g rows pending s f l o k next x rest m t u (Mark q) e =
+    mark_sound kind name g rows pending s f l o x rest q e
+word_read kind name g rows pending s f l o k next x rest m t u
+    (Short flag flags q no_mark no_long short) e =
+    absurd (short_turn kind name rows pending idle (suc (length g.files)) x flag flags refl no_mark
+    no_long short (flag_there flag flags (subst IsUtf8 q t))
+    (left_none
+    (turn_fault (leaf kind name) [] (at rows pending idle (suc (length g.files)) false) x) _
     (sym (Turns.more kind name (at rows pending idle (suc (length g.files)) false) x rest) ∙ e)))
-word_read kind name g rows pending s f l o k next x rest m t u (Long letter letters q no_mark long) e =
-    flag_read kind name g rows pending s f l k next x rest m u no_mark (letter ∷ letters) q long (named kind (name_and_value (letter ∷ letters)).0) e
+word_read kind name g rows pending s f l o k next x rest m t u (Long letter letters q no_mark long)
+    e =
+    flag_read kind name g rows pending s f l k next x rest m u no_mark (letter ∷ letters) q long
+    (named kind (name_and_value (letter ∷ letters)).0) e
 
 -- Words that are taken give what a command of the kind takes, and the matches have it.
-words_read : (k : ℕ) (kind : Kind) (name : Text) (ws : List Text) (g : Given) → length ws ≤ k → AllText ws → Rest kind name ws g
+words_read : (k : ℕ) (kind : Kind) (name : Text) (ws : List Text) (g : Given) → length ws ≤ k
+    → AllText ws → Rest kind name ws g
 words_read k kind name [] g m u rows pending e wait l o =
     let w : Walk = at rows pending idle (suc (length g.files)) false in
-    let ended : or_else (settles kind rows pending) (check_fault (leaf kind name) (after kind rows pending) false) ≡ [] =
+    let ended : or_else (settles kind rows pending)
+    (check_fault (leaf kind name) (after kind rows pending) false) ≡ [] =
     sym (last_is kind name rows pending) ∙ sym (no_more kind name w) ∙ e in
-    let f : Found (after kind rows pending) g = wait (left_none (settles kind rows pending) _ ended) in
+    let f : Found (after kind rows pending) g = wait (left_none (settles kind rows pending) _ ended)
+    in
     record {
       given = g;
       gives = GivesNoMore refl refl;
       found = subst (λ rs. Found rs g) (sym (finished_is kind rows pending)) f;
-      as_many = all_there name (after kind rows pending) g.workers g.fuel kind g.files f l (right_none (settles kind rows pending) _ ended);
+      as_many =
+          all_there name (after kind rows pending) g.workers g.fuel kind g.files f l
+          (right_none (settles kind rows pending) _ ended);
       options = o;
     }
 words_read zero kind name (x ∷ rest) g m u rows pending e wait l o = absurd (omega (arith, m))
 words_read (suc k) kind name (x ∷ rest) g m u rows pending e wait l o =
-    let s : settles kind rows pending ≡ [] = idle_settles kind name rows pending (x ∷ rest) (length g.files) u e in
-    word_read kind name g rows pending s (wait s) l o k (λ ws more n v. words_read k kind name ws more n v) x rest (omega (arith, m)) u.0 u.1 (look x) e
+    let s : settles kind rows pending ≡ [] =
+    idle_settles kind name rows pending (x ∷ rest) (length g.files) u e in
+    word_read kind name g rows pending s (wait s) l o k
+    (λ ws more n v. words_read k kind name ws more n v) x rest (omega (arith, m)) u.0 u.1
+    (look x) e
 
-pub all_read : (kind : Kind) (name : Text) (ws : List Text) (g : Given) → AllText ws → Rest kind name ws g
+pub all_read : (kind : Kind) (name : Text) (ws : List Text) (g : Given) → AllText ws
+    → Rest kind name ws g
 all_read kind name ws g u = words_read (length ws) kind name ws g (omega arith) u

@@ -33,45 +33,66 @@ met name behind = record start { stopped = Some (name, behind) }
 
 -- ---- a command's name
 
-of_name : (P : Kind → Text → Type 0) → P OfFile (codes "check") → P OfFile (codes "show") → P OfRun (codes "run") → P OfFile (codes "bench") → P OfRun (codes "record")
+of_name : (P : Kind → Text → Type 0) → P OfFile (codes "check") → P OfFile (codes "show")
+    → P OfRun (codes "run") → P OfFile (codes "bench") → P OfRun (codes "record")
     → P OfAudit (codes "audit") → (kind : Kind) (name : Text) → IsOf kind name → P kind name
-of_name P check show run bench record' audit OfFile name (CheckIsOf e) = subst (P OfFile) (sym e) check
-of_name P check show run bench record' audit OfFile name (ShowIsOf e) = subst (P OfFile) (sym e) show
+of_name P check show run bench record' audit OfFile name (CheckIsOf e) =
+    subst (P OfFile) (sym e) check
+of_name P check show run bench record' audit OfFile name (ShowIsOf e) =
+    subst (P OfFile) (sym e) show
 of_name P check show run bench record' audit OfRun name (RunIsOf e) = subst (P OfRun) (sym e) run
-of_name P check show run bench record' audit OfFile name (BenchIsOf e) = subst (P OfFile) (sym e) bench
-of_name P check show run bench record' audit OfRun name (RecordIsOf e) = subst (P OfRun) (sym e) record'
-of_name P check show run bench record' audit OfAudit name (AuditIsOf e) = subst (P OfAudit) (sym e) audit
+of_name P check show run bench record' audit OfFile name (BenchIsOf e) =
+    subst (P OfFile) (sym e) bench
+of_name P check show run bench record' audit OfRun name (RecordIsOf e) =
+    subst (P OfRun) (sym e) record'
+of_name P check show run bench record' audit OfAudit name (AuditIsOf e) =
+    subst (P OfAudit) (sym e) audit
 
-name_walked : (kind : Kind) (name : Text) → IsOf kind name → walked [] names start name ≡ met name []
+name_walked : (kind : Kind) (name : Text) → IsOf kind name
+    → walked [] names start name ≡ met name []
 unfolding walked
-name_walked = of_name (λ kind name. walked [] names start name ≡ met name []) refl refl refl refl refl refl
+name_walked =
+    of_name (λ kind name. walked [] names start name ≡ met name []) refl refl refl refl refl refl
 
-name_faultless : (kind : Kind) (name : Text) → IsOf kind name → turn_fault above names start name ≡ []
-name_faultless = of_name (λ kind name. turn_fault above names start name ≡ []) refl refl refl refl refl refl
+name_faultless : (kind : Kind) (name : Text) → IsOf kind name
+    → turn_fault above names start name ≡ []
+name_faultless =
+    of_name (λ kind name. turn_fault above names start name ≡ []) refl refl refl refl refl refl
 
-name_found : (kind : Kind) (name : Text) → IsOf kind name → find (λ s. answers_to name (label_of s)) whole_line.subs ≡ Some (leaf kind name)
-name_found = of_name (λ kind name. find (λ s. answers_to name (label_of s)) whole_line.subs ≡ Some (leaf kind name)) refl refl refl refl refl refl
+name_found : (kind : Kind) (name : Text) → IsOf kind name
+    → find (λ s. answers_to name (label_of s)) whole_line.subs ≡ Some (leaf kind name)
+name_found =
+    of_name (λ kind name. find (λ s. answers_to name (label_of s)) whole_line.subs
+    ≡ Some (leaf kind name)) refl refl refl refl refl refl
 
-met_stays : (name : Text) (behind more : List Text) → fold (walked [] names) (met name behind) more ≡ met name (behind ++ more)
+met_stays : (name : Text) (behind more : List Text)
+    → fold (walked [] names) (met name behind) more ≡ met name (behind ++ more)
 unfolding walked
 met_stays name behind [] = ap (met name) (sym (append_nil behind))
-met_stays name behind (x ∷ more) = met_stays name (behind ++ x ∷ []) more ∙ ap (met name) (append_assoc behind (x ∷ []) more)
+met_stays name behind (x ∷ more) =
+    met_stays name (behind ++ x ∷ []) more ∙ ap (met name) (append_assoc behind (x ∷ []) more)
 
 module _ (kind : Kind) (name : Text) (is : IsOf kind name) (behind : List Text) where
   walk_is : walk [] names nothing_held (name ∷ behind) ≡ met name behind
-  walk_is = ap (λ w. fold (walked [] names) w behind) (name_walked kind name is) ∙ met_stays name [] behind
+  walk_is =
+      ap (λ w. fold (walked [] names) w behind) (name_walked kind name is)
+      ∙ met_stays name [] behind
 
   above_faultless : walk_fault above names start (name ∷ behind) ≡ []
   unfolding walk_fault
   above_faultless =
       ap₂ or_else (name_faultless kind name is)
-      (ap (λ w. walk_fault above names w behind) (name_walked kind name is) ∙ stopped_fault above names start (name, []) behind)
+      (ap (λ w. walk_fault above names w behind) (name_walked kind name is)
+      ∙ stopped_fault above names start (name, []) behind)
 
   pub name_fault : fault_of line (name ∷ behind) ≡ whole kind name (at [] None idle 1 false) behind
   unfolding defaults_fault
-  name_fault = rw (walk_is, above_faultless, name_found kind name is) (or_else_none (whole kind name (at [] None idle 1 false) behind))
+  name_fault =
+      rw (walk_is, above_faultless, name_found kind name is)
+      (or_else_none (whole kind name (at [] None idle 1 false) behind))
 
-  pub name_entered : subcommand_of line (name ∷ behind) ≡ Some (name, finish kind (at [] None idle 1 false) behind)
+  pub name_entered : subcommand_of line (name ∷ behind)
+      ≡ Some (name, finish kind (at [] None idle 1 false) behind)
   name_entered = rw (walk_is, name_found kind name is) refl
 
 -- ---- words of a command
@@ -160,12 +181,14 @@ pub command_taken : (ws : List Text) (c : Command) → IsCommand ws c → fault_
 command_taken ws c i =
     let b = behind_of ws c i in
     ap (fault_of line) b.words_are ∙ name_fault b.kind b.name b.is b.behind
-    ∙ all_taken b.kind b.name b.behind nothing b.given b.gives [] None refl none_found b.as_many b.options
+    ∙ all_taken b.kind b.name b.behind nothing b.given b.gives [] None refl none_found b.as_many
+    b.options
 
 pub no_name : (ws : List Text) → subcommand_of line ws ≡ None → IsNoCommand ws
 no_name ws e c i =
     let b = behind_of ws c i in
-    some_none (b.name, finish b.kind (at [] None idle 1 false) b.behind) (sym (ap (subcommand_of line) b.words_are ∙ name_entered b.kind b.name b.is b.behind) ∙ e)
+    some_none (b.name, finish b.kind (at [] None idle 1 false) b.behind)
+    (sym (ap (subcommand_of line) b.words_are ∙ name_entered b.kind b.name b.is b.behind) ∙ e)
 
 -- ---- words that are taken
 
@@ -175,20 +198,25 @@ data Head (word : Text) : Type 0 where
   IsNone : subcommand_met names idle word ≡ None → Head word
 
 head : (word : Text) → Head word
-head word = go (bytes_eq (codes "check") word) (bytes_eq (codes "show") word) (bytes_eq (codes "run") word) (bytes_eq (codes "bench") word) (bytes_eq (codes "record") word)
+head word =
+    go (bytes_eq (codes "check") word) (bytes_eq (codes "show") word) (bytes_eq (codes "run") word)
+    (bytes_eq (codes "bench") word) (bytes_eq (codes "record") word)
     (bytes_eq (codes "audit") word) refl refl refl refl refl refl
   where
     same : (name : Text) → bytes_eq name word ≡ true → word ≡ name
     same name e = sym ((bytes_eq-Decides name word).0 e)
 
-    go : (a b c d e f : Bool) → bytes_eq (codes "check") word ≡ a → bytes_eq (codes "show") word ≡ b → bytes_eq (codes "run") word ≡ c → bytes_eq (codes "bench") word ≡ d
+    go : (a b c d e f : Bool) → bytes_eq (codes "check") word ≡ a → bytes_eq (codes "show") word ≡ b
+        → bytes_eq (codes "run") word ≡ c → bytes_eq (codes "bench") word ≡ d
         → bytes_eq (codes "record") word ≡ e → bytes_eq (codes "audit") word ≡ f → Head word
     go true b c d e f p q r s t u = IsName OfFile (CheckIsOf (same (codes "check") p))
     go false true c d e f p q r s t u = IsName OfFile (ShowIsOf (same (codes "show") q))
     go false false true d e f p q r s t u = IsName OfRun (RunIsOf (same (codes "run") r))
     go false false false true e f p q r s t u = IsName OfFile (BenchIsOf (same (codes "bench") s))
-    go false false false false true f p q r s t u = IsName OfRun (RecordIsOf (same (codes "record") t))
-    go false false false false false true p q r s t u = IsName OfAudit (AuditIsOf (same (codes "audit") u))
+    go false false false false true f p q r s t u =
+        IsName OfRun (RecordIsOf (same (codes "record") t))
+    go false false false false false true p q r s t u =
+        IsName OfAudit (AuditIsOf (same (codes "audit") u))
     go false false false false false false p q r s t u = IsNone (rw (p, q, r, s, t, u) refl)
 
 abbrev behind_mark : Walk
@@ -203,33 +231,50 @@ mark_meets : (rest : List Text) → subcommand_of line (codes "--" ∷ rest) ≡
 unfolding walked
 mark_meets rest = rw (mark_stays rest) refl
 
-first_turn : (word : Text) (rest : List Text) → fault_of line (word ∷ rest) ≡ [] → turn_fault above names start word ≡ []
+first_turn : (word : Text) (rest : List Text) → fault_of line (word ∷ rest) ≡ []
+    → turn_fault above names start word ≡ []
 unfolding walk_fault
-first_turn word rest e = left_none (turn_fault above names start word) _ (left_none (walk_fault above names start (word ∷ rest)) _ e)
+first_turn word rest e =
+    left_none (turn_fault above names start word) _
+    (left_none (walk_fault above names start (word ∷ rest)) _ e)
 
-unknown : (word : Text) (more : Kinds) → turn_fault above names start word ≡ kind.UnknownArgument ∷ more → turn_fault above names start word ≡ [] → ⊥
+unknown : (word : Text) (more : Kinds)
+    → turn_fault above names start word ≡ kind.UnknownArgument ∷ more
+    → turn_fault above names start word ≡ [] → ⊥
 unknown word more q turn = let z : kind.UnknownArgument ∷ more ≡ [] = sym q ∙ turn in cc
 
-no_flag : (word : Text) (flag : ℕ) (flags : Text) → subcommand_met names idle word ≡ None → bytes_eq word (codes "--") ≡ false → long_of word ≡ None
-    → short_of word ≡ Some (flag ∷ flags) → (slice_get (chars (flag ∷ flags)) 0 ≡ None → ⊥) → turn_fault above names start word ≡ [] → ⊥
+no_flag : (word : Text) (flag : ℕ) (flags : Text) → subcommand_met names idle word ≡ None
+    → bytes_eq word (codes "--") ≡ false → long_of word ≡ None
+    → short_of word ≡ Some (flag ∷ flags) → (slice_get (chars (flag ∷ flags)) 0 ≡ None → ⊥)
+    → turn_fault above names start word ≡ [] → ⊥
 unfolding flags_fault
-no_flag word flag flags none no_mark no_long short there turn = go (slice_get (chars (flag ∷ flags)) 0) refl
+no_flag word flag flags none no_mark no_long short there turn =
+    go (slice_get (chars (flag ∷ flags)) 0) refl
   where
     go : (o : Option ℕ) → slice_get (chars (flag ∷ flags)) 0 ≡ o → ⊥
     go None q = there q
     go (Some x) q =
-        let w : word_fault above names false idle word nothing_held ≡ kind.UnknownArgument ∷ [] = rw (none, no_mark, no_long, short, q) refl in
-        let z : kind.UnknownArgument ∷ [] ≡ [] = sym w ∙ left_none (word_fault above names false idle word nothing_held) _ turn in cc
+        let w : word_fault above names false idle word nothing_held ≡ kind.UnknownArgument ∷ [] =
+        rw (none, no_mark, no_long, short, q) refl in
+        let z : kind.UnknownArgument ∷ [] ≡ [] =
+        sym w ∙ left_none (word_fault above names false idle word nothing_held) _ turn in cc
 
 -- No flag, and no word without one, is taken above the commands.
-none_taken : (word : Text) (rest : List Text) → IsUtf8 word → Look word → subcommand_met names idle word ≡ None → fault_of line (word ∷ rest) ≡ [] → (name : Text) (rows : List Row)
+none_taken : (word : Text) (rest : List Text) → IsUtf8 word → Look word
+    → subcommand_met names idle word ≡ None → fault_of line (word ∷ rest) ≡ []
+    → (name : Text) (rows : List Row)
     → subcommand_of line (word ∷ rest) ≡ Some (name, rows) → ⊥
 none_taken word rest u (Plain file plain) none e name rows entered =
-    unknown word (kind.InvalidSubcommand ∷ []) (rw (none, plain.no_mark, plain.no_long, plain.no_short) refl) (first_turn word rest e)
-none_taken word rest u (Mark q) none e name rows entered = some_none (name, rows) (sym entered ∙ ap (λ w. subcommand_of line (w ∷ rest)) q ∙ mark_meets rest)
+    unknown word (kind.InvalidSubcommand ∷ [])
+    (rw (none, plain.no_mark, plain.no_long, plain.no_short) refl) (first_turn word rest e)
+none_taken word rest u (Mark q) none e name rows entered =
+    some_none (name, rows) (sym entered ∙ ap (λ w. subcommand_of line (w ∷ rest)) q
+    ∙ mark_meets rest)
 none_taken word rest u (Short flag flags q no_mark no_long short) none e name rows entered =
-    no_flag word flag flags none no_mark no_long short (flag_there flag flags (subst IsUtf8 q u)) (first_turn word rest e)
-none_taken word rest u (Long letter letters q no_mark long) none e name rows entered = unknown word [] (rw (none, no_mark, long) refl) (first_turn word rest e)
+    no_flag word flag flags none no_mark no_long short (flag_there flag flags (subst IsUtf8 q u))
+    (first_turn word rest e)
+none_taken word rest u (Long letter letters q no_mark long) none e name rows entered =
+    unknown word [] (rw (none, no_mark, long) refl) (first_turn word rest e)
 
 -- What was taken, by the name of the command that was met.
 pub record Taken (ws : List Text) (name : Text) (rows : List Row) : Type 0 where
@@ -239,18 +284,27 @@ pub record Taken (ws : List Text) (name : Text) (rows : List Row) : Type 0 where
   pub words_are : ws ≡ name ∷ behind
   pub reads : Reads kind behind rows
 
-named_taken : (kind : Kind) (word : Text) (is : IsOf kind word) (rest : List Text) → AllText rest → fault_of line (word ∷ rest) ≡ [] → (name : Text) (rows : List Row)
+named_taken : (kind : Kind) (word : Text) (is : IsOf kind word) (rest : List Text) → AllText rest
+    → fault_of line (word ∷ rest) ≡ [] → (name : Text) (rows : List Row)
     → subcommand_of line (word ∷ rest) ≡ Some (name, rows) → Taken (word ∷ rest) name rows
 named_taken kind word is rest u e name rows entered =
     let now : List Row = finish kind (at [] None idle 1 false) rest in
-    let r = all_read kind word rest nothing u [] None (sym (name_fault kind word is rest) ∙ e) (λ z. none_found) (omega arith) (none_given kind) in
-    let same : (word, now) ≡ (name, rows) = ap (λ o. unwrap_or o (name, rows)) (sym (name_entered kind word is rest) ∙ entered) in
+    let r = all_read kind word rest nothing u [] None (sym (name_fault kind word is rest)
+    ∙ e) (λ z. none_found) (omega arith) (none_given kind) in
+    let same : (word, now) ≡ (name, rows) =
+    ap (λ o. unwrap_or o (name, rows)) (sym (name_entered kind word is rest) ∙ entered) in
     let taken : Taken (word ∷ rest) word now = record {
       kind = kind;
       behind = rest;
       is = is;
       words_are = refl;
-      reads = record { given = r.given; gives = r.gives; found = r.found; files = r.as_many; options = r.options };
+      reads = record {
+        given = r.given;
+        gives = r.gives;
+        found = r.found;
+        files = r.as_many;
+        options = r.options;
+      };
     } in
     subst (λ (p : Text × List Row). Taken (word ∷ rest) p.0 p.1) same taken
   where
@@ -259,7 +313,9 @@ named_taken kind word is rest u e name rows entered =
     none_given OfFile = (refl, refl)
     none_given OfAudit = (refl, refl)
 
-pub all_words : (ws : List Text) → AllText ws → fault_of line ws ≡ [] → (name : Text) (rows : List Row) → subcommand_of line ws ≡ Some (name, rows) → Taken ws name rows
+pub all_words : (ws : List Text) → AllText ws → fault_of line ws ≡ []
+    → (name : Text) (rows : List Row) → subcommand_of line ws ≡ Some (name, rows)
+    → Taken ws name rows
 all_words [] u e name rows entered = absurd (some_none (name, rows) (sym entered))
 all_words (x ∷ rest) u e name rows entered = go (head x)
   where

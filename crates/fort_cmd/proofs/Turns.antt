@@ -46,7 +46,14 @@ abbrev pub held : List Row → Pending → Held
 held rows pending = record { rows = rows; pending = pending; skip = 0 }
 
 abbrev pub at : List Row → Pending → Waiting → ℕ → Bool → Walk
-at rows pending waiting position trailing = record { held = held rows pending; waiting = waiting; position = position; is_trailing = trailing; stopped = None }
+at rows pending waiting position trailing =
+    record {
+      held = held rows pending;
+      waiting = waiting;
+      position = position;
+      is_trailing = trailing;
+      stopped = None;
+    }
 
 -- the rows with what is pending
 abbrev pub after : Kind → List Row → Pending → List Row
@@ -59,20 +66,26 @@ settles kind rows pending = settle_fault (rules kind) false (held rows pending)
 abbrev pub last : Kind → Text → Held → Kinds
 last kind name h =
     or_else (settle_fault (rules kind) false h)
-    (or_else (defaults_fault (settled (rules kind) h).rows (rules kind)) (check_fault (leaf kind name) (finished (rules kind) h) false))
+    (or_else (defaults_fault (settled (rules kind) h).rows (rules kind))
+    (check_fault (leaf kind name) (finished (rules kind) h) false))
 
 -- the faults of the words from here on, and the rows at their end
 abbrev pub whole : Kind → Text → Walk → List Text → Kinds
-whole kind name w words = or_else (walk_fault (leaf kind name) [] w words) (last kind name (fold (walked (rules kind) []) w words).held)
+whole kind name w words =
+    or_else (walk_fault (leaf kind name) [] w words)
+    (last kind name (fold (walked (rules kind) []) w words).held)
 
 abbrev pub finish : Kind → Walk → List Text → List Row
 finish kind w words = finished (rules kind) (fold (walked (rules kind) []) w words).held
 
 pub more : (kind : Kind) (name : Text) (w : Walk) (word : Text) (words : List Text)
-    → whole kind name w (word ∷ words) ≡ or_else (turn_fault (leaf kind name) [] w word) (whole kind name (walked (rules kind) [] w word) words)
+    → whole kind name w (word ∷ words)
+    ≡ or_else (turn_fault (leaf kind name) [] w word)
+    (whole kind name (walked (rules kind) [] w word) words)
 unfolding walk_fault
 more kind name w word words =
-    or_else_assoc (turn_fault (leaf kind name) [] w word) (walk_fault (leaf kind name) [] (walked (rules kind) [] w word) words)
+    or_else_assoc (turn_fault (leaf kind name) [] w word)
+    (walk_fault (leaf kind name) [] (walked (rules kind) [] w word) words)
     (last kind name (fold (walked (rules kind) []) (walked (rules kind) [] w word) words).held)
 
 pub no_more : (kind : Kind) (name : Text) (w : Walk) → whole kind name w [] ≡ last kind name w.held
@@ -81,7 +94,8 @@ no_more kind name w = refl
 
 -- ---- the arguments by their names and places
 
-pub room : (kind : Kind) (n : ℕ) → n < files_wanted kind → arg_by_index (rules kind) (suc n) ≡ Some (word_built (id_at n) (suc n))
+pub room : (kind : Kind) (n : ℕ) → n < files_wanted kind
+    → arg_by_index (rules kind) (suc n) ≡ Some (word_built (id_at n) (suc n))
 room OfFile zero l = refl
 room OfFile (suc n) l = absurd (omega (arith, l))
 room OfRun zero l = refl
@@ -93,9 +107,12 @@ room OfAudit (suc (suc n)) l = absurd (omega (arith, l))
 pub full : (kind : Kind) (n : ℕ) → files_wanted kind ≤ n → arg_by_index (rules kind) (suc n) ≡ None
 full OfFile n l = rw (ne_eqb 1 (suc n) (λ e. omega (arith, l, e))) refl
 full OfRun n l = rw (ne_eqb 1 (suc n) (λ e. omega (arith, l, e))) refl
-full OfAudit n l = rw (ne_eqb 1 (suc n) (λ e. omega (arith, l, e)), ne_eqb 2 (suc n) (λ e. omega (arith, l, e))) refl
+full OfAudit n l =
+    rw (ne_eqb 1 (suc n) (λ e. omega (arith, l, e)), ne_eqb 2 (suc n) (λ e. omega (arith, l, e)))
+    refl
 
-pub word_by_id : (kind : Kind) (n : ℕ) → n < files_wanted kind → arg_by_id (rules kind) (id_at n) ≡ Some (word_built (id_at n) (suc n))
+pub word_by_id : (kind : Kind) (n : ℕ) → n < files_wanted kind
+    → arg_by_id (rules kind) (id_at n) ≡ Some (word_built (id_at n) (suc n))
 word_by_id OfFile zero l = refl
 word_by_id OfFile (suc n) l = absurd (omega (arith, l))
 word_by_id OfRun zero l = refl
@@ -104,11 +121,13 @@ word_by_id OfAudit zero l = refl
 word_by_id OfAudit (suc zero) l = refl
 word_by_id OfAudit (suc (suc n)) l = absurd (omega (arith, l))
 
-pub option_by_id : (choice : Choice) → arg_by_id (rules OfRun) (id_of choice) ≡ Some (option_built choice)
+pub option_by_id : (choice : Choice)
+    → arg_by_id (rules OfRun) (id_of choice) ≡ Some (option_built choice)
 option_by_id Workers = refl
 option_by_id Fuel = refl
 
-pub option_by_long : (choice : Choice) → arg_by_long (rules OfRun) (id_of choice) ≡ Some (option_built choice)
+pub option_by_long : (choice : Choice)
+    → arg_by_long (rules OfRun) (id_of choice) ≡ Some (option_built choice)
 option_by_long Workers = refl
 option_by_long Fuel = refl
 
@@ -119,10 +138,12 @@ none_by_short OfAudit x = refl
 
 -- ---- a use of an argument
 
-repeat_none : (id : Text) (rows : List Row) → row_of_id id rows ≡ None → repeat_fault false id rows ≡ []
+repeat_none : (id : Text) (rows : List Row) → row_of_id id rows ≡ None
+    → repeat_fault false id rows ≡ []
 repeat_none id rows e = rw (none_has id rows e) refl
 
-repeat_means : (id : Text) (rows : List Row) → repeat_fault false id rows ≡ [] → row_of_id id rows ≡ None
+repeat_means : (id : Text) (rows : List Row) → repeat_fault false id rows ≡ []
+    → row_of_id id rows ≡ None
 repeat_means id rows e = go (has_row id rows) refl
   where
     go : (b : Bool) → has_row id rows ≡ b → row_of_id id rows ≡ None
@@ -131,7 +152,8 @@ repeat_means id rows e = go (has_row id rows) refl
         let z : kind.ArgumentConflict ∷ [] ≡ [] = sym bad ∙ e in absurd cc
     go false q = has_none id rows q
 
-pub word_fits : (id : Text) (i : ℕ) (word : Text) (rows : List Row) → row_of_id id rows ≡ None → use_fault false (word_built id i) (word ∷ []) rows ≡ []
+pub word_fits : (id : Text) (i : ℕ) (word : Text) (rows : List Row) → row_of_id id rows ≡ None
+    → use_fault false (word_built id i) (word ∷ []) rows ≡ []
 word_fits id i word rows e = rw (repeat_none id rows e) refl
 
 small : (choice : Choice) → most_of choice < 2 ^ 64
@@ -141,39 +163,58 @@ small Fuel = omega arith
 abbrev parser_of : Choice → ValueParser
 parser_of choice = parser.Unsigned 1 (most_of choice)
 
-accepted : (choice : Choice) (word : Text) (n : ℕ) → IsNumber (most_of choice) word n → accepts false (parser_of choice) word ≡ true
+accepted : (choice : Choice) (word : Text) (n : ℕ) → IsNumber (most_of choice) word n
+    → accepts false (parser_of choice) word ≡ true
 accepted choice word n is =
     let v : n ≡ digits_value 10 (without_leading_plus word) = is.value in
-    Accepts-accepts false (parser_of choice) word
-    (is.digits, omega (arith, small choice, is.within, v), omega (arith, is.some, v), omega (arith, is.within, v))
+    Accepts-accepts false (parser_of choice) word (
+      is.digits,
+      omega (arith, small choice, is.within, v),
+      omega (arith, is.some, v),
+      omega (arith, is.within, v),
+    )
 
-number_of : (choice : Choice) (word : Text) → accepts false (parser_of choice) word ≡ true → IsNumber (most_of choice) word (digits_value 10 (without_leading_plus word))
+number_of : (choice : Choice) (word : Text) → accepts false (parser_of choice) word ≡ true
+    → IsNumber (most_of choice) word (digits_value 10 (without_leading_plus word))
 number_of choice word e =
-    let a = accepts-Accepts false (parser_of choice) word e in record { digits = a.0; value = refl; some = a.2; within = a.3 }
+    let a = accepts-Accepts false (parser_of choice) word e
+    in record { digits = a.0; value = refl; some = a.2; within = a.3 }
 
-pub option_fits : (choice : Choice) (word : Text) (n : ℕ) (rows : List Row) → row_of_id (id_of choice) rows ≡ None → IsNumber (most_of choice) word n
+pub option_fits : (choice : Choice) (word : Text) (n : ℕ) (rows : List Row)
+    → row_of_id (id_of choice) rows ≡ None → IsNumber (most_of choice) word n
     → use_fault false (option_built choice) (word ∷ []) rows ≡ []
-option_fits choice word n rows e is = rw (repeat_none (id_of choice) rows e, accepted choice word n is) refl
+option_fits choice word n rows e is =
+    rw (repeat_none (id_of choice) rows e, accepted choice word n is) refl
 
-values_mean : (choice : Choice) (word : Text) → values_fault (option_built choice) (word ∷ []) ≡ [] → IsNumber (most_of choice) word (digits_value 10 (without_leading_plus word))
+values_mean : (choice : Choice) (word : Text) → values_fault (option_built choice) (word ∷ []) ≡ []
+    → IsNumber (most_of choice) word (digits_value 10 (without_leading_plus word))
 values_mean choice word e = go (accepts false (parser_of choice) word) refl
   where
-    go : (b : Bool) → accepts false (parser_of choice) word ≡ b → IsNumber (most_of choice) word (digits_value 10 (without_leading_plus word))
+    go : (b : Bool) → accepts false (parser_of choice) word ≡ b
+        → IsNumber (most_of choice) word (digits_value 10 (without_leading_plus word))
     go true q = number_of choice word q
     go false q =
-        let bad : values_fault (option_built choice) (word ∷ []) ≡ kind.ValueValidation ∷ [] = rw q refl in
+        let bad : values_fault (option_built choice) (word ∷ []) ≡ kind.ValueValidation ∷ [] =
+        rw q refl in
         let z : kind.ValueValidation ∷ [] ≡ [] = sym bad ∙ e in absurd cc
 
-pub option_means : (choice : Choice) (word : Text) (rows : List Row) → use_fault false (option_built choice) (word ∷ []) rows ≡ []
-    → (row_of_id (id_of choice) rows ≡ None) × IsNumber (most_of choice) word (digits_value 10 (without_leading_plus word))
+pub option_means : (choice : Choice) (word : Text) (rows : List Row)
+    → use_fault false (option_built choice) (word ∷ []) rows ≡ []
+    → (row_of_id (id_of choice) rows ≡ None)
+    × IsNumber (most_of choice) word (digits_value 10 (without_leading_plus word))
 option_means choice word rows e = (
-  repeat_means (id_of choice) rows (left_none (repeat_fault false (id_of choice) rows) (values_fault (option_built choice) (word ∷ [])) e),
-  values_mean choice word (right_none (repeat_fault false (id_of choice) rows) (values_fault (option_built choice) (word ∷ [])) e),
+  repeat_means (id_of choice) rows
+      (left_none (repeat_fault false (id_of choice) rows)
+      (values_fault (option_built choice) (word ∷ [])) e),
+  values_mean choice word
+      (right_none (repeat_fault false (id_of choice) rows)
+      (values_fault (option_built choice) (word ∷ [])) e),
 )
 
 -- ---- what is pending
 
-module _ (kind : Kind) (rows : List Row) (n : ℕ) (l : n < files_wanted kind) (word : Text) (none : row_of_id (id_at n) rows ≡ None) where
+module _ (kind : Kind) (rows : List Row) (n : ℕ) (l : n < files_wanted kind) (word : Text)
+    (none : row_of_id (id_at n) rows ≡ None) where
   pub word_settles : settles kind rows (Some (id_at n, word ∷ [])) ≡ []
   word_settles = rw (word_by_id kind n l) (word_fits (id_at n) (suc n) word rows none)
 
@@ -183,34 +224,47 @@ module _ (kind : Kind) (rows : List Row) (n : ℕ) (l : n < files_wanted kind) (
 module _ (choice : Choice) (rows : List Row) where
   pub option_waits : settles OfRun rows (Some (id_of choice, [])) ≡ [] → ⊥
   option_waits e =
-      let bad : settles OfRun rows (Some (id_of choice, [])) ≡ kind.InvalidValue ∷ [] = rw (option_by_id choice) refl in
+      let bad : settles OfRun rows (Some (id_of choice, [])) ≡ kind.InvalidValue ∷ [] =
+      rw (option_by_id choice) refl in
       let z : kind.InvalidValue ∷ [] ≡ [] = sym bad ∙ e in cc
 
-  pub option_settles : (word : Text) → settles OfRun rows (Some (id_of choice, word ∷ [])) ≡ use_fault false (option_built choice) (word ∷ []) rows
+  pub option_settles : (word : Text)
+      → settles OfRun rows (Some (id_of choice, word ∷ []))
+      ≡ use_fault false (option_built choice) (word ∷ []) rows
   option_settles word = rw (option_by_id choice) refl
 
-  pub option_after : (word : Text) → row_of_id (id_of choice) rows ≡ None → used (option_built choice) (word ∷ []) rows ≡ rows ++ row (id_of choice) word ∷ []
+  pub option_after : (word : Text) → row_of_id (id_of choice) rows ≡ None
+      → used (option_built choice) (word ∷ []) rows ≡ rows ++ row (id_of choice) word ∷ []
   option_after word none = row_added (id_of choice) word rows none
 
-  pub option_after_two : (word : Text) → row_of_id (id_of choice) rows ≡ None → after OfRun rows (Some (id_of choice, word ∷ [])) ≡ rows ++ row (id_of choice) word ∷ []
+  pub option_after_two : (word : Text) → row_of_id (id_of choice) rows ≡ None
+      → after OfRun rows (Some (id_of choice, word ∷ [])) ≡ rows ++ row (id_of choice) word ∷ []
   option_after_two word none = rw (option_by_id choice) (option_after word none)
 
 -- ---- a word that is no flag
 
-plain_met : (k : Kind) (trailing : Bool) (position : ℕ) (word : Text) (h : Held) → (trailing ≡ false → IsPlain word)
+plain_met : (k : Kind) (trailing : Bool) (position : ℕ) (word : Text) (h : Held)
+    → (trailing ≡ false → IsPlain word)
     → word_met (rules k) [] trailing idle position word h ≡ (h, value)
 plain_met k true position word h is = refl
 plain_met k false position word h is = let p = is refl in rw (p.no_mark, p.no_long, p.no_short) refl
 
-word_faultless : (k : Kind) (name : Text) (trailing : Bool) (word : Text) (h : Held) → (trailing ≡ false → IsPlain word)
+word_faultless : (k : Kind) (name : Text) (trailing : Bool) (word : Text) (h : Held)
+    → (trailing ≡ false → IsPlain word)
     → word_fault (leaf k name) [] trailing idle word h ≡ []
 word_faultless k name true word h is = refl
-word_faultless k name false word h is = let p = is refl in rw (p.no_mark, p.no_long, p.no_short) refl
+word_faultless k name false word h is =
+    let p = is refl in rw (p.no_mark, p.no_long, p.no_short) refl
 
-pub plain_turn : (k : Kind) (name : Text) (rows : List Row) (pending : Pending) (position : ℕ) (trailing : Bool) (word : Text) → (trailing ≡ false → IsPlain word)
-    → turn_fault (leaf k name) [] (at rows pending idle position trailing) word ≡ step_fault (leaf k name) position (held rows pending) value
+pub plain_turn : (k : Kind) (name : Text) (rows : List Row) (pending : Pending) (position : ℕ)
+    (trailing : Bool) (word : Text) → (trailing ≡ false → IsPlain word)
+    → turn_fault (leaf k name) [] (at rows pending idle position trailing) word
+    ≡ step_fault (leaf k name) position (held rows pending) value
 plain_turn k name rows pending position trailing word is =
-    rw (plain_met k trailing position word (held rows pending) is, word_faultless k name trailing word (held rows pending) is) refl
+    rw (
+      plain_met k trailing position word (held rows pending) is,
+      word_faultless k name trailing word (held rows pending) is,
+    ) refl
 
 -- ---- a word that goes to an argument without a name
 
@@ -222,17 +276,22 @@ or_false : (b : Bool) → (b || false) ≡ b
 or_false true = refl
 or_false false = refl
 
-word_fault_is : (k : Kind) (n : ℕ) (h : Held) → positional_fault (rules k) false (word_built (id_at n) (suc n)) h ≡ settle_fault (rules k) false h
+word_fault_is : (k : Kind) (n : ℕ) (h : Held)
+    → positional_fault (rules k) false (word_built (id_at n) (suc n)) h
+    ≡ settle_fault (rules k) false h
 word_fault_is k n h = rw (and_false (is_pending (word_built (id_at n) (suc n)) h.pending)) refl
 
-pub roomy_step : (k : Kind) (name : Text) (n : ℕ) → n < files_wanted k → (rows : List Row) (pending : Pending)
+pub roomy_step : (k : Kind) (name : Text) (n : ℕ) → n < files_wanted k
+    → (rows : List Row) (pending : Pending)
     → step_fault (leaf k name) (suc n) (held rows pending) value ≡ settles k rows pending
 roomy_step k name n l rows pending = rw (room k n l) (word_fault_is k n (held rows pending))
 
-pub full_step : (k : Kind) (name : Text) (n : ℕ) → files_wanted k ≤ n → (rows : List Row) (pending : Pending)
+pub full_step : (k : Kind) (name : Text) (n : ℕ) → files_wanted k ≤ n
+    → (rows : List Row) (pending : Pending)
     → step_fault (leaf k name) (suc n) (held rows pending) value ≡ [] → ⊥
 full_step k name n l rows pending e =
-    let bad : step_fault (leaf k name) (suc n) (held rows pending) value ≡ kind.UnknownArgument ∷ [] = rw (full k n l) refl in
+    let bad : step_fault (leaf k name) (suc n) (held rows pending) value
+    ≡ kind.UnknownArgument ∷ [] = rw (full k n l) refl in
     let z : kind.UnknownArgument ∷ [] ≡ [] = sym bad ∙ e in cc
 
 next_place : (n : ℕ) → n < 2 → min (suc n + 1) 18446744073709551615 ≡ suc (suc n)
@@ -246,19 +305,28 @@ few OfRun n l = omega (arith, l)
 few OfAudit n l = l
 
 held_is : (k : Kind) (n : ℕ) (rows : List Row) (pending : Pending) (word : Text)
-    → positional_held (rules k) (word_built (id_at n) (suc n)) word (held rows pending) ≡ held (after k rows pending) (Some (id_at n, word ∷ []))
-held_is k n rows pending word = rw (and_false (is_pending (word_built (id_at n) (suc n)) pending)) refl
+    → positional_held (rules k) (word_built (id_at n) (suc n)) word (held rows pending)
+    ≡ held (after k rows pending) (Some (id_at n, word ∷ []))
+held_is k n rows pending word =
+    rw (and_false (is_pending (word_built (id_at n) (suc n)) pending)) refl
 
-pub given_walked : (k : Kind) (n : ℕ) → n < files_wanted k → (rows : List Row) (pending : Pending) (waiting : Waiting) (trailing : Bool) (word : Text)
-    → to_positional (rules k) (arg_by_index (rules k) (suc n)) word (at rows pending waiting (suc n) trailing) (held rows pending)
+pub given_walked : (k : Kind) (n : ℕ) → n < files_wanted k
+    → (rows : List Row) (pending : Pending) (waiting : Waiting) (trailing : Bool) (word : Text)
+    → to_positional (rules k) (arg_by_index (rules k) (suc n)) word
+    (at rows pending waiting (suc n) trailing) (held rows pending)
     ≡ at (after k rows pending) (Some (id_at n, word ∷ [])) idle (suc (suc n)) trailing
 given_walked k n l rows pending waiting trailing word =
     rw (room k n l, held_is k n rows pending word, next_place n (few k n l), or_false trailing) refl
 
-pub plain_walked : (k : Kind) (n : ℕ) → n < files_wanted k → (rows : List Row) (pending : Pending) (trailing : Bool) (word : Text) → (trailing ≡ false → IsPlain word)
-    → walked (rules k) [] (at rows pending idle (suc n) trailing) word ≡ at (after k rows pending) (Some (id_at n, word ∷ [])) idle (suc (suc n)) trailing
+pub plain_walked : (k : Kind) (n : ℕ) → n < files_wanted k
+    → (rows : List Row) (pending : Pending) (trailing : Bool) (word : Text)
+    → (trailing ≡ false → IsPlain word)
+    → walked (rules k) [] (at rows pending idle (suc n) trailing) word
+    ≡ at (after k rows pending) (Some (id_at n, word ∷ [])) idle (suc (suc n)) trailing
 unfolding walked
-plain_walked k n l rows pending trailing word is = rw (plain_met k trailing (suc n) word (held rows pending) is) (given_walked k n l rows pending idle trailing word)
+plain_walked k n l rows pending trailing word is =
+    rw (plain_met k trailing (suc n) word (held rows pending) is)
+    (given_walked k n l rows pending idle trailing word)
 
 -- ---- behind the mark
 
@@ -267,47 +335,59 @@ pub mark_turn : (k : Kind) (name : Text) (rows : List Row) (pending : Pending) (
 mark_turn k name rows pending position = refl
 
 pub mark_walked : (k : Kind) (rows : List Row) (pending : Pending) (position : ℕ)
-    → walked (rules k) [] (at rows pending idle position false) (codes "--") ≡ at rows pending idle position true
+    → walked (rules k) [] (at rows pending idle position false) (codes "--")
+    ≡ at rows pending idle position true
 unfolding walked
 mark_walked k rows pending position = refl
 
 pub mark_walked_option : (k : Kind) (rows : List Row) (pending : Pending) (id : Text) (position : ℕ)
-    → walked (rules k) [] (at rows pending (option id) position false) (codes "--") ≡ at rows pending (option id) position true
+    → walked (rules k) [] (at rows pending (option id) position false) (codes "--")
+    ≡ at rows pending (option id) position true
 unfolding walked
 mark_walked_option k rows pending id position = refl
 
-pub trailing_turn : (k : Kind) (name : Text) (rows : List Row) (pending : Pending) (waiting : Waiting) (position : ℕ) (word : Text)
-    → turn_fault (leaf k name) [] (at rows pending waiting position true) word ≡ step_fault (leaf k name) position (held rows pending) value
+pub trailing_turn : (k : Kind) (name : Text) (rows : List Row) (pending : Pending)
+    (waiting : Waiting) (position : ℕ) (word : Text)
+    → turn_fault (leaf k name) [] (at rows pending waiting position true) word
+    ≡ step_fault (leaf k name) position (held rows pending) value
 trailing_turn k name rows pending waiting position word = refl
 
-pub trailing_walked : (k : Kind) (n : ℕ) → n < files_wanted k → (rows : List Row) (pending : Pending) (waiting : Waiting) (word : Text)
-    → walked (rules k) [] (at rows pending waiting (suc n) true) word ≡ at (after k rows pending) (Some (id_at n, word ∷ [])) idle (suc (suc n)) true
+pub trailing_walked : (k : Kind) (n : ℕ) → n < files_wanted k
+    → (rows : List Row) (pending : Pending) (waiting : Waiting) (word : Text)
+    → walked (rules k) [] (at rows pending waiting (suc n) true) word
+    ≡ at (after k rows pending) (Some (id_at n, word ∷ [])) idle (suc (suc n)) true
 unfolding walked
 trailing_walked k n l rows pending waiting word = given_walked k n l rows pending waiting true word
 
 -- ---- a short flag
 
-pub short_turn : (k : Kind) (name : Text) (rows : List Row) (pending : Pending) (waiting : Waiting) (position : ℕ) (word : Text) (flag : ℕ) (flags : Text)
-    → subcommand_met [] waiting word ≡ None → bytes_eq word (codes "--") ≡ false → long_of word ≡ None → short_of word ≡ Some (flag ∷ flags)
+pub short_turn : (k : Kind) (name : Text) (rows : List Row) (pending : Pending) (waiting : Waiting)
+    (position : ℕ) (word : Text) (flag : ℕ) (flags : Text)
+    → subcommand_met [] waiting word ≡ None → bytes_eq word (codes "--") ≡ false
+    → long_of word ≡ None → short_of word ≡ Some (flag ∷ flags)
     → (slice_get (chars (flag ∷ flags)) 0 ≡ None → ⊥)
     → turn_fault (leaf k name) [] (at rows pending waiting position false) word ≡ [] → ⊥
 unfolding flags_fault
-short_turn k name rows pending waiting position word flag flags none no_mark no_long short there e = go (slice_get (chars (flag ∷ flags)) 0) refl
+short_turn k name rows pending waiting position word flag flags none no_mark no_long short there e =
+    go (slice_get (chars (flag ∷ flags)) 0) refl
   where
     go : (o : Option ℕ) → slice_get (chars (flag ∷ flags)) 0 ≡ o → ⊥
     go None q = there q
     go (Some x) q =
-        let bad : word_fault (leaf k name) [] false waiting word (held rows pending) ≡ kind.UnknownArgument ∷ [] =
+        let bad : word_fault (leaf k name) [] false waiting word (held rows pending)
+        ≡ kind.UnknownArgument ∷ [] =
         rw (none, no_mark, no_long, short, q, none_by_short k x) refl in
         let z : kind.UnknownArgument ∷ [] ≡ [] =
-        sym bad ∙ left_none (word_fault (leaf k name) [] false waiting word (held rows pending)) _ e in cc
+        sym bad ∙ left_none (word_fault (leaf k name) [] false waiting word (held rows pending)) _ e
+        in cc
 
 -- ---- a long flag
 
 -- The argument of a long name.
 pub data Named (k : Kind) (name : Text) : Type 0 where
   Unnamed : arg_by_long (rules k) name ≡ None → Named k name
-  Optional : (choice : Choice) → k ≡ OfRun → name ≡ id_of choice → arg_by_long (rules k) name ≡ Some (option_built choice) → Named k name
+  Optional : (choice : Choice) → k ≡ OfRun → name ≡ id_of choice
+      → arg_by_long (rules k) name ≡ Some (option_built choice) → Named k name
 
 pub named : (k : Kind) (name : Text) → Named k name
 named OfFile name = Unnamed refl
@@ -317,7 +397,8 @@ named OfRun name = go (bytes_eq (id_of Workers) name) (bytes_eq (id_of Fuel) nam
     is : (choice : Choice) → bytes_eq (id_of choice) name ≡ true → name ≡ id_of choice
     is choice e = sym ((bytes_eq-Decides (id_of choice) name).0 e)
 
-    go : (a b : Bool) → bytes_eq (id_of Workers) name ≡ a → bytes_eq (id_of Fuel) name ≡ b → Named OfRun name
+    go : (a b : Bool) → bytes_eq (id_of Workers) name ≡ a → bytes_eq (id_of Fuel) name ≡ b
+        → Named OfRun name
     go true b e q = Optional Workers refl (is Workers e) (rw e refl)
     go false true e q = Optional Fuel refl (is Fuel q) (rw (e, q) refl)
     go false false e q = Unnamed (rw (e, q) refl)
@@ -326,44 +407,64 @@ pub or_else_none : (a : Kinds) → or_else a [] ≡ a
 or_else_none [] = refl
 or_else_none (k ∷ ks) = refl
 
-module _ (k : Kind) (name : Text) (rows : List Row) (pending : Pending) (waiting : Waiting) (position : ℕ) (word : Text)
-    (none : subcommand_met [] waiting word ≡ None) (no_mark : bytes_eq word (codes "--") ≡ false) (flag : Text) where
-  pub unnamed_turn : (v : Option Text) → long_of word ≡ Some (flag, v) → arg_by_long (rules k) flag ≡ None
+module _ (k : Kind) (name : Text) (rows : List Row) (pending : Pending) (waiting : Waiting)
+    (position : ℕ) (word : Text)
+    (none : subcommand_met [] waiting word ≡ None) (no_mark : bytes_eq word (codes "--") ≡ false)
+    (flag : Text) where
+  pub unnamed_turn : (v : Option Text) → long_of word ≡ Some (flag, v)
+      → arg_by_long (rules k) flag ≡ None
       → turn_fault (leaf k name) [] (at rows pending waiting position false) word ≡ [] → ⊥
   unnamed_turn v long by e =
-      let bad : word_fault (leaf k name) [] false waiting word (held rows pending) ≡ kind.UnknownArgument ∷ [] = rw (none, no_mark, long, by) refl in
+      let bad : word_fault (leaf k name) [] false waiting word (held rows pending)
+      ≡ kind.UnknownArgument ∷ [] = rw (none, no_mark, long, by) refl in
       let z : kind.UnknownArgument ∷ [] ≡ [] =
-      sym bad ∙ left_none (word_fault (leaf k name) [] false waiting word (held rows pending)) _ e in cc
+      sym bad ∙ left_none (word_fault (leaf k name) [] false waiting word (held rows pending)) _ e
+      in cc
 
-  pub two_turn : (choice : Choice) → long_of word ≡ Some (flag, None) → arg_by_long (rules k) flag ≡ Some (option_built choice)
-      → turn_fault (leaf k name) [] (at rows pending waiting position false) word ≡ settles k rows pending
+  pub two_turn : (choice : Choice) → long_of word ≡ Some (flag, None)
+      → arg_by_long (rules k) flag ≡ Some (option_built choice)
+      → turn_fault (leaf k name) [] (at rows pending waiting position false) word
+      ≡ settles k rows pending
   two_turn choice long by = rw (none, no_mark, long, by) (or_else_none (settles k rows pending))
 
-  pub one_turn : (choice : Choice) (v : Text) → long_of word ≡ Some (flag, Some v) → arg_by_long (rules k) flag ≡ Some (option_built choice)
+  pub one_turn : (choice : Choice) (v : Text) → long_of word ≡ Some (flag, Some v)
+      → arg_by_long (rules k) flag ≡ Some (option_built choice)
       → turn_fault (leaf k name) [] (at rows pending waiting position false) word
-      ≡ or_else (settles k rows pending) (use_fault false (option_built choice) (v ∷ []) (after k rows pending))
-  one_turn choice v long by = rw (none, no_mark, long, by) (or_else_none (or_else (settles k rows pending) (use_fault false (option_built choice) (v ∷ []) (after k rows pending))))
+      ≡ or_else (settles k rows pending)
+      (use_fault false (option_built choice) (v ∷ []) (after k rows pending))
+  one_turn choice v long by =
+      rw (none, no_mark, long, by)
+      (or_else_none
+      (or_else (settles k rows pending)
+      (use_fault false (option_built choice) (v ∷ []) (after k rows pending))))
 
-module _ (k : Kind) (rows : List Row) (pending : Pending) (position : ℕ) (word : Text) (no_mark : bytes_eq word (codes "--") ≡ false) (flag : Text) (choice : Choice)
+module _ (k : Kind) (rows : List Row) (pending : Pending) (position : ℕ) (word : Text)
+    (no_mark : bytes_eq word (codes "--") ≡ false) (flag : Text) (choice : Choice)
     (by : arg_by_long (rules k) flag ≡ Some (option_built choice)) where
   pub two_walked : long_of word ≡ Some (flag, None)
-      → walked (rules k) [] (at rows pending idle position false) word ≡ at (after k rows pending) (Some (id_of choice, [])) (option (id_of choice)) position false
+      → walked (rules k) [] (at rows pending idle position false) word
+      ≡ at (after k rows pending) (Some (id_of choice, [])) (option (id_of choice)) position false
   unfolding walked
   two_walked long = rw (no_mark, long, by) refl
 
   pub one_walked : (v : Text) → long_of word ≡ Some (flag, Some v)
-      → walked (rules k) [] (at rows pending idle position false) word ≡ at (used (option_built choice) (v ∷ []) (after k rows pending)) None idle position false
+      → walked (rules k) [] (at rows pending idle position false) word
+      ≡ at (used (option_built choice) (v ∷ []) (after k rows pending)) None idle position false
   unfolding walked
   one_walked v long = rw (no_mark, long, by) refl
 
 -- ---- the number of an option, as a word of its own
 
-pub number_turn : (choice : Choice) (name : Text) (rows : List Row) (position : ℕ) (word : Text) → IsPlain word
-    → turn_fault (leaf OfRun name) [] (at rows (Some (id_of choice, [])) (option (id_of choice)) position false) word ≡ []
+pub number_turn : (choice : Choice) (name : Text) (rows : List Row) (position : ℕ) (word : Text)
+    → IsPlain word
+    → turn_fault (leaf OfRun name) []
+    (at rows (Some (id_of choice, [])) (option (id_of choice)) position false) word ≡ []
 number_turn choice name rows position word p = rw (p.no_mark, p.no_long, p.no_short) refl
 
 pub number_walked : (choice : Choice) (rows : List Row) (position : ℕ) (word : Text) → IsPlain word
-    → walked (rules OfRun) [] (at rows (Some (id_of choice, [])) (option (id_of choice)) position false) word ≡ at rows (Some (id_of choice, word ∷ [])) idle position false
+    → walked (rules OfRun) []
+    (at rows (Some (id_of choice, [])) (option (id_of choice)) position false) word
+    ≡ at rows (Some (id_of choice, word ∷ [])) idle position false
 unfolding walked
 number_walked Workers rows position word p = rw (p.no_mark, p.no_long, p.no_short) refl
 number_walked Fuel rows position word p = rw (p.no_mark, p.no_long, p.no_short) refl
@@ -387,34 +488,52 @@ default_faultless a rows e = go (has_row a.id rows) refl
 no_defaults : (k : Kind) (rows : List Row) → fold with_default rows (rules k) ≡ rows
 no_defaults OfFile rows = default_kept (word_built (codes "file") 1) rows refl
 no_defaults OfRun rows =
-    default_kept (word_built (codes "file") 1) (with_default (with_default rows (option_built Workers)) (option_built Fuel)) refl
-    ∙ default_kept (option_built Fuel) (with_default rows (option_built Workers)) refl ∙ default_kept (option_built Workers) rows refl
+    default_kept (word_built (codes "file") 1)
+    (with_default (with_default rows (option_built Workers)) (option_built Fuel)) refl
+    ∙ default_kept (option_built Fuel) (with_default rows (option_built Workers)) refl
+    ∙ default_kept (option_built Workers) rows refl
 no_defaults OfAudit rows =
-    default_kept (word_built (codes "record") 2) (with_default rows (word_built (codes "file") 1)) refl ∙ default_kept (word_built (codes "file") 1) rows refl
+    default_kept (word_built (codes "record") 2) (with_default rows (word_built (codes "file") 1))
+    refl ∙ default_kept (word_built (codes "file") 1) rows refl
 
 defaults_faultless : (k : Kind) (rows : List Row) → defaults_fault rows (rules k) ≡ []
 unfolding defaults_fault
-defaults_faultless OfFile rows = both_none _ _ (default_faultless (word_built (codes "file") 1) rows refl) refl
+defaults_faultless OfFile rows =
+    both_none _ _ (default_faultless (word_built (codes "file") 1) rows refl) refl
 defaults_faultless OfRun rows =
-    both_none (default_fault rows (option_built Workers)) _ (default_faultless (option_built Workers) rows refl)
+    both_none (default_fault rows (option_built Workers)) _
+    (default_faultless (option_built Workers) rows refl)
     (both_none (default_fault (with_default rows (option_built Workers)) (option_built Fuel)) _
     (default_faultless (option_built Fuel) (with_default rows (option_built Workers)) refl)
-    (both_none (default_fault (with_default (with_default rows (option_built Workers)) (option_built Fuel)) (word_built (codes "file") 1)) _
-    (default_faultless (word_built (codes "file") 1) (with_default (with_default rows (option_built Workers)) (option_built Fuel)) refl) refl))
+    (both_none
+    (default_fault
+    (with_default (with_default rows (option_built Workers)) (option_built Fuel))
+    (word_built (codes "file") 1)) _
+    (default_faultless (word_built (codes "file") 1)
+    (with_default (with_default rows (option_built Workers)) (option_built Fuel)) refl)
+    refl))
 defaults_faultless OfAudit rows =
-    both_none (default_fault rows (word_built (codes "file") 1)) _ (default_faultless (word_built (codes "file") 1) rows refl)
-    (both_none (default_fault (with_default rows (word_built (codes "file") 1)) (word_built (codes "record") 2)) _
-    (default_faultless (word_built (codes "record") 2) (with_default rows (word_built (codes "file") 1)) refl) refl)
+    both_none (default_fault rows (word_built (codes "file") 1)) _
+    (default_faultless (word_built (codes "file") 1) rows refl)
+    (both_none
+    (default_fault (with_default rows (word_built (codes "file") 1))
+    (word_built (codes "record") 2)) _
+    (default_faultless (word_built (codes "record") 2)
+    (with_default rows (word_built (codes "file") 1)) refl) refl)
 
-pub finished_is : (k : Kind) (rows : List Row) (pending : Pending) → finished (rules k) (held rows pending) ≡ after k rows pending
+pub finished_is : (k : Kind) (rows : List Row) (pending : Pending)
+    → finished (rules k) (held rows pending) ≡ after k rows pending
 finished_is k rows pending = no_defaults k (after k rows pending)
 
 pub last_is : (k : Kind) (name : Text) (rows : List Row) (pending : Pending)
-    → last k name (held rows pending) ≡ or_else (settles k rows pending) (check_fault (leaf k name) (after k rows pending) false)
-last_is k name rows pending = rw (defaults_faultless k (after k rows pending), no_defaults k (after k rows pending)) refl
+    → last k name (held rows pending)
+    ≡ or_else (settles k rows pending) (check_fault (leaf k name) (after k rows pending) false)
+last_is k name rows pending =
+    rw (defaults_faultless k (after k rows pending), no_defaults k (after k rows pending)) refl
 
 module _ (name : Text) (rows : List Row) (workers fuel : Option ℕ) where
-  pub nothing_wanting : (k : Kind) (files : List Text) → Found rows (all files workers fuel) → length files ≡ files_wanted k → check_fault (leaf k name) rows false ≡ []
+  pub nothing_wanting : (k : Kind) (files : List Text) → Found rows (all files workers fuel)
+      → length files ≡ files_wanted k → check_fault (leaf k name) rows false ≡ []
   nothing_wanting OfFile [] f l = absurd (omega (arith, l))
   nothing_wanting OfFile (x ∷ files) f l = rw (f.file) refl
   nothing_wanting OfRun [] f l = absurd (omega (arith, l))
@@ -423,10 +542,12 @@ module _ (name : Text) (rows : List Row) (workers fuel : Option ℕ) where
   nothing_wanting OfAudit (x ∷ []) f l = absurd (omega (arith, l))
   nothing_wanting OfAudit (x ∷ y ∷ files) f l = rw (f.file, f.kept) refl
 
-  wanting : (k : Kind) → check_fault (leaf k name) rows false ≡ [] → check_fault (leaf k name) rows false ≡ kind.MissingRequiredArgument ∷ [] → ⊥
+  wanting : (k : Kind) → check_fault (leaf k name) rows false ≡ []
+      → check_fault (leaf k name) rows false ≡ kind.MissingRequiredArgument ∷ [] → ⊥
   wanting k e bad = let z : kind.MissingRequiredArgument ∷ [] ≡ [] = sym bad ∙ e in cc
 
-  pub all_there : (k : Kind) (files : List Text) → Found rows (all files workers fuel) → length files ≤ files_wanted k → check_fault (leaf k name) rows false ≡ []
+  pub all_there : (k : Kind) (files : List Text) → Found rows (all files workers fuel)
+      → length files ≤ files_wanted k → check_fault (leaf k name) rows false ≡ []
       → length files ≡ files_wanted k
   all_there OfFile [] f l e = absurd (wanting OfFile e (rw (f.file) refl))
   all_there OfFile (x ∷ files) f l e = omega (arith, l)

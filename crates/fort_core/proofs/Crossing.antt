@@ -1,4 +1,5 @@
--- Terms, values and closures may go to other threads, and be read in several at once, since each kind of part that they have may.
+-- Terms, values and closures may go to other threads, and be read in several at once, since each
+-- kind of part that they have may.
 use mathlib.Core.List.{◌∷◌, []}
 use denote.Builtin.{u8, u32}
 use denote.RattleType.{RattleType}
@@ -151,14 +152,18 @@ shared_text_sync = search (sendable, shared.the_sync, text_send, text_sync) dept
 part_send : (h : RattleType) → IsSend h → IsSync h → IsSend (list_of (shared_of h))
 part_send h s y = list.the_send _ (shared.the_send h s y)
 
-clause_send : (h : RattleType) → IsSend h → IsSync h → IsSend (list_of (Tuple (shared_of h ∷ shared_of ty ∷ [])))
-clause_send h s y = list.the_send _ (pair_send _ _ (shared.the_send h s y) (shared.the_send ty ty_send ty_sync))
+clause_send : (h : RattleType) → IsSend h → IsSync h
+    → IsSend (list_of (Tuple (shared_of h ∷ shared_of ty ∷ [])))
+clause_send h s y =
+    list.the_send _ (pair_send _ _ (shared.the_send h s y) (shared.the_send ty ty_send ty_sync))
 
 part_sync : (h : RattleType) → IsSend h → IsSync h → IsSync (list_of (shared_of h))
 part_sync h s y = list.the_sync _ (shared.the_sync h s y)
 
-clause_sync : (h : RattleType) → IsSend h → IsSync h → IsSync (list_of (Tuple (shared_of h ∷ shared_of ty ∷ [])))
-clause_sync h s y = list.the_sync _ (pair_sync _ _ (shared.the_sync h s y) (shared.the_sync ty ty_send ty_sync))
+clause_sync : (h : RattleType) → IsSend h → IsSync h
+    → IsSync (list_of (Tuple (shared_of h ∷ shared_of ty ∷ [])))
+clause_sync h s y =
+    list.the_sync _ (pair_sync _ _ (shared.the_sync h s y) (shared.the_sync ty ty_send ty_sync))
 
 -- ---- terms, values and closures: each kind of part, in the order in which they come
 
@@ -176,18 +181,22 @@ term_send =
     clause_send clause_sync
     order_send order_sync
     span_send span_sync
-    (λ h s y. option_send _ (shared.the_send h s y)) (λ h s y. option_sync _ (shared.the_sync h s y))
+    (λ h s y. option_send _ (shared.the_send h s y))
+    (λ h s y. option_sync _ (shared.the_sync h s y))
     mode_send mode_sync
-    (λ h s y. list.the_send _ (pair_send _ h loc.the_send s)) (λ h s y. list.the_sync _ (pair_sync _ h loc.the_sync y))
+    (λ h s y. list.the_send _ (pair_send _ h loc.the_send s))
+    (λ h s y. list.the_sync _ (pair_sync _ h loc.the_sync y))
     (search sendable) (search sendable)
     (search sendable) (search sendable)
     (search sendable) (search sendable)
     shared_text_send shared_text_sync
-    (λ h s y. shared.the_send _ (list.the_send h s) (list.the_sync h y)) (λ h s y. shared.the_sync _ (list.the_send h s) (list.the_sync h y))
+    (λ h s y. shared.the_send _ (list.the_send h s) (list.the_sync h y))
+    (λ h s y. shared.the_sync _ (list.the_send h s) (list.the_sync h y))
     (search sendable) (search sendable)
     type_send type_sync
     loc_send loc_sync
-    (λ h s y. list.the_send _ (pair_send u32 h u32_send s)) (λ h s y. list.the_sync _ (pair_sync u32 h u32_sync y))
+    (λ h s y. list.the_send _ (pair_send u32 h u32_send s))
+    (λ h s y. list.the_sync _ (pair_sync u32 h u32_sync y))
 
 pub term_sync : IsSync term.the_field.row
 term_sync =
@@ -203,18 +212,22 @@ term_sync =
     clause_send clause_sync
     order_send order_sync
     span_send span_sync
-    (λ h s y. option_send _ (shared.the_send h s y)) (λ h s y. option_sync _ (shared.the_sync h s y))
+    (λ h s y. option_send _ (shared.the_send h s y))
+    (λ h s y. option_sync _ (shared.the_sync h s y))
     mode_send mode_sync
-    (λ h s y. list.the_send _ (pair_send _ h loc.the_send s)) (λ h s y. list.the_sync _ (pair_sync _ h loc.the_sync y))
+    (λ h s y. list.the_send _ (pair_send _ h loc.the_send s))
+    (λ h s y. list.the_sync _ (pair_sync _ h loc.the_sync y))
     (search sendable) (search sendable)
     (search sendable) (search sendable)
     (search sendable) (search sendable)
     shared_text_send shared_text_sync
-    (λ h s y. shared.the_send _ (list.the_send h s) (list.the_sync h y)) (λ h s y. shared.the_sync _ (list.the_send h s) (list.the_sync h y))
+    (λ h s y. shared.the_send _ (list.the_send h s) (list.the_sync h y))
+    (λ h s y. shared.the_sync _ (list.the_send h s) (list.the_sync h y))
     (search sendable) (search sendable)
     type_send type_sync
     loc_send loc_sync
-    (λ h s y. list.the_send _ (pair_send u32 h u32_send s)) (λ h s y. list.the_sync _ (pair_sync u32 h u32_sync y))
+    (λ h s y. list.the_send _ (pair_send u32 h u32_send s))
+    (λ h s y. list.the_sync _ (pair_sync u32 h u32_sync y))
 
 pub value_send : IsSend value.the_field.row
 value_send =
@@ -230,18 +243,22 @@ value_send =
     clause_send clause_sync
     order_send order_sync
     span_send span_sync
-    (λ h s y. option_send _ (shared.the_send h s y)) (λ h s y. option_sync _ (shared.the_sync h s y))
+    (λ h s y. option_send _ (shared.the_send h s y))
+    (λ h s y. option_sync _ (shared.the_sync h s y))
     mode_send mode_sync
-    (λ h s y. list.the_send _ (pair_send _ h loc.the_send s)) (λ h s y. list.the_sync _ (pair_sync _ h loc.the_sync y))
+    (λ h s y. list.the_send _ (pair_send _ h loc.the_send s))
+    (λ h s y. list.the_sync _ (pair_sync _ h loc.the_sync y))
     (search sendable) (search sendable)
     (search sendable) (search sendable)
     (search sendable) (search sendable)
     shared_text_send shared_text_sync
-    (λ h s y. shared.the_send _ (list.the_send h s) (list.the_sync h y)) (λ h s y. shared.the_sync _ (list.the_send h s) (list.the_sync h y))
+    (λ h s y. shared.the_send _ (list.the_send h s) (list.the_sync h y))
+    (λ h s y. shared.the_sync _ (list.the_send h s) (list.the_sync h y))
     (search sendable) (search sendable)
     type_send type_sync
     loc_send loc_sync
-    (λ h s y. list.the_send _ (pair_send u32 h u32_send s)) (λ h s y. list.the_sync _ (pair_sync u32 h u32_sync y))
+    (λ h s y. list.the_send _ (pair_send u32 h u32_send s))
+    (λ h s y. list.the_sync _ (pair_sync u32 h u32_sync y))
 
 pub value_sync : IsSync value.the_field.row
 value_sync =
@@ -257,18 +274,22 @@ value_sync =
     clause_send clause_sync
     order_send order_sync
     span_send span_sync
-    (λ h s y. option_send _ (shared.the_send h s y)) (λ h s y. option_sync _ (shared.the_sync h s y))
+    (λ h s y. option_send _ (shared.the_send h s y))
+    (λ h s y. option_sync _ (shared.the_sync h s y))
     mode_send mode_sync
-    (λ h s y. list.the_send _ (pair_send _ h loc.the_send s)) (λ h s y. list.the_sync _ (pair_sync _ h loc.the_sync y))
+    (λ h s y. list.the_send _ (pair_send _ h loc.the_send s))
+    (λ h s y. list.the_sync _ (pair_sync _ h loc.the_sync y))
     (search sendable) (search sendable)
     (search sendable) (search sendable)
     (search sendable) (search sendable)
     shared_text_send shared_text_sync
-    (λ h s y. shared.the_send _ (list.the_send h s) (list.the_sync h y)) (λ h s y. shared.the_sync _ (list.the_send h s) (list.the_sync h y))
+    (λ h s y. shared.the_send _ (list.the_send h s) (list.the_sync h y))
+    (λ h s y. shared.the_sync _ (list.the_send h s) (list.the_sync h y))
     (search sendable) (search sendable)
     type_send type_sync
     loc_send loc_sync
-    (λ h s y. list.the_send _ (pair_send u32 h u32_send s)) (λ h s y. list.the_sync _ (pair_sync u32 h u32_sync y))
+    (λ h s y. list.the_send _ (pair_send u32 h u32_send s))
+    (λ h s y. list.the_sync _ (pair_sync u32 h u32_sync y))
 
 pub closure_send : IsSend closure.the_field.row
 closure_send =
@@ -284,18 +305,22 @@ closure_send =
     clause_send clause_sync
     order_send order_sync
     span_send span_sync
-    (λ h s y. option_send _ (shared.the_send h s y)) (λ h s y. option_sync _ (shared.the_sync h s y))
+    (λ h s y. option_send _ (shared.the_send h s y))
+    (λ h s y. option_sync _ (shared.the_sync h s y))
     mode_send mode_sync
-    (λ h s y. list.the_send _ (pair_send _ h loc.the_send s)) (λ h s y. list.the_sync _ (pair_sync _ h loc.the_sync y))
+    (λ h s y. list.the_send _ (pair_send _ h loc.the_send s))
+    (λ h s y. list.the_sync _ (pair_sync _ h loc.the_sync y))
     (search sendable) (search sendable)
     (search sendable) (search sendable)
     (search sendable) (search sendable)
     shared_text_send shared_text_sync
-    (λ h s y. shared.the_send _ (list.the_send h s) (list.the_sync h y)) (λ h s y. shared.the_sync _ (list.the_send h s) (list.the_sync h y))
+    (λ h s y. shared.the_send _ (list.the_send h s) (list.the_sync h y))
+    (λ h s y. shared.the_sync _ (list.the_send h s) (list.the_sync h y))
     (search sendable) (search sendable)
     type_send type_sync
     loc_send loc_sync
-    (λ h s y. list.the_send _ (pair_send u32 h u32_send s)) (λ h s y. list.the_sync _ (pair_sync u32 h u32_sync y))
+    (λ h s y. list.the_send _ (pair_send u32 h u32_send s))
+    (λ h s y. list.the_sync _ (pair_sync u32 h u32_sync y))
 
 pub closure_sync : IsSync closure.the_field.row
 closure_sync =
@@ -311,18 +336,22 @@ closure_sync =
     clause_send clause_sync
     order_send order_sync
     span_send span_sync
-    (λ h s y. option_send _ (shared.the_send h s y)) (λ h s y. option_sync _ (shared.the_sync h s y))
+    (λ h s y. option_send _ (shared.the_send h s y))
+    (λ h s y. option_sync _ (shared.the_sync h s y))
     mode_send mode_sync
-    (λ h s y. list.the_send _ (pair_send _ h loc.the_send s)) (λ h s y. list.the_sync _ (pair_sync _ h loc.the_sync y))
+    (λ h s y. list.the_send _ (pair_send _ h loc.the_send s))
+    (λ h s y. list.the_sync _ (pair_sync _ h loc.the_sync y))
     (search sendable) (search sendable)
     (search sendable) (search sendable)
     (search sendable) (search sendable)
     shared_text_send shared_text_sync
-    (λ h s y. shared.the_send _ (list.the_send h s) (list.the_sync h y)) (λ h s y. shared.the_sync _ (list.the_send h s) (list.the_sync h y))
+    (λ h s y. shared.the_send _ (list.the_send h s) (list.the_sync h y))
+    (λ h s y. shared.the_sync _ (list.the_send h s) (list.the_sync h y))
     (search sendable) (search sendable)
     type_send type_sync
     loc_send loc_sync
-    (λ h s y. list.the_send _ (pair_send u32 h u32_send s)) (λ h s y. list.the_sync _ (pair_sync u32 h u32_sync y))
+    (λ h s y. list.the_send _ (pair_send u32 h u32_send s))
+    (λ h s y. list.the_sync _ (pair_sync u32 h u32_sync y))
 
 -- ---- lists of them
 

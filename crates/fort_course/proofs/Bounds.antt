@@ -31,7 +31,8 @@ joined_made (found r w) (found s x) k = absurd k
 joined_made (found r w) (made x) k = inr tt
 joined_made (made w) d k = inl tt
 
-pub both_bounded : (d e : Effect) → MakesWithinBounds d → MakesWithinBounds e → MakesWithinBounds (both d e)
+pub both_bounded : (d e : Effect) → MakesWithinBounds d → MakesWithinBounds e
+    → MakesWithinBounds (both d e)
 both_bounded d e k n l v h =
     elim (joined_made (d.cells l) (e.cells l) (made_is (joined (d.cells l) (e.cells l)) v h)) [
       | inl m ↦ (let w = value_of (d.cells l) m in k l w.0 w.1)
@@ -48,37 +49,45 @@ away_made untouched k = k
 away_made (found r w) k = k
 away_made (made w) k = tt
 
-closed_made : (c : Closing) (e : Effect) (l : ℕ) → IsMade ((closing c e).cells l) → IsMade (e.cells l)
+closed_made : (c : Closing) (e : Effect) (l : ℕ) → IsMade ((closing c e).cells l)
+    → IsMade (e.cells l)
 closed_made Completed e l k = k
 closed_made Failed e l k = back_made (e.cells l) k
 closed_made Aborted e l k = away_made (e.cells l) k
 
-pub closing_bounded : (c : Closing) (e : Effect) → MakesWithinBounds e → MakesWithinBounds (closing c e)
-closing_bounded c e k l v h = let w = value_of (e.cells l) (closed_made c e l (made_is ((closing c e).cells l) v h)) in k l w.0 w.1
+pub closing_bounded : (c : Closing) (e : Effect) → MakesWithinBounds e
+    → MakesWithinBounds (closing c e)
+closing_bounded c e k l v h =
+    let w = value_of (e.cells l) (closed_made c e l (made_is ((closing c e).cells l) v h))
+    in k l w.0 w.1
 
 -- where nothing is left, nothing is left once an attempt ended
-none_back : (c : Cell) (o : Option Value) → Fits c o → left_at c o ≡ None → left_at (given_back c) o ≡ None
+none_back : (c : Cell) (o : Option Value) → Fits c o → left_at c o ≡ None
+    → left_at (given_back c) o ≡ None
 none_back untouched o f h = h
 none_back (found r w) None f h = absurd f
 none_back (found r None) (Some v) f h = h
 none_back (found r (Some w)) (Some v) f h = let q = h in cc
 none_back (made w) o f h = h
 
-none_away : (c : Cell) (o : Option Value) → Fits c o → left_at c o ≡ None → left_at (taken_away c) o ≡ None
+none_away : (c : Cell) (o : Option Value) → Fits c o → left_at c o ≡ None
+    → left_at (taken_away c) o ≡ None
 none_away untouched o f h = h
 none_away (found r w) None f h = absurd f
 none_away (found r None) (Some v) f h = h
 none_away (found r (Some w)) (Some v) f h = let q = h in cc
 none_away (made w) o f h = refl
 
-pub none_closed : (c : Closing) (e : Effect) (l : ℕ) (o : Option Value) → Fits (e.cells l) o → left_at (e.cells l) o ≡ None → left_at ((closing c e).cells l) o ≡ None
+pub none_closed : (c : Closing) (e : Effect) (l : ℕ) (o : Option Value) → Fits (e.cells l) o
+    → left_at (e.cells l) o ≡ None → left_at ((closing c e).cells l) o ≡ None
 none_closed Completed e l o f h = h
 none_closed Failed e l o f h = none_back (e.cells l) o f h
 none_closed Aborted e l o f h = none_away (e.cells l) o f h
 
 -- ---- costs
 
-pub spent_added : (e : Effect) (v : Levels) (es : List Effect) → spent (added_to e v es) ≡ v.cost + attempts_cost es + e.cost
+pub spent_added : (e : Effect) (v : Levels) (es : List Effect)
+    → spent (added_to e v es) ≡ v.cost + attempts_cost es + e.cost
 spent_added e v [] = omega arith
 spent_added e v (d ∷ ds) = omega arith
 

@@ -33,12 +33,17 @@ sees_at : (f : Kind → Bool) (t : Token) (b : Bool) → f t.kind ≡ b → sees
 unfolding sees
 sees_at f t b e = e
 
--- a token on a new line ends what stands before it, where it is of kinds that are no sign, bracket or operator
-line_follows : (f : Kind → Bool) → f (kind.Mark mark.OpenStatic) ≡ false → f (kind.Mark mark.RightArrow) ≡ false → f (kind.Mark mark.Semicolon) ≡ false → f (kind.Op op.Eq) ≡ false
-    → ((k : Kind) → f k ≡ true → assigns k ≡ false) → (t : Token) → is_line t.gap ≡ true → f t.kind ≡ true → Follows (Some t)
+-- a token on a new line ends what stands before it, where it is of kinds that are no sign, bracket
+-- or operator
+line_follows : (f : Kind → Bool) → f (kind.Mark mark.OpenStatic) ≡ false
+    → f (kind.Mark mark.RightArrow) ≡ false → f (kind.Mark mark.Semicolon) ≡ false
+    → f (kind.Op op.Eq) ≡ false
+    → ((k : Kind) → f k ≡ true → assigns k ≡ false) → (t : Token) → is_line t.gap ≡ true
+    → f t.kind ≡ true → Follows (Some t)
 line_follows f e1 e2 e3 e4 none t line is = record {
   expr = both _ _ (line_stops true t line) (rw (sees_at assigns t false (none t.kind is)) refl);
-  type = type_stops_at t (not_mark f mark.OpenStatic e1 t.kind is) (not_mark f mark.RightArrow e2 t.kind is);
+  type = type_stops_at t (not_mark f mark.OpenStatic e1 t.kind is)
+      (not_mark f mark.RightArrow e2 t.kind is);
   eq = sees_at is_eq t false (not_this f is_eq (kind.Op op.Eq) is_eq_is e4 t.kind is);
   semicolon = sees_at (is_mark mark.Semicolon) t false (not_mark f mark.Semicolon e3 t.kind is);
 }
@@ -70,22 +75,33 @@ object_assigns (kind.Text v) e = refl
 object_assigns (kind.Op v) e = refl
 object_assigns (kind.Mark v) e = absurd cc
 
-pub declaration_follows : (t : Token) → is_line t.gap ≡ true → begins_declaration_kind t.kind ≡ true → Follows (Some t)
+pub declaration_follows : (t : Token) → is_line t.gap ≡ true → begins_declaration_kind t.kind ≡ true
+    → Follows (Some t)
 unfolding begins_declaration_kind
-declaration_follows t line e = line_follows begins_declaration_kind refl refl refl refl declaration_assigns t line e
+declaration_follows t line e =
+    line_follows begins_declaration_kind refl refl refl refl declaration_assigns t line e
 
-pub trait_follows : (t : Token) → is_line t.gap ≡ true → begins_trait_member t.kind ≡ true → Follows (Some t)
+pub trait_follows : (t : Token) → is_line t.gap ≡ true → begins_trait_member t.kind ≡ true
+    → Follows (Some t)
 unfolding begins_trait_member
 trait_follows t line e = line_follows begins_trait_member refl refl refl refl trait_assigns t line e
 
-pub object_follows : (t : Token) → is_line t.gap ≡ true → begins_object_member t.kind ≡ true → Follows (Some t)
+pub object_follows : (t : Token) → is_line t.gap ≡ true → begins_object_member t.kind ≡ true
+    → Follows (Some t)
 unfolding begins_object_member
-object_follows t line e = line_follows begins_object_member refl refl refl refl object_assigns t line e
+object_follows t line e =
+    line_follows begins_object_member refl refl refl refl object_assigns t line e
 
 -- `end` ends all
 pub end_follows : (s : Spot) → Follows (Some (word reserved.End s))
 unfolding sees is_mark is_eq
-end_follows s = record { expr = word_ends_expr false reserved.End s refl; type = type_stops_at (word reserved.End s) refl refl; eq = refl; semicolon = refl }
+end_follows s =
+    record {
+      expr = word_ends_expr false reserved.End s refl;
+      type = type_stops_at (word reserved.End s) refl refl;
+      eq = refl;
+      semicolon = refl;
+    }
 
 -- so does a `;`, but for itself
 pub record Ended (next : Option Token) : Type 0 where
@@ -93,19 +109,28 @@ pub record Ended (next : Option Token) : Type 0 where
   pub type : type_stops next ≡ true
   pub eq : sees is_eq next ≡ false
 
-pub ended : (s : Option Spot) (rest : Row) → StopsAfter Follows s (next_of rest) → Ended (next_of (semicolon_tokens s ++ rest))
+pub ended : (s : Option Spot) (rest : Row) → StopsAfter Follows s (next_of rest)
+    → Ended (next_of (semicolon_tokens s ++ rest))
 unfolding sees is_mark is_eq same_mark
 ended None rest h = record { expr = h.expr; type = h.type; eq = h.eq }
-ended (Some s) rest h = record { expr = mark_ends_expr false mark.Semicolon s refl refl refl; type = type_stops_at (marked mark.Semicolon s) refl refl; eq = refl }
+ended (Some s) rest h =
+    record {
+      expr = mark_ends_expr false mark.Semicolon s refl refl refl;
+      type = type_stops_at (marked mark.Semicolon s) refl refl;
+      eq = refl;
+    }
 
-pub end_begins_no_declaration : (ready : Bool) (s : Spot) → begins_apart_of begins_declaration_kind ready (Some (word reserved.End s)) ≡ false
+pub end_begins_no_declaration : (ready : Bool) (s : Spot)
+    → begins_apart_of begins_declaration_kind ready (Some (word reserved.End s)) ≡ false
 unfolding begins_apart_of begins_declaration_kind
 end_begins_no_declaration ready s = false_right (ready || is_line s.gap)
 
-pub end_begins_no_trait_member : (ready : Bool) (s : Spot) → begins_apart_of begins_trait_member ready (Some (word reserved.End s)) ≡ false
+pub end_begins_no_trait_member : (ready : Bool) (s : Spot)
+    → begins_apart_of begins_trait_member ready (Some (word reserved.End s)) ≡ false
 unfolding begins_apart_of begins_trait_member
 end_begins_no_trait_member ready s = false_right (ready || is_line s.gap)
 
-pub end_begins_no_object_member : (ready : Bool) (s : Spot) → begins_apart_of begins_object_member ready (Some (word reserved.End s)) ≡ false
+pub end_begins_no_object_member : (ready : Bool) (s : Spot)
+    → begins_apart_of begins_object_member ready (Some (word reserved.End s)) ≡ false
 unfolding begins_apart_of begins_object_member
 end_begins_no_object_member ready s = false_right (ready || is_line s.gap)

@@ -27,19 +27,23 @@ clash true e f = cc
 clash false e f = cc
 
 -- what holds of a declaration holds of one that is there
-pub asked_is : (o : Option CoreDecl) (f : CoreDecl → Bool) → asked o f ≡ true → (decl : CoreDecl) × (o ≡ Some decl) × (f decl ≡ true)
+pub asked_is : (o : Option CoreDecl) (f : CoreDecl → Bool) → asked o f ≡ true
+    → (decl : CoreDecl) × (o ≡ Some decl) × (f decl ≡ true)
 asked_is None f e = absurd cc
 asked_is (Some decl) f e = (decl, refl, e)
 
-pub asked_there : (o : Option CoreDecl) (f : CoreDecl → Bool) (decl : CoreDecl) → o ≡ Some decl → asked o f ≡ f decl
+pub asked_there : (o : Option CoreDecl) (f : CoreDecl → Bool) (decl : CoreDecl) → o ≡ Some decl
+    → asked o f ≡ f decl
 asked_there o f decl e = ap (λ (x : Option CoreDecl). asked x f) e
 
 -- where one thing fails at each declaration, so does what is asked
-pub asked_fails : (o : Option CoreDecl) (f g : CoreDecl → Bool) → ((decl : CoreDecl) → f decl ≡ false → g decl ≡ false) → asked o f ≡ false → asked o g ≡ false
+pub asked_fails : (o : Option CoreDecl) (f g : CoreDecl → Bool)
+    → ((decl : CoreDecl) → f decl ≡ false → g decl ≡ false) → asked o f ≡ false → asked o g ≡ false
 asked_fails None f g h e = refl
 asked_fails (Some decl) f g h e = h decl e
 
-pub asked_same : (o : Option CoreDecl) (f g : CoreDecl → Bool) → ((decl : CoreDecl) → f decl ≡ g decl) → asked o f ≡ asked o g
+pub asked_same : (o : Option CoreDecl) (f g : CoreDecl → Bool)
+    → ((decl : CoreDecl) → f decl ≡ g decl) → asked o f ≡ asked o g
 asked_same None f g h = refl
 asked_same (Some decl) f g h = h decl
 

@@ -35,7 +35,8 @@ module _ {A : Type 0} where
       go (inr b) = inr b
 
   -- the members with one more are that one and the others
-  pub inserted : (xs : List A) (k : ℕ) (d x : A) → Contains (insert xs k d) x → (x ≡ d) ⊎ Contains xs x
+  pub inserted : (xs : List A) (k : ℕ) (d x : A) → Contains (insert xs k d) x
+      → (x ≡ d) ⊎ Contains xs x
   inserted xs k d x c = go (Contains-append_cases (take k xs) (d ∷ drop k xs) x c)
     where
       back : Contains (take k xs ++ drop k xs) x → Contains xs x
@@ -53,7 +54,9 @@ module _ {A : Type 0} where
   newest xs k d = Contains-append_right (take k xs) (d ∷ drop k xs) d (0, omega arith, refl)
 
   pub older : (xs : List A) (k : ℕ) (d x : A) → Contains xs x → Contains (insert xs k d) x
-  older xs k d x c = go (Contains-append_cases (take k xs) (drop k xs) x (subst (λ z. Contains z x) (sym (take-append-drop k xs)) c))
+  older xs k d x c =
+      go (Contains-append_cases (take k xs) (drop k xs) x
+      (subst (λ z. Contains z x) (sym (take-append-drop k xs)) c))
     where
       go : Contains (take k xs) x ⊎ Contains (drop k xs) x → Contains (insert xs k d) x
       go (inl a) = Contains-append_left (take k xs) (d ∷ drop k xs) x a

@@ -15,7 +15,8 @@ use Rattle.fort_field.specs.Answers.{IsKept, HasFields}
 use Rattle.fort_field.proofs.OnceLaws.{all_are}
 use Rattle.fort_field.proofs.ComponentLaws.{own_long, fewer_places, has_high}
 
-pub reported : (c : Component) (fault : CheckFault) → IsFieldRefusal (declares c) (own_fields c) (places_of c) fault → IsFault c fault
+pub reported : (c : Component) (fault : CheckFault)
+    → IsFieldRefusal (declares c) (own_fields c) (places_of c) fault → IsFault c fault
 reported c (a_fault.Refused rule place) w = elim w as (λ _. IsReported c rule.0 place) [
   | inl v ↦ record {
     earliest = record {
@@ -33,11 +34,15 @@ reported c (a_fault.Refused rule place) w = elim w as (λ _. IsReported c rule.0
   }
 ]
   where
-    at_451 : (other : Place) → rule.0 ≡ 451 → (IsDuplicate (declares c) (own_fields c) (places_of c) other → ⊥) → Broken c rule.0 other → ⊥
+    at_451 : (other : Place) → rule.0 ≡ 451
+        → (IsDuplicate (declares c) (own_fields c) (places_of c) other → ⊥) → Broken c rule.0 other
+        → ⊥
     at_451 other e n (duplicate q d) = n d
     at_451 other e n (not_below q d) = omega arith
 
-    at_452 : (other : Place) → rule.0 ≡ 452 → (IsNotBelow (declares c) (own_fields c) (places_of c) other → ⊥) → Broken c rule.0 other → ⊥
+    at_452 : (other : Place) → rule.0 ≡ 452
+        → (IsNotBelow (declares c) (own_fields c) (places_of c) other → ⊥) → Broken c rule.0 other
+        → ⊥
     at_452 other e n (duplicate q d) = omega arith
     at_452 other e n (not_below q d) = n d
 
@@ -45,34 +50,52 @@ reported c (a_fault.Refused rule place) w = elim w as (λ _. IsReported c rule.0
     least e other at (duplicate q d) = omega arith
     least e other at (not_below q d) = omega arith
 
-    next : rule.0 ≡ 452 → ((at : Place) → IsDuplicate (declares c) (own_fields c) (places_of c) at → ⊥) → (other : ℕ) (at : Place) → Broken c other at → rule.0 ≤ other
+    next : rule.0 ≡ 452
+        → ((at : Place) → IsDuplicate (declares c) (own_fields c) (places_of c) at → ⊥)
+        → (other : ℕ) (at : Place) → Broken c other at → rule.0 ≤ other
     next e n other at (duplicate q d) = absurd (n at d)
     next e n other at (not_below q d) = omega arith
 reported c a_fault.Memory w = w
 
-pub none_broken : (c : Component) → IsFirst (IsDuplicate (declares c) (own_fields c) (places_of c)) None → IsFirst (IsNotBelow (declares c) (own_fields c) (places_of c)) None → IsKept c
+pub none_broken : (c : Component)
+    → IsFirst (IsDuplicate (declares c) (own_fields c) (places_of c)) None
+    → IsFirst (IsNotBelow (declares c) (own_fields c) (places_of c)) None → IsKept c
 none_broken c d n rule place (duplicate q w) = d place w
 none_broken c d n rule place (not_below q w) = n place w
 
 -- ---- from the lists that the code holds to the component
 
 module _ (c : Component) where
-  pub lists_by : (Q : DeclaredTypes → List (List Field) → List Place → Type 0) {h : DeclaredTypes} {own : List (List Field)} {places : List Place}
-      → h ≡ declares c → own ≡ own_fields c → places ≡ places_of c → Q h own places → Q (declares c) (own_fields c) (places_of c)
-  lists_by Q {own = own} {places = places} e f g w = subst (λ z. Q (declares c) (own_fields c) z) g (subst (λ z. Q (declares c) z places) f (subst (λ z. Q z own places) e w))
+  pub lists_by : (Q : DeclaredTypes → List (List Field) → List Place → Type 0) {h : DeclaredTypes}
+      {own : List (List Field)} {places : List Place}
+      → h ≡ declares c → own ≡ own_fields c → places ≡ places_of c → Q h own places
+      → Q (declares c) (own_fields c) (places_of c)
+  lists_by Q {own = own} {places = places} e f g w =
+      subst (λ z. Q (declares c) (own_fields c) z) g
+      (subst (λ z. Q (declares c) z places) f (subst (λ z. Q z own places) e w))
 
-  pub lists_of : (Q : DeclaredTypes → List (List Field) → List Place → Type 0) {h : DeclaredTypes} {own : List (List Field)} {places : List Place}
-      → h ≡ declares c → own ≡ own_fields c → places ≡ places_of c → Q (declares c) (own_fields c) (places_of c) → Q h own places
-  lists_of Q {h = h} {own = own} e f g w = subst (Q h own) (sym g) (subst (λ z. Q h z (places_of c)) (sym f) (subst (λ z. Q z (own_fields c) (places_of c)) (sym e) w))
+  pub lists_of : (Q : DeclaredTypes → List (List Field) → List Place → Type 0) {h : DeclaredTypes}
+      {own : List (List Field)} {places : List Place}
+      → h ≡ declares c → own ≡ own_fields c → places ≡ places_of c
+      → Q (declares c) (own_fields c) (places_of c) → Q h own places
+  lists_of Q {h = h} {own = own} e f g w =
+      subst (Q h own) (sym g)
+      (subst (λ z. Q h z (places_of c)) (sym f)
+      (subst (λ z. Q z (own_fields c) (places_of c)) (sym e) w))
 
-  pub has_fields : (r : Result (List (List Field)) CheckFault) → IfOk r (HasAll (declares c) (own_fields c)) → OnOk r (IsFirst (IsDuplicate (declares c) (own_fields c) (places_of c)) None)
-      → OnOk r (IsFirst (IsNotBelow (declares c) (own_fields c) (places_of c)) None) → IfOk r (HasFields c)
+  pub has_fields : (r : Result (List (List Field)) CheckFault)
+      → IfOk r (HasAll (declares c) (own_fields c))
+      → OnOk r (IsFirst (IsDuplicate (declares c) (own_fields c) (places_of c)) None)
+      → OnOk r (IsFirst (IsNotBelow (declares c) (own_fields c) (places_of c)) None)
+      → IfOk r (HasFields c)
   has_fields (Ok all) t d n = record {
     kept = none_broken c d n;
-    fields = all_are (declares c) (own_fields c) (places_of c) (fewer_places c) (has_high c) d all (own_long c) t;
+    fields = all_are (declares c) (own_fields c) (places_of c) (fewer_places c) (has_high c) d all
+        (own_long c) t;
   }
   has_fields (Err fault) t d n = t
 
-  pub all_reported : (r : Result (List (List Field)) CheckFault) → IfErr r (IsFieldRefusal (declares c) (own_fields c) (places_of c)) → IfErr r (IsFault c)
+  pub all_reported : (r : Result (List (List Field)) CheckFault)
+      → IfErr r (IsFieldRefusal (declares c) (own_fields c) (places_of c)) → IfErr r (IsFault c)
   all_reported (Ok all) w = w
   all_reported (Err fault) w = reported c fault w

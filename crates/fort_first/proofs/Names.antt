@@ -17,27 +17,43 @@ pub no_names : (o : Option (List NextName)) → with_names [] o ≡ o
 no_names None = refl
 no_names (Some others) = refl
 
-joined : (front : List NextName) (comma : Spot) (name : Name) (o : Option (List NextName)) → with_names front (join_names comma (Some name) o) ≡ with_names (front ++ record { comma = comma; name = name } ∷ []) o
+joined : (front : List NextName) (comma : Spot) (name : Name) (o : Option (List NextName))
+    → with_names front (join_names comma (Some name) o)
+    ≡ with_names (front ++ record { comma = comma; name = name } ∷ []) o
 joined front comma name None = refl
-joined front comma name (Some others) = ap Some (sym (append_assoc front (record { comma = comma; name = name } ∷ []) others))
+joined front comma name (Some others) =
+    ap Some (sym (append_assoc front (record { comma = comma; name = name } ∷ []) others))
 
-at_next : (exprs : List NextExpr) (i : ℕ) (x : NextExpr) → i < length exprs → x ≡ get_or exprs i x → drop i exprs ≡ x ∷ drop (i + 1) exprs
-at_next exprs i x lt is = let k : suc i ≡ i + 1 = omega arith in drop-cons exprs i x lt ∙ ap (λ (j : ℕ). get_or exprs i x ∷ drop j exprs) k ∙ ap (λ y. y ∷ drop (i + 1) exprs) (sym is)
+at_next : (exprs : List NextExpr) (i : ℕ) (x : NextExpr) → i < length exprs → x ≡ get_or exprs i x
+    → drop i exprs ≡ x ∷ drop (i + 1) exprs
+at_next exprs i x lt is =
+    let k : suc i ≡ i + 1 = omega arith
+    in drop-cons exprs i x lt ∙ ap (λ
+    (j : ℕ). get_or exprs i x ∷ drop j exprs) k ∙ ap (λ y. y ∷ drop (i + 1) exprs) (sym is)
 
-pub one_more : (exprs : List NextExpr) (i : ℕ) (x : NextExpr) (name : Name) (front : List NextName) (total : Option (List NextName)) → i < length exprs → x ≡ get_or exprs i x
-    → Some name ≡ expr_name (out-NextExpr x).expr → with_names front (next_names (drop i exprs)) ≡ total
-    → with_names (front ++ record { comma = (out-NextExpr x).comma; name = name } ∷ []) (next_names (drop (i + 1) exprs)) ≡ total
+pub one_more : (exprs : List NextExpr) (i : ℕ) (x : NextExpr) (name : Name) (front : List NextName)
+    (total : Option (List NextName)) → i < length exprs → x ≡ get_or exprs i x
+    → Some name ≡ expr_name (out-NextExpr x).expr
+    → with_names front (next_names (drop i exprs)) ≡ total
+    → with_names (front ++ record { comma = (out-NextExpr x).comma; name = name } ∷ [])
+    (next_names (drop (i + 1) exprs)) ≡ total
 unfolding next_names
 one_more exprs i x name front total lt is named so_far =
-    let e : with_names front (next_names (drop i exprs)) ≡ with_names (front ++ record { comma = (out-NextExpr x).comma; name = name } ∷ []) (next_names (drop (i + 1) exprs)) =
-    rw (at_next exprs i x lt is, ← named) (joined front (out-NextExpr x).comma name (next_names (drop (i + 1) exprs))) in
+    let e : with_names front (next_names (drop i exprs))
+    ≡ with_names (front ++ record { comma = (out-NextExpr x).comma; name = name } ∷ [])
+    (next_names (drop (i + 1) exprs)) =
+    rw (at_next exprs i x lt is, ← named)
+    (joined front (out-NextExpr x).comma name (next_names (drop (i + 1) exprs))) in
     sym e ∙ so_far
 
-pub no_name : (exprs : List NextExpr) (i : ℕ) (x : NextExpr) (front : List NextName) (total : Option (List NextName)) → i < length exprs → x ≡ get_or exprs i x
-    → None ≡ expr_name (out-NextExpr x).expr → with_names front (next_names (drop i exprs)) ≡ total → None ≡ total
+pub no_name : (exprs : List NextExpr) (i : ℕ) (x : NextExpr) (front : List NextName)
+    (total : Option (List NextName)) → i < length exprs → x ≡ get_or exprs i x
+    → None ≡ expr_name (out-NextExpr x).expr → with_names front (next_names (drop i exprs)) ≡ total
+    → None ≡ total
 unfolding next_names
 no_name exprs i x front total lt is unnamed so_far =
-    let e : with_names front (next_names (drop i exprs)) ≡ None = rw (at_next exprs i x lt is, ← unnamed) refl in
+    let e : with_names front (next_names (drop i exprs)) ≡ None =
+    rw (at_next exprs i x lt is, ← unnamed) refl in
     sym e ∙ so_far
 
 pub all_named : (front : List NextName) → with_names front (next_names []) ≡ Some front

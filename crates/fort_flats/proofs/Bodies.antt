@@ -15,18 +15,21 @@ use Rattle.fort_flats.proofs.Types.{none_in_type, none_in_parameters, none_in_me
 pub function_flats : (f : Function) → (measured_function f).flats ≡ (measured_expr f.body).flats
 function_flats f =
     joined (measured_parameters f.parameters) (measured_type f.result ∷ measured_expr f.body ∷ [])
-    ∙ ap (λ (u : List Row). u ++ all_flats (measured_type f.result ∷ measured_expr f.body ∷ [])) (none_in_parameters f.parameters) ∙ behind_type f.result (measured_expr f.body)
+    ∙ ap (λ (u : List Row). u ++ all_flats (measured_type f.result ∷ measured_expr f.body ∷ []))
+    (none_in_parameters f.parameters) ∙ behind_type f.result (measured_expr f.body)
 
 pub method_flats : (m : Method) → (measured_method m).flats ≡ all_flats (measured_body m.body)
 method_flats m =
     joined (measured_method_parameters m.parameters) (measured_type m.result ∷ measured_body m.body)
-    ∙ ap (λ (u : List Row). u ++ all_flats (measured_type m.result ∷ measured_body m.body)) (none_in_method_parameters m.parameters)
+    ∙ ap (λ (u : List Row). u ++ all_flats (measured_type m.result ∷ measured_body m.body))
+    (none_in_method_parameters m.parameters)
     ∙ ap (λ (u : List Row). u ++ all_flats (measured_body m.body)) (none_in_type m.result)
 
 pub object_flats : (o : Object) → (measured_object o).flats ≡ all_flats (object_members o)
 object_flats o =
     joined (measured_object_parameters o.parameters) (object_members o)
-    ∙ ap (λ (u : List Row). u ++ all_flats (object_members o)) (none_in_object_parameters o.parameters)
+    ∙ ap (λ (u : List Row). u ++ all_flats (object_members o))
+    (none_in_object_parameters o.parameters)
 
 pub field_flats : (ty : TypeTree) → all_flats (measured_type ty ∷ []) ≡ []
 field_flats ty = last (measured_type ty) ∙ none_in_type ty

@@ -24,7 +24,8 @@ use Rattle.fort_flats.proofs.Lists.{joined, two}
 none_in_simple : (t : SimpleType) → (measured_simple_type t).flats ≡ []
 none_in_simple = cases_simple_type (λ t. (measured_simple_type t).flats ≡ [])
     (λ name. ap (λ (m : Measured). m.flats) (measures-Named name))
-    (λ array left element comma index right. ap (λ (m : Measured). m.flats) (measures-Array array left element comma index right))
+    (λ array left element comma index right. ap (λ
+    (m : Measured). m.flats) (measures-Array array left element comma index right))
     (λ left parts right. ap (λ (m : Measured). m.flats) (measures-Parts left parts right))
 
 pub none_in_type : (t : TypeTree) → (measured_type t).flats ≡ []
@@ -40,34 +41,49 @@ behind_type t m = two (measured_type t) m ∙ ap (λ (u : List Row). u ++ m.flat
 nothing : (xs ys : List Row) → xs ≡ [] → ys ≡ [] → xs ++ ys ≡ []
 nothing xs ys e f = ap (λ (u : List Row). u ++ ys) e ∙ f
 
-none_in_others : (others : List NextParameter) → all_flats (map (λ (next : NextParameter). measured_type next.parameter.ty) others) ≡ []
+none_in_others : (others : List NextParameter)
+    → all_flats (map (λ (next : NextParameter). measured_type next.parameter.ty) others) ≡ []
 none_in_others [] = refl
-none_in_others (next ∷ others) = nothing _ _ (none_in_type next.parameter.ty) (none_in_others others)
+none_in_others (next ∷ others) =
+    nothing _ _ (none_in_type next.parameter.ty) (none_in_others others)
 
 pub none_in_parameters : (list : Option Parameters) → all_flats (measured_parameters list) ≡ []
 none_in_parameters None = refl
-none_in_parameters (Some list) = nothing _ _ (none_in_type list.first.ty) (none_in_others list.others)
+none_in_parameters (Some list) =
+    nothing _ _ (none_in_type list.first.ty) (none_in_others list.others)
 
 none_in_method_parameter : (p : MethodParameter) → all_flats (measured_method_parameter p) ≡ []
 none_in_method_parameter (method_parameter.Parameter p) = nothing _ _ (none_in_type p.ty) refl
 none_in_method_parameter (method_parameter.Self_ s) = refl
 
-none_in_next : (others : List NextMethodParameter) → all_flats (flat_map (λ (next : NextMethodParameter). measured_method_parameter next.parameter) others) ≡ []
+none_in_next : (others : List NextMethodParameter)
+    → all_flats (flat_map (λ
+    (next : NextMethodParameter). measured_method_parameter next.parameter) others) ≡ []
 none_in_next [] = refl
-none_in_next (next ∷ others) = joined (measured_method_parameter next.parameter) _ ∙ nothing _ _ (none_in_method_parameter next.parameter) (none_in_next others)
+none_in_next (next ∷ others) =
+    joined (measured_method_parameter next.parameter) _
+    ∙ nothing _ _ (none_in_method_parameter next.parameter) (none_in_next others)
 
-pub none_in_method_parameters : (list : Option MethodParameters) → all_flats (measured_method_parameters list) ≡ []
+pub none_in_method_parameters : (list : Option MethodParameters)
+    → all_flats (measured_method_parameters list) ≡ []
 none_in_method_parameters None = refl
-none_in_method_parameters (Some list) = joined (measured_method_parameter list.first) _ ∙ nothing _ _ (none_in_method_parameter list.first) (none_in_next list.others)
+none_in_method_parameters (Some list) =
+    joined (measured_method_parameter list.first) _
+    ∙ nothing _ _ (none_in_method_parameter list.first) (none_in_next list.others)
 
-none_in_next_object : (others : List NextObjectParameter) → all_flats (map (λ (next : NextObjectParameter). measured_type next.parameter.ty) others) ≡ []
+none_in_next_object : (others : List NextObjectParameter)
+    → all_flats (map (λ (next : NextObjectParameter). measured_type next.parameter.ty) others) ≡ []
 none_in_next_object [] = refl
-none_in_next_object (next ∷ others) = nothing _ _ (none_in_type next.parameter.ty) (none_in_next_object others)
+none_in_next_object (next ∷ others) =
+    nothing _ _ (none_in_type next.parameter.ty) (none_in_next_object others)
 
-none_in_object_list : (list : Option ObjectParameterList) → all_flats (measured_object_parameter_list list) ≡ []
+none_in_object_list : (list : Option ObjectParameterList)
+    → all_flats (measured_object_parameter_list list) ≡ []
 none_in_object_list None = refl
-none_in_object_list (Some list) = nothing _ _ (none_in_type list.first.ty) (none_in_next_object list.others)
+none_in_object_list (Some list) =
+    nothing _ _ (none_in_type list.first.ty) (none_in_next_object list.others)
 
-pub none_in_object_parameters : (p : Option ObjectParameters) → all_flats (measured_object_parameters p) ≡ []
+pub none_in_object_parameters : (p : Option ObjectParameters)
+    → all_flats (measured_object_parameters p) ≡ []
 none_in_object_parameters None = refl
 none_in_object_parameters (Some p) = none_in_object_list p.parameters

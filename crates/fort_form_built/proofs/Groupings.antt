@@ -7,18 +7,25 @@ use Rattle.fort_tree.specs.declared.grouped.Grouped as a_grouping
 use Rattle.fort_tree.specs.declared.grouped.Grouped.TheOpen.{Grouped-F}
 use Rattle.fort_formed.specs.Forming.{form_grouped, grouped}
 
-pub groups-Unit : (first : Form) (rest : List Form) (n : ℕ) → grouped first rest (a_grouping.Unit n) ≡ form_grouped first rest (Grouped-F.Unit n)
+pub groups-Unit : (first : Form) (rest : List Form) (n : ℕ)
+    → grouped first rest (a_grouping.Unit n) ≡ form_grouped first rest (Grouped-F.Unit n)
 unfolding grouped
 groups-Unit first rest n = search (rules, the_lemmas)
 
-pub groups-Binary : (first : Form) (rest : List Form) (op : Op) (left right : Grouped) → grouped first rest (a_grouping.Binary op left right) ≡ form_grouped first rest (Grouped-F.Binary op (grouped first rest left) (grouped first rest right))
+pub groups-Binary : (first : Form) (rest : List Form) (op : Op) (left right : Grouped)
+    → grouped first rest (a_grouping.Binary op left right)
+    ≡ form_grouped first rest
+    (Grouped-F.Binary op (grouped first rest left) (grouped first rest right))
 unfolding grouped
 groups-Binary first rest op left right = search (rules, the_lemmas)
 
-pub groups-Chain : (first : Form) (rest : List Form) (ops : List Op) (parts : List Grouped) → grouped first rest (a_grouping.Chain ops parts) ≡ form_grouped first rest (Grouped-F.Chain ops (map (grouped first rest) parts))
+pub groups-Chain : (first : Form) (rest : List Form) (ops : List Op) (parts : List Grouped)
+    → grouped first rest (a_grouping.Chain ops parts)
+    ≡ form_grouped first rest (Grouped-F.Chain ops (map (grouped first rest) parts))
 unfolding grouped
 groups-Chain first rest ops parts = search (rules, the_lemmas)
 
-pub groups-Juxt : (first : Form) (rest : List Form) (units : List ℕ) → grouped first rest (a_grouping.Juxt units) ≡ form_grouped first rest (Grouped-F.Juxt units)
+pub groups-Juxt : (first : Form) (rest : List Form) (units : List ℕ)
+    → grouped first rest (a_grouping.Juxt units) ≡ form_grouped first rest (Grouped-F.Juxt units)
 unfolding grouped
 groups-Juxt first rest units = search (rules, the_lemmas)

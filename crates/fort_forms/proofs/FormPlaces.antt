@@ -49,7 +49,8 @@ pub place-Run : (p : Place) (es : List Form) → place_of (a_form.Run p es) ≡ 
 unfolding place_of
 place-Run p es = search (rules, the_lemmas)
 
-pub place-Fill : (p : Place) (ty : Ty) (size value : Form) → place_of (a_form.Fill p ty size value) ≡ p
+pub place-Fill : (p : Place) (ty : Ty) (size value : Form)
+    → place_of (a_form.Fill p ty size value) ≡ p
 unfolding place_of
 place-Fill p ty size value = search (rules, the_lemmas)
 
@@ -69,15 +70,18 @@ pub place-For : (p : Place) (gs : List Generator) (e : Form) → place_of (a_for
 unfolding place_of
 place-For p gs e = search (rules, the_lemmas)
 
-pub place-Case : (p : Place) (s : Form) (bs : List Branch) (e : Option Form) → place_of (a_form.Case p s bs e) ≡ p
+pub place-Case : (p : Place) (s : Form) (bs : List Branch) (e : Option Form)
+    → place_of (a_form.Case p s bs e) ≡ p
 unfolding place_of
 place-Case p s bs e = search (rules, the_lemmas)
 
-pub place-Typecase : (p q : Place) (n : NameId) (s : Form) (bs : List TypeBranch) (e : Option Form) → place_of (a_form.Typecase p q n s bs e) ≡ p
+pub place-Typecase : (p q : Place) (n : NameId) (s : Form) (bs : List TypeBranch) (e : Option Form)
+    → place_of (a_form.Typecase p q n s bs e) ≡ p
 unfolding place_of
 place-Typecase p q n s bs e = search (rules, the_lemmas)
 
-pub place-Try : (p : Place) (b : Form) (x : Option (Place × NameId)) (bs : List TypeBranch) (e : Option Form) → place_of (a_form.Try p b x bs e) ≡ p
+pub place-Try : (p : Place) (b : Form) (x : Option (Place × NameId)) (bs : List TypeBranch)
+    (e : Option Form) → place_of (a_form.Try p b x bs e) ≡ p
 unfolding place_of
 place-Try p b x bs e = search (rules, the_lemmas)
 
@@ -85,7 +89,8 @@ pub place_of_run : (first : Form) (rest : List Form) → place_of (run_of first 
 place_of_run first [] = refl
 place_of_run first (next ∷ rest) = place-Run (place_of first) (first ∷ next ∷ rest)
 
-pub place_of_parentheses : (p : Place) (contents : Option Listed) → place_of (between p contents) ≡ p
+pub place_of_parentheses : (p : Place) (contents : Option Listed)
+    → place_of (between p contents) ≡ p
 place_of_parentheses p None = place-Tuple p []
 place_of_parentheses p (Some []) = place-Tuple p []
 place_of_parentheses p (Some (e ∷ [])) = place-Parens p e

@@ -12,6 +12,10 @@ use Rattle.fort_forms.specs.FormsOf.{Tables, tables_of}
 abbrev pub tabled : List Spelling → List TypeHead → List FlatGrouping → Tables
 tabled names heads groups = record { types = all_types names heads; names = names; groups = groups }
 
-pub tables_are : (c : Component) (groups : Groups) {heads : List TypeHead} {names : List Spelling} {list : List FlatGrouping} → heads ≡ heads_of c → names ≡ c.names → list ≡ groups.list → tabled names heads list ≡ tables_of c groups
+pub tables_are : (c : Component) (groups : Groups) {heads : List TypeHead} {names : List Spelling}
+    {list : List FlatGrouping} → heads ≡ heads_of c → names ≡ c.names → list ≡ groups.list
+    → tabled names heads list ≡ tables_of c groups
 tables_are c groups {heads = heads} {names = names} {list = list} e f g =
-    ap (λ (n : List Spelling). tabled n heads list) f ∙ ap (λ (h : List TypeHead). tabled c.names h list) e ∙ ap (λ (l : List FlatGrouping). tabled c.names (heads_of c) l) g
+    ap (λ (n : List Spelling). tabled n heads list) f ∙ ap (λ
+    (h : List TypeHead). tabled c.names h list) e ∙ ap (λ
+    (l : List FlatGrouping). tabled c.names (heads_of c) l) g

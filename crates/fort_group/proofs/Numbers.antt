@@ -5,7 +5,11 @@ use Rattle.fort_ops.specs.declared.op.Op.TheVariants as an_op
 use Rattle.fort_group.specs.Numbers.{number}
 
 named : List Op
-named = an_op.Juxt ∷ an_op.Times ∷ an_op.Dot ∷ an_op.Div ∷ an_op.Rem ∷ an_op.Mod ∷ an_op.Max ∷ an_op.Min ∷ an_op.Gcd ∷ an_op.Lcm ∷ an_op.Plus ∷ an_op.Minus ∷ an_op.BitAnd ∷ an_op.BitOr ∷ an_op.BitXor ∷ an_op.LShift ∷ an_op.RShift ∷ an_op.Range ∷ an_op.Count ∷ an_op.Eq ∷ an_op.Ne ∷ an_op.Lt ∷ an_op.Le ∷ an_op.Gt ∷ an_op.Ge ∷ an_op.Same ∷ an_op.And ∷ an_op.Or ∷ an_op.Not ∷ an_op.Power ∷ []
+named = an_op.Juxt ∷ an_op.Times ∷ an_op.Dot ∷ an_op.Div ∷ an_op.Rem ∷ an_op.Mod ∷ an_op.Max
+    ∷ an_op.Min ∷ an_op.Gcd ∷ an_op.Lcm ∷ an_op.Plus ∷ an_op.Minus ∷ an_op.BitAnd ∷ an_op.BitOr
+    ∷ an_op.BitXor ∷ an_op.LShift ∷ an_op.RShift ∷ an_op.Range ∷ an_op.Count ∷ an_op.Eq ∷ an_op.Ne
+    ∷ an_op.Lt ∷ an_op.Le ∷ an_op.Gt ∷ an_op.Ge ∷ an_op.Same ∷ an_op.And ∷ an_op.Or ∷ an_op.Not
+    ∷ an_op.Power ∷ []
 
 -- the operator of a number
 op_of : ℕ → Op

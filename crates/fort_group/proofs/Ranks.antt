@@ -22,9 +22,13 @@ pub fits_rank : (o : Option Group) (g : Group) → IsTrue (fits o g) → rank g 
 fits_rank None g e = below_nine g
 fits_rank (Some c) g e = rank_falls c g e
 
-continues_rank : (t : Grouped-F Grouped) (op : Op) → Continues t op → rank (group_of op) ≤ rank_over (root_at t)
-continues_rank (Grouped-F.Binary other l r) op (inl e) = let h : rank (group_of other) ≡ rank (group_of op) = ap (λ o. rank (group_of o)) e in omega arith
-continues_rank (Grouped-F.Binary other l r) op (inr e) = let h : rank (group_of other) ≡ rank (group_of op) = ap rank (e.0 ∙ sym e.1) in omega arith
+continues_rank : (t : Grouped-F Grouped) (op : Op) → Continues t op
+    → rank (group_of op) ≤ rank_over (root_at t)
+continues_rank (Grouped-F.Binary other l r) op (inl e) =
+    let h : rank (group_of other) ≡ rank (group_of op) = ap (λ o. rank (group_of o)) e
+    in omega arith
+continues_rank (Grouped-F.Binary other l r) op (inr e) =
+    let h : rank (group_of other) ≡ rank (group_of op) = ap rank (e.0 ∙ sym e.1) in omega arith
 continues_rank (Grouped-F.Unit n) op e = absurd e
 continues_rank (Grouped-F.Chain ops parts) op e = absurd e
 continues_rank (Grouped-F.Juxt units) op e = absurd e

@@ -23,13 +23,15 @@ module _ (joints : List Joint) where
       elim (cases_lt k m) as (λ z. k ≡ m) [
         | inl h ↦ (let a = v.last m h w.to in let b = w.least k v.from v.to in absurd (omega arith))
         | inr h ↦ elim (cases_lt m k) as (λ z. k ≡ m) [
-          | inl h' ↦ (let a = w.last k h' v.to in let b = v.least m w.from w.to in absurd (omega arith))
+          | inl h' ↦
+              (let a = w.last k h' v.to in let b = v.least m w.from w.to in absurd (omega arith))
           | inr h' ↦ omega arith
         ]
       ]
 
   -- a place of strength m between sides that are at least m and above it
-  weakest_at : (i k j m x y : ℕ) → strength joints k ≡ m → i ≤ k → k + 1 ≤ j → AtLeast joints i k x → m ≤ x → AtLeast joints (k + 1) j y → m < y → IsWeakest joints i j k
+  weakest_at : (i k j m x y : ℕ) → strength joints k ≡ m → i ≤ k → k + 1 ≤ j → AtLeast joints i k x
+      → m ≤ x → AtLeast joints (k + 1) j y → m < y → IsWeakest joints i j k
   weakest_at i k j m x y e a b f le g lt = record {
     from = a;
     to = omega arith;
@@ -52,24 +54,33 @@ module _ (joints : List Joint) where
     pub signed : between joints at ≡ Some sign
     pub halves : Halves i j h at sign
 
-  not_chain_fits : (ops : List Op) (l r : Grouped) (t : Grouped-F Grouped) → out-Grouped l ≡ t → Fits l Relation → (op : Op) → linked_at op t l r ≡ Some (tree.Chain (op ∷ []) (l ∷ r ∷ []))
-  not_chain_fits ops l r (Grouped-F.Unit n) e f op = ap (λ b. cond b (Some (tree.Chain (op ∷ []) (l ∷ r ∷ []))) None) f
-  not_chain_fits ops l r (Grouped-F.Binary other a b) e f op = ap (λ b. cond b (Some (tree.Chain (op ∷ []) (l ∷ r ∷ []))) None) f
-  not_chain_fits ops l r (Grouped-F.Juxt units) e f op = ap (λ b. cond b (Some (tree.Chain (op ∷ []) (l ∷ r ∷ []))) None) f
-  not_chain_fits ops l r (Grouped-F.Chain os ps) e f op = let z : fits (root l) Relation ≡ false = ap (λ t. fits (root_at t) Relation) e in absurd cc
+  not_chain_fits : (ops : List Op) (l r : Grouped) (t : Grouped-F Grouped) → out-Grouped l ≡ t
+      → Fits l Relation → (op : Op) → linked_at op t l r ≡ Some (tree.Chain (op ∷ []) (l ∷ r ∷ []))
+  not_chain_fits ops l r (Grouped-F.Unit n) e f op =
+      ap (λ b. cond b (Some (tree.Chain (op ∷ []) (l ∷ r ∷ []))) None) f
+  not_chain_fits ops l r (Grouped-F.Binary other a b) e f op =
+      ap (λ b. cond b (Some (tree.Chain (op ∷ []) (l ∷ r ∷ []))) None) f
+  not_chain_fits ops l r (Grouped-F.Juxt units) e f op =
+      ap (λ b. cond b (Some (tree.Chain (op ∷ []) (l ∷ r ∷ []))) None) f
+  not_chain_fits ops l r (Grouped-F.Chain os ps) e f op =
+      let z : fits (root l) Relation ≡ false = ap (λ t. fits (root_at t) Relation) e in absurd cc
 
-  joins_linked : (op : Op) (l r h : Grouped) → form_of op ≡ a_form.Chain → Fits r Relation → linked_at op (out-Grouped l) l r ≡ Some h
+  joins_linked : (op : Op) (l r h : Grouped) → form_of op ≡ a_form.Chain → Fits r Relation
+      → linked_at op (out-Grouped l) l r ≡ Some h
       → (o : Option Grouped) → Joins op l r o → o ≡ Some h
   joins_linked op l r h e f q o m =
       let m' : o ≡ linked op l r = subst (λ b. JoinsBy b op l r o) e m in
       m' ∙ ap (λ b. cond b (linked_at op (out-Grouped l) l r) None) f ∙ q
 
-  linked_joins : (op : Op) (l r h : Grouped) → form_of op ≡ a_form.Chain → Fits r Relation → linked_at op (out-Grouped l) l r ≡ Some h
+  linked_joins : (op : Op) (l r h : Grouped) → form_of op ≡ a_form.Chain → Fits r Relation
+      → linked_at op (out-Grouped l) l r ≡ Some h
       → Joins op l r (Some h)
   linked_joins op l r h e f q =
-      subst (λ b. JoinsBy b op l r (Some h)) (sym e) (sym (ap (λ b. cond b (linked_at op (out-Grouped l) l r) None) f ∙ q))
+      subst (λ b. JoinsBy b op l r (Some h)) (sym e)
+      (sym (ap (λ b. cond b (linked_at op (out-Grouped l) l r) None) f ∙ q))
 
-  joins_pairs : (op : Op) (l r : Grouped) → FitsLeft l op → Fits r (group_of op) → (o : Option Grouped) → Pairs op l r o → o ≡ Some (tree.Binary op l r)
+  joins_pairs : (op : Op) (l r : Grouped) → FitsLeft l op → Fits r (group_of op)
+      → (o : Option Grouped) → Pairs op l r o → o ≡ Some (tree.Binary op l r)
   joins_pairs op l r fl fr None m = absurd (m fl fr)
   joins_pairs op l r fl fr (Some g) m = ap Some m.0
 
@@ -77,15 +88,19 @@ module _ (joints : List Joint) where
   juxt_split i j units (two e) = record {
     at = i;
     sign = Juxt;
-    weakest = weakest_at i i (i + 1) 6 6 7 (ap rank_in e) (omega arith) (omega arith) (λ n a b. absurd (omega arith)) (omega arith) (λ n a b. absurd (omega arith)) (omega arith);
+    weakest =
+        weakest_at i i (i + 1) 6 6 7 (ap rank_in e) (omega arith) (omega arith)
+        (λ n a b. absurd (omega arith)) (omega arith) (λ n a b. absurd (omega arith)) (omega arith);
     signed = e;
     halves = record {
       left = tree.Unit i;
       right = tree.Unit (i + 1);
       groups_left = unit;
       groups_right = unit;
-      joined = sym (ap (λ t. juxtaposed_at t (out-Grouped (tree.Unit (i + 1)))) (out-unit i) ∙ ap (λ t. juxtaposed_at (Grouped-F.Unit i) t) (out-unit (i + 1)));
-      joins = λ o m. m ∙ ap (λ t. juxtaposed_at t (out-Grouped (tree.Unit (i + 1)))) (out-unit i) ∙ ap (λ t. juxtaposed_at (Grouped-F.Unit i) t) (out-unit (i + 1));
+      joined = sym (ap (λ t. juxtaposed_at t (out-Grouped (tree.Unit (i + 1)))) (out-unit i)
+          ∙ ap (λ t. juxtaposed_at (Grouped-F.Unit i) t) (out-unit (i + 1)));
+      joins = λ o m. m ∙ ap (λ t. juxtaposed_at t (out-Grouped (tree.Unit (i + 1)))) (out-unit i)
+          ∙ ap (λ t. juxtaposed_at (Grouped-F.Unit i) t) (out-unit (i + 1));
     };
   }
   juxt_split i j units (one_more {k = k} {units = us} r e) =
@@ -94,19 +109,25 @@ module _ (joints : List Joint) where
       record {
         at = k;
         sign = Juxt;
-        weakest = weakest_at i k (k + 1) 6 (rank_over (root (tree.Juxt us))) 7 (ap rank_in e) h.0 (omega arith) h.1 (omega arith) (λ n a b. absurd (omega arith)) (omega arith);
+        weakest =
+            weakest_at i k (k + 1) 6 (rank_over (root (tree.Juxt us))) 7 (ap rank_in e) h.0
+            (omega arith) h.1 (omega arith) (λ n a b. absurd (omega arith)) (omega arith);
         signed = e;
         halves = record {
           left = tree.Juxt us;
           right = tree.Unit (k + 1);
           groups_left = juxt r;
           groups_right = unit;
-          joined = sym (ap (λ t. juxtaposed_at t (out-Grouped (tree.Unit (k + 1)))) (out-juxt us) ∙ ap (λ t. juxtaposed_at (Grouped-F.Juxt us) t) (out-unit (k + 1)));
-          joins = λ o m. m ∙ ap (λ t. juxtaposed_at t (out-Grouped (tree.Unit (k + 1)))) (out-juxt us) ∙ ap (λ t. juxtaposed_at (Grouped-F.Juxt us) t) (out-unit (k + 1));
+          joined = sym (ap (λ t. juxtaposed_at t (out-Grouped (tree.Unit (k + 1)))) (out-juxt us)
+              ∙ ap (λ t. juxtaposed_at (Grouped-F.Juxt us) t) (out-unit (k + 1)));
+          joins = λ o m. m
+              ∙ ap (λ t. juxtaposed_at t (out-Grouped (tree.Unit (k + 1)))) (out-juxt us)
+              ∙ ap (λ t. juxtaposed_at (Grouped-F.Juxt us) t) (out-unit (k + 1));
         };
       }
 
-  chained_split : (i j : ℕ) (ops : List Op) (parts : List Grouped) → IsChain joints i j ops parts → Split i j (tree.Chain ops parts)
+  chained_split : (i j : ℕ) (ops : List Op) (parts : List Grouped) → IsChain joints i j ops parts
+      → Split i j (tree.Chain ops parts)
   chained_split i j ops parts (first {k = k} {op = op} {left = l} {right = r} b e gl gr fl fr) =
       let hl = least joints i k l gl in
       let hr = least joints (k + 1) j r gr in
@@ -114,7 +135,10 @@ module _ (joints : List Joint) where
       record {
         at = k;
         sign = op;
-        weakest = weakest_at i k j 2 (rank_over (root l)) (rank_over (root r)) (ap rank_in b ∙ relation_rank (group_of op) e) hl.0 hr.0 hl.1 (omega arith) hr.1 (fits_rank (root r) Relation fr);
+        weakest =
+            weakest_at i k j 2 (rank_over (root l)) (rank_over (root r)) (ap rank_in b
+            ∙ relation_rank (group_of op) e) hl.0 hr.0 hl.1 (omega arith) hr.1
+            (fits_rank (root r) Relation fr);
         signed = b;
         halves = record {
           left = l;
@@ -125,21 +149,27 @@ module _ (joints : List Joint) where
           joins = joins_linked op l r _ e fr (not_chain_fits [] l r (out-Grouped l) refl fl op);
         };
       }
-  chained_split i j ops parts (next {k = k} {ops = ops'} {parts = parts'} {op = op} {right = r} c b e gr fr) =
+  chained_split i j ops parts
+      (next {k = k} {ops = ops'} {parts = parts'} {op = op} {right = r} c b e gr fr) =
       let hl = chained_least joints i k ops' parts' c in
       let hr = least joints (k + 1) j r gr in
       record {
         at = k;
         sign = op;
-        weakest = weakest_at i k j 2 2 (rank_over (root r)) (ap rank_in b ∙ relation_rank (group_of op) e) (omega (arith, hl.0)) hr.0 hl.1 (omega arith) hr.1 (fits_rank (root r) Relation fr);
+        weakest =
+            weakest_at i k j 2 2 (rank_over (root r)) (ap rank_in b
+            ∙ relation_rank (group_of op) e) (omega (arith, hl.0)) hr.0 hl.1 (omega arith) hr.1
+            (fits_rank (root r) Relation fr);
         signed = b;
         halves = record {
           left = tree.Chain ops' parts';
           right = r;
           groups_left = chain c;
           groups_right = gr;
-          joined = linked_joins op (tree.Chain ops' parts') r _ e fr (ap (λ t. linked_at op t (tree.Chain ops' parts') r) (out-chain ops' parts'));
-          joins = joins_linked op (tree.Chain ops' parts') r _ e fr (ap (λ t. linked_at op t (tree.Chain ops' parts') r) (out-chain ops' parts'));
+          joined = linked_joins op (tree.Chain ops' parts') r _ e fr
+              (ap (λ t. linked_at op t (tree.Chain ops' parts') r) (out-chain ops' parts'));
+          joins = joins_linked op (tree.Chain ops' parts') r _ e fr
+              (ap (λ t. linked_at op t (tree.Chain ops' parts') r) (out-chain ops' parts'));
         };
       }
 
@@ -153,7 +183,10 @@ module _ (joints : List Joint) where
       record {
         at = k;
         sign = op;
-        weakest = weakest_at i k j (rank (group_of op)) (rank_over (root l)) (rank_over (root r)) (ap rank_in b) hl.0 hr.0 hl.1 (left_rank l op fl) hr.1 (fits_rank (root r) (group_of op) fr);
+        weakest =
+            weakest_at i k j (rank (group_of op)) (rank_over (root l)) (rank_over (root r))
+            (ap rank_in b) hl.0 hr.0 hl.1 (left_rank l op fl) hr.1
+            (fits_rank (root r) (group_of op) fr);
         signed = b;
         halves = record {
           left = l;
@@ -166,7 +199,8 @@ module _ (joints : List Joint) where
       }
 
   -- the halves at a weakest place that was found
-  pub split_at : (i j : ℕ) (h : Grouped) (k : ℕ) (s : Op) → IsGrouping joints i j h → IsWeakest joints i j k → between joints k ≡ Some s → Halves i j h k s
+  pub split_at : (i j : ℕ) (h : Grouped) (k : ℕ) (s : Op) → IsGrouping joints i j h
+      → IsWeakest joints i j k → between joints k ≡ Some s → Halves i j h k s
   split_at i j h k s g w e =
       let p = split i j h g (let a = w.from in let b = w.to in omega arith) in
       let q = weakest_once i j p.at k p.weakest w in

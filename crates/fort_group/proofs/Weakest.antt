@@ -10,9 +10,16 @@ module _ (joints : List Joint) where
   same_strength m n e = ap (strength joints) e
 
   pub one_place : (i : ℕ) → IsWeakest joints i (i + 1) i
-  one_place i = record { from = omega arith; to = omega arith; least = λ n a b. let e = same_strength n i (omega arith) in omega arith; last = λ n a b. absurd (omega arith) }
+  one_place i =
+      record {
+        from = omega arith;
+        to = omega arith;
+        least = λ n a b. let e = same_strength n i (omega arith) in omega arith;
+        last = λ n a b. absurd (omega arith);
+      }
 
-  pub keeps : (i n k : ℕ) → IsWeakest joints i n k → strength joints k < strength joints n → IsWeakest joints i (n + 1) k
+  pub keeps : (i n k : ℕ) → IsWeakest joints i n k → strength joints k < strength joints n
+      → IsWeakest joints i (n + 1) k
   keeps i n k w lt = record {
     from = w.from;
     to = let a = w.to in omega arith;
@@ -26,7 +33,8 @@ module _ (joints : List Joint) where
     ];
   }
 
-  pub moves : (i n k : ℕ) → IsWeakest joints i n k → strength joints n ≤ strength joints k → IsWeakest joints i (n + 1) n
+  pub moves : (i n k : ℕ) → IsWeakest joints i n k → strength joints n ≤ strength joints k
+      → IsWeakest joints i (n + 1) n
   moves i n k w le = record {
     from = let a = w.from in let b = w.to in omega arith;
     to = omega arith;

@@ -48,24 +48,32 @@ cases : (a b : ℕ) → a ≤ b → (a ≡ b) ⊎ (a + 1 ≤ b)
 cases a b l = grind arith
 
 -- the sentence of the bound is broken
-pub found : (h : DeclaredTypes) (places : List Place) (bound : ℕ) (s : Sentence) (place : Place) → rule_number s ≡ bound → IsEarliest (BreaksAt s h places) place
+pub found : (h : DeclaredTypes) (places : List Place) (bound : ℕ) (s : Sentence) (place : Place)
+    → rule_number s ≡ bound → IsEarliest (BreaksAt s h places) place
     → IsLowest h places bound (record { sentence = s; place = place })
-found h places bound s place e f = record { earliest = f; above = omega arith; lowest = λ t at l w. omega arith }
+found h places bound s place e f =
+    record { earliest = f; above = omega arith; lowest = λ t at l w. omega arith }
 
 -- it isn't, so that what holds from the next on holds from it on
-pub passed : (h : DeclaredTypes) (places : List Place) (bound : ℕ) (s : Sentence) (r : Option BrokenSentence) → rule_number s ≡ bound → ((place : Place) → BreaksAt s h places place → ⊥)
+pub passed : (h : DeclaredTypes) (places : List Place) (bound : ℕ) (s : Sentence)
+    (r : Option BrokenSentence) → rule_number s ≡ bound
+    → ((place : Place) → BreaksAt s h places place → ⊥)
     → IsLowestFrom h places (bound + 1) r → IsLowestFrom h places bound r
-passed h places bound s None e n f = λ t place l w. elim (cases bound (rule_number t) l) as (λ _. ⊥) [
-  | inl q ↦ n place (let o : t ≡ s = only t s (sym q ∙ sym e) in subst (λ z. BreaksAt z h places place) o w)
-  | inr m ↦ f t place m w
-]
+passed h places bound s None e n f =
+    λ t place l w. elim (cases bound (rule_number t) l) as (λ _. ⊥) [
+      | inl q ↦ n place
+          (let o : t ≡ s = only t s (sym q ∙ sym e) in subst (λ z. BreaksAt z h places place) o w)
+      | inr m ↦ f t place m w
+    ]
 passed h places bound s (Some b) e n f = record {
   earliest = f.earliest;
   above = let l = f.above in omega arith;
-  lowest = λ t place l w. elim (cases bound (rule_number t) l) as (λ _. rule_number b.sentence ≤ rule_number t) [
-    | inl q ↦ absurd (n place (let o : t ≡ s = only t s (sym q ∙ sym e) in subst (λ z. BreaksAt z h places place) o w))
-    | inr m ↦ f.lowest t place m w
-  ];
+  lowest = λ t place l w. elim (cases bound (rule_number t) l) as (λ _. rule_number b.sentence
+      ≤ rule_number t) [
+        | inl q ↦ absurd (n place
+            (let o : t ≡ s = only t s (sym q ∙ sym e) in subst (λ z. BreaksAt z h places place) o w))
+        | inr m ↦ f.lowest t place m w
+      ];
 }
 
 -- behind the last sentence there is none

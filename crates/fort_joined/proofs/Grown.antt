@@ -8,7 +8,9 @@ use Rattle.fort_judge.specs.declared.frame.Made.TheVariants as a_made
 use Rattle.fort_judge.specs.Joining.{grown}
 use Rattle.fort_joined.specs.Taking.{found_else, meaning_else}
 
-pub grown_as : (place : Place) (new : Made) (found : Option Fault) → grown place new found ≡ record { part = made place (meaning_else new); found = found_else new found }
+pub grown_as : (place : Place) (new : Made) (found : Option Fault)
+    → grown place new found
+    ≡ record { part = made place (meaning_else new); found = found_else new found }
 grown_as place (a_made.Gives t) found = refl
 grown_as place (a_made.Breaks x) found = refl
 grown_as place a_made.Stops found = refl

@@ -9,13 +9,17 @@ use Rattle.fort_judge.specs.declared.frame.Made.TheVariants as a_made
 use Rattle.fort_judge.specs.Joining.{replaced}
 use Rattle.fort_joined.specs.Steps.{typed_of, fault_of, replaced_else}
 
-pub typed_placed : (before : List Part) (place : Place) (after : List Part) (new : Made) (t : TypedForm) (found : Option Fault) → typed_of new ≡ Some t
+pub typed_placed : (before : List Part) (place : Place) (after : List Part) (new : Made)
+    (t : TypedForm) (found : Option Fault) → typed_of new ≡ Some t
     → replaced before place after new found ≡ replaced before place after (a_made.Gives t) found
-typed_placed before place after (a_made.Gives u) t found e = let h : u ≡ t = cc in ap (λ (v : TypedForm). replaced before place after (a_made.Gives v) found) h
+typed_placed before place after (a_made.Gives u) t found e =
+    let h : u ≡ t = cc
+    in ap (λ (v : TypedForm). replaced before place after (a_made.Gives v) found) h
 typed_placed before place after (a_made.Breaks x) t found e = absurd cc
 typed_placed before place after a_made.Stops t found e = absurd cc
 
-pub else_placed : (before : List Part) (place : Place) (after : List Part) (new : Made) (found : Option Fault) → typed_of new ≡ None
+pub else_placed : (before : List Part) (place : Place) (after : List Part) (new : Made)
+    (found : Option Fault) → typed_of new ≡ None
     → replaced before place after new found ≡ replaced_else before place after (fault_of new) found
 else_placed before place after (a_made.Gives u) found e = absurd cc
 else_placed before place after (a_made.Breaks x) found e = refl

@@ -50,11 +50,15 @@ table_plain : all_plain spellings ≡ true
 unfolding is_plain
 table_plain = refl
 
-found_plain : (ps : List (Op × List ℕ)) (w : List ℕ) (op : Op) → all_plain ps ≡ true → operator_in ps w ≡ Some op → is_plain op ≡ true
+found_plain : (ps : List (Op × List ℕ)) (w : List ℕ) (op : Op) → all_plain ps ≡ true
+    → operator_in ps w ≡ Some op → is_plain op ≡ true
 found_plain [] w op a h = absurd cc
-found_plain (p ∷ ps) w op a h = let both = and_both (is_plain p.0) (all_plain ps) a in by (same p.1 w) h both.0 (found_plain ps w op both.1)
+found_plain (p ∷ ps) w op a h =
+    let both = and_both (is_plain p.0) (all_plain ps) a
+    in by (same p.1 w) h both.0 (found_plain ps w op both.1)
   where
-    by : (b : Bool) → cond b (Some p.0) (operator_in ps w) ≡ Some op → is_plain p.0 ≡ true → (operator_in ps w ≡ Some op → is_plain op ≡ true) → is_plain op ≡ true
+    by : (b : Bool) → cond b (Some p.0) (operator_in ps w) ≡ Some op → is_plain p.0 ≡ true
+        → (operator_in ps w ≡ Some op → is_plain op ≡ true) → is_plain op ≡ true
     by true e n ih = let is : p.0 ≡ op = cc in subst (λ o. is_plain o ≡ true) is n
     by false e n ih = ih e
 
@@ -63,7 +67,10 @@ unfolding operator_named
 named_plain w op h = found_plain spellings w op table_plain h
 
 op_from : (r : Option Reserved) (m : Option Mark) (o : Option Op) (b : Bool) (op : Op)
-    → option_map_or (λ r. a_meaning.Word r) r (option_map_or (λ m. a_meaning.Mark m) m (option_map_or (λ op. a_meaning.Op op) o (cond b a_meaning.OperatorWord a_meaning.Name))) ≡ a_meaning.Op op → o ≡ Some op
+    → option_map_or (λ r. a_meaning.Word r) r
+    (option_map_or (λ m. a_meaning.Mark m) m
+    (option_map_or (λ op. a_meaning.Op op) o (cond b a_meaning.OperatorWord a_meaning.Name)))
+    ≡ a_meaning.Op op → o ≡ Some op
 op_from (Some r) m o b op h = absurd cc
 op_from None (Some m) o b op h = absurd cc
 op_from None None (Some x) b op h = cc
@@ -72,22 +79,36 @@ op_from None None None false op h = absurd cc
 
 op_named : (w : List ℕ) (op : Op) → meaning_of w ≡ a_meaning.Op op → operator_named w ≡ Some op
 unfolding meaning_of
-op_named w op h = op_from (reserved_named w) (mark_named w) (operator_named w) (has_operator_form w) op h
+op_named w op h =
+    op_from (reserved_named w) (mark_named w) (operator_named w) (has_operator_form w) op h
 
 -- ---- a token
 
-meaning_within : (words : List (List ℕ)) (w : List ℕ) (m : Meaning) (k : Kind) (texts : ℕ) → meaning_of w ≡ m → KindFor words w m k → IsKindWithin (length words) texts k
-meaning_within words w (a_meaning.Word r) k texts e h = subst (IsKindWithin (length words) texts) (sym h) tt
-meaning_within words w (a_meaning.Mark m) k texts e h = subst (IsKindWithin (length words) texts) (sym h) tt
-meaning_within words w (a_meaning.Op op) k texts e h = subst (IsKindWithin (length words) texts) (sym h) (plain_within (length words) op (named_plain w op (op_named w op e)))
-meaning_within words w a_meaning.OperatorWord k texts e h = subst (IsKindWithin (length words) texts) (sym h.2) (slice_get_within words h.0 w h.1)
-meaning_within words w a_meaning.Name k texts e h = subst (IsKindWithin (length words) texts) (sym h.2) (slice_get_within words h.0 w h.1)
+meaning_within : (words : List (List ℕ)) (w : List ℕ) (m : Meaning) (k : Kind) (texts : ℕ)
+    → meaning_of w ≡ m → KindFor words w m k → IsKindWithin (length words) texts k
+meaning_within words w (a_meaning.Word r) k texts e h =
+    subst (IsKindWithin (length words) texts) (sym h) tt
+meaning_within words w (a_meaning.Mark m) k texts e h =
+    subst (IsKindWithin (length words) texts) (sym h) tt
+meaning_within words w (a_meaning.Op op) k texts e h =
+    subst (IsKindWithin (length words) texts) (sym h)
+    (plain_within (length words) op (named_plain w op (op_named w op e)))
+meaning_within words w a_meaning.OperatorWord k texts e h =
+    subst (IsKindWithin (length words) texts) (sym h.2) (slice_get_within words h.0 w h.1)
+meaning_within words w a_meaning.Name k texts e h =
+    subst (IsKindWithin (length words) texts) (sym h.2) (slice_get_within words h.0 w h.1)
 
-shape_within : (words : List (List ℕ)) (before texts : ℕ) (w : List ℕ) (s : Shape) (k : Kind) → (is_text_shape s ≡ true → before < texts) → MeansShape words before w s k → IsKindWithin (length words) texts k
-shape_within words before texts w (shape.Number n) k l h = subst (IsKindWithin (length words) texts) (sym h) tt
-shape_within words before texts w shape.Text k l h = subst (IsKindWithin (length words) texts) (sym h) (l refl)
-shape_within words before texts w shape.Name k l h = meaning_within words w (meaning_of w) k texts refl h
-shape_within words before texts w shape.Symbol k l h = meaning_within words w (meaning_of w) k texts refl h
+shape_within : (words : List (List ℕ)) (before texts : ℕ) (w : List ℕ) (s : Shape) (k : Kind)
+    → (is_text_shape s ≡ true → before < texts) → MeansShape words before w s k
+    → IsKindWithin (length words) texts k
+shape_within words before texts w (shape.Number n) k l h =
+    subst (IsKindWithin (length words) texts) (sym h) tt
+shape_within words before texts w shape.Text k l h =
+    subst (IsKindWithin (length words) texts) (sym h) (l refl)
+shape_within words before texts w shape.Name k l h =
+    meaning_within words w (meaning_of w) k texts refl h
+shape_within words before texts w shape.Symbol k l h =
+    meaning_within words w (meaning_of w) k texts refl h
 
 -- ---- all tokens
 
@@ -95,26 +116,39 @@ abbrev AllWithin : ℕ → ℕ → List Token → Type 0
 AllWithin names texts [] = Unit {0}
 AllWithin names texts (t ∷ ts) = IsKindWithin names texts t.kind × AllWithin names texts ts
 
-text_there : (before texts : ℕ) (p : Piece) (ps : List Piece) → before + length (texts_of (p ∷ ps)) ≤ texts → is_text_word p.word ≡ true → before < texts
+text_there : (before texts : ℕ) (p : Piece) (ps : List Piece)
+    → before + length (texts_of (p ∷ ps)) ≤ texts → is_text_word p.word ≡ true → before < texts
 text_there before texts p ps l h =
-    let e : length (texts_of (p ∷ ps)) ≡ suc (length (texts_of ps)) = ap (λ b. length (cond b (encode_utf8_all (said p.word) ∷ texts_of ps) (texts_of ps))) h in omega arith
+    let e : length (texts_of (p ∷ ps)) ≡ suc (length (texts_of ps)) =
+    ap (λ b. length (cond b (encode_utf8_all (said p.word) ∷ texts_of ps) (texts_of ps))) h
+    in omega arith
 
-texts_left : (before texts : ℕ) (p : Piece) (ps : List Piece) → before + length (texts_of (p ∷ ps)) ≤ texts → texts_after before p.word + length (texts_of ps) ≤ texts
+texts_left : (before texts : ℕ) (p : Piece) (ps : List Piece)
+    → before + length (texts_of (p ∷ ps)) ≤ texts
+    → texts_after before p.word + length (texts_of ps) ≤ texts
 texts_left before texts p ps l = by (is_text_word p.word) l
   where
-    by : (b : Bool) → before + length (cond b (encode_utf8_all (said p.word) ∷ texts_of ps) (texts_of ps)) ≤ texts → cond b (before + 1) before + length (texts_of ps) ≤ texts
+    by : (b : Bool)
+        → before + length (cond b (encode_utf8_all (said p.word) ∷ texts_of ps) (texts_of ps))
+        ≤ texts → cond b (before + 1) before + length (texts_of ps) ≤ texts
     by true l = omega arith
     by false l = l
 
-all_within : (words : List (List ℕ)) (place : Place) (before texts : ℕ) (ps : List Piece) (ts : List Token) → before + length (texts_of ps) ≤ texts → AreTokens words place before ps ts
+all_within : (words : List (List ℕ)) (place : Place) (before texts : ℕ) (ps : List Piece)
+    (ts : List Token) → before + length (texts_of ps) ≤ texts → AreTokens words place before ps ts
     → AllWithin (length words) texts ts
 all_within words place before texts [] ts l h = subst (AllWithin (length words) texts) (sym h) tt
 all_within words place before texts (p ∷ ps) ts l h =
-    let first = shape_within words before texts p.word (shape_of p.word) h.0.kind (text_there before texts p ps l) h.3.kind in
-    let rest = all_within words (place_after place (p.gap ++ p.word)) (texts_after before p.word) texts ps h.1 (texts_left before texts p ps l) h.4 in
+    let first =
+    shape_within words before texts p.word (shape_of p.word) h.0.kind
+    (text_there before texts p ps l) h.3.kind in
+    let rest =
+    all_within words (place_after place (p.gap ++ p.word)) (texts_after before p.word) texts ps
+    h.1 (texts_left before texts p ps l) h.4 in
     subst (AllWithin (length words) texts) (sym h.2) (first, rest)
 
-at_each : (names texts : ℕ) (ts : List Token) → AllWithin names texts ts → (k : ℕ) (d : Token) → k < length ts → IsKindWithin names texts (get_or ts k d).kind
+at_each : (names texts : ℕ) (ts : List Token) → AllWithin names texts ts → (k : ℕ) (d : Token)
+    → k < length ts → IsKindWithin names texts (get_or ts k d).kind
 at_each names texts [] h k d l = absurd (omega arith)
 at_each names texts (t ∷ ts) h zero d l = h.0
 at_each names texts (t ∷ ts) h (suc k) d l = at_each names texts ts h.1 k d (omega arith)
@@ -123,9 +157,12 @@ numbers_stand : (ps : List Piece) (ts : Tokens) → StandsFor ps ts → HasItsNu
 numbers_stand ps ts h =
     let t = ap length h.texts in
     let n = ap length h.names ∙ length-map (names_of ps) encode_utf8_all in
-    let all = all_within (names_of ps) the_start 0 (length ts.texts) ps ts.list (omega arith) h.list in
-    at_each (length ts.names) (length ts.texts) ts.list (subst (λ m. AllWithin m (length ts.texts) ts.list) (sym n) all)
+    let all = all_within (names_of ps) the_start 0 (length ts.texts) ps ts.list (omega arith) h.list
+    in
+    at_each (length ts.names) (length ts.texts) ts.list
+    (subst (λ m. AllWithin m (length ts.texts) ts.list) (sym n) all)
 
-pub text_numbers : (text : List ℕ) (r : Result Tokens CheckFault) → TextAnswers text r → IfOk r HasItsNumbers
+pub text_numbers : (text : List ℕ) (r : Result Tokens CheckFault) → TextAnswers text r
+    → IfOk r HasItsNumbers
 text_numbers text (Ok ts) h = numbers_stand h.0 ts h.2
 text_numbers text (Err e) h = tt

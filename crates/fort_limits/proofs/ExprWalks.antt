@@ -39,20 +39,33 @@ use Rattle.fort_limits.specs.Earliest.{earliest}
 use Rattle.fort_limits.proofs.EarliestLaws.{all_crowded-append, earliest_append, earliest_none, one_and}
 
 pub walks-Flat : (found : Option Place) (flat : Flat)
-    → earliest found (measured_expr (an_expr.Flat flat)).crowded ≡ earliest found (measured_flat flat).crowded
+    → earliest found (measured_expr (an_expr.Flat flat)).crowded
+    ≡ earliest found (measured_flat flat).crowded
 walks-Flat found flat = simp measures-Flat
 
-pub walks-Assign : (found : Option Place) (target : Flat) (sign : AssignSign) (head : Option Head) (value : Flat)
-    → earliest found (measured_expr (an_expr.Assign target sign head value)).crowded ≡ earliest (earliest (earliest found (measured_flat target).crowded) (all_crowded (maybe_measured (option_map measured_head head)))) (measured_flat value).crowded
-walks-Assign found target sign head value = simp (measures-Assign, all_crowded-append, earliest_append, earliest_none)
+pub walks-Assign : (found : Option Place) (target : Flat) (sign : AssignSign) (head : Option Head)
+    (value : Flat)
+    → earliest found (measured_expr (an_expr.Assign target sign head value)).crowded
+    ≡ earliest
+    (earliest (earliest found (measured_flat target).crowded)
+    (all_crowded (maybe_measured (option_map measured_head head))))
+    (measured_flat value).crowded
+walks-Assign found target sign head value =
+    simp (measures-Assign, all_crowded-append, earliest_append, earliest_none)
 
 pub walks-Open : (found : Option Place) (head : Head) (body : Flat)
-    → earliest found (measured_expr (an_expr.Open head body)).crowded ≡ earliest (earliest found (measured_head head).crowded) (measured_flat body).crowded
+    → earliest found (measured_expr (an_expr.Open head body)).crowded
+    ≡ earliest (earliest found (measured_head head).crowded) (measured_flat body).crowded
 walks-Open found head body = simp (measures-Open, earliest_append, earliest_none)
 
-pub walks-OpenAssign : (found : Option Place) (head : Head) (target : Flat) (sign : AssignSign) (value : Flat)
-    → earliest found (measured_expr (an_expr.OpenAssign head target sign value)).crowded ≡ earliest (earliest (earliest found (measured_head head).crowded) (measured_flat target).crowded) (measured_flat value).crowded
-walks-OpenAssign found head target sign value = simp (measures-OpenAssign, earliest_append, earliest_none)
+pub walks-OpenAssign : (found : Option Place) (head : Head) (target : Flat) (sign : AssignSign)
+    (value : Flat)
+    → earliest found (measured_expr (an_expr.OpenAssign head target sign value)).crowded
+    ≡ earliest
+    (earliest (earliest found (measured_head head).crowded) (measured_flat target).crowded)
+    (measured_flat value).crowded
+walks-OpenAssign found head target sign value =
+    simp (measures-OpenAssign, earliest_append, earliest_none)
 
 pub walks-Atomic : (found : Option Place) (s : Spot)
     → earliest found (measured_head (a_head.Atomic s)).crowded ≡ found
@@ -66,67 +79,105 @@ pub walks-Throw : (found : Option Place) (s : Spot)
     → earliest found (measured_head (a_head.Throw s)).crowded ≡ found
 walks-Throw found s = simp (measures-Throw, earliest_append, earliest_none)
 
-pub walks-Fn : (found : Option Place) (fn_ left : Spot) (parameters : Option Parameters) (right arrow : Spot)
-    → earliest found (measured_head (a_head.Fn fn_ left parameters right arrow)).crowded ≡ earliest (earliest found (over most_parameters (parameter_count parameters) fn_.place)) (all_crowded (measured_parameters parameters))
+pub walks-Fn : (found : Option Place) (fn_ left : Spot) (parameters : Option Parameters)
+    (right arrow : Spot)
+    → earliest found (measured_head (a_head.Fn fn_ left parameters right arrow)).crowded
+    ≡ earliest (earliest found (over most_parameters (parameter_count parameters) fn_.place))
+    (all_crowded (measured_parameters parameters))
 walks-Fn found fn_ left parameters right arrow = simp (measures-Fn, earliest_append)
 
-pub walks-Big : (found : Option Place) (big : Big) (left : Spot) (generator : Generator) (right : Spot)
-    → earliest found (measured_head (a_head.Big big left generator right)).crowded ≡ earliest found (measured_generator generator).crowded
+pub walks-Big : (found : Option Place) (big : Big) (left : Spot) (generator : Generator)
+    (right : Spot)
+    → earliest found (measured_head (a_head.Big big left generator right)).crowded
+    ≡ earliest found (measured_generator generator).crowded
 walks-Big found big left generator right = simp (measures-Big, earliest_append, earliest_none)
 
 pub walks-Parallel : (found : Option Place) (name : Name) (arrow : Spot) (source : Flat)
-    → earliest found (measured_generator (a_generator.Parallel name arrow source)).crowded ≡ earliest found (measured_flat source).crowded
+    → earliest found (measured_generator (a_generator.Parallel name arrow source)).crowded
+    ≡ earliest found (measured_flat source).crowded
 walks-Parallel found name arrow source = simp (measures-Parallel, earliest_append, earliest_none)
 
-pub walks-Sequential : (found : Option Place) (name : Name) (arrow seq left : Spot) (source : Flat) (right : Spot)
-    → earliest found (measured_generator (a_generator.Sequential name arrow seq left source right)).crowded ≡ earliest found (measured_flat source).crowded
-walks-Sequential found name arrow seq left source right = simp (measures-Sequential, earliest_append, earliest_none)
+pub walks-Sequential : (found : Option Place) (name : Name) (arrow seq left : Spot) (source : Flat)
+    (right : Spot)
+    → earliest found
+    (measured_generator (a_generator.Sequential name arrow seq left source right)).crowded
+    ≡ earliest found (measured_flat source).crowded
+walks-Sequential found name arrow seq left source right =
+    simp (measures-Sequential, earliest_append, earliest_none)
 
 pub flat_walks : (found : Option Place) (x : Flat)
-    → earliest found (measured_flat x).crowded ≡ earliest (earliest (earliest found (over most_units (1 + length (out-Flat x).rest) (measured_operand (out-Flat x).first).spot.place)) (measured_operand (out-Flat x).first).crowded) (all_crowded (map (λ part. (measured_flat_part part).unit) (out-Flat x).rest))
+    → earliest found (measured_flat x).crowded
+    ≡ earliest
+    (earliest
+    (earliest found
+    (over most_units (1 + length (out-Flat x).rest)
+    (measured_operand (out-Flat x).first).spot.place))
+    (measured_operand (out-Flat x).first).crowded)
+    (all_crowded (map (λ part. (measured_flat_part part).unit) (out-Flat x).rest))
 flat_walks found x =
     simp (flat_measures, length-map, map-map, earliest_append)
-    (ap (λ n. earliest (earliest (earliest found (over most_units n (measured_operand (out-Flat x).first).spot.place)) (measured_operand (out-Flat x).first).crowded) (all_crowded (map (λ part. (measured_flat_part part).unit) (out-Flat x).rest))) (one_and (length (out-Flat x).rest)))
+    (ap (λ n. earliest
+    (earliest
+    (earliest found (over most_units n (measured_operand (out-Flat x).first).spot.place))
+    (measured_operand (out-Flat x).first).crowded)
+    (all_crowded (map (λ part. (measured_flat_part part).unit) (out-Flat x).rest)))
+    (one_and (length (out-Flat x).rest)))
 
 pub walks-Run : (found : Option Place) (run : Run)
-    → earliest found (measured_flat_part (a_flat_part.Run run)).unit.crowded ≡ earliest found (measured_run run).crowded
+    → earliest found (measured_flat_part (a_flat_part.Run run)).unit.crowded
+    ≡ earliest found (measured_run run).crowded
 walks-Run found run = simp measures-Run
 
 pub walks-Infix : (found : Option Place) (sign : Sign) (operand : Operand)
-    → earliest found (measured_flat_part (a_flat_part.Infix sign operand)).unit.crowded ≡ earliest found (measured_operand operand).crowded
+    → earliest found (measured_flat_part (a_flat_part.Infix sign operand)).unit.crowded
+    ≡ earliest found (measured_operand operand).crowded
 walks-Infix found sign operand = simp measures-Infix
 
 pub operand_walks : (found : Option Place) (x : Operand)
-    → earliest found (measured_operand x).crowded ≡ earliest found (measured_run (out-Operand x).run).crowded
+    → earliest found (measured_operand x).crowded
+    ≡ earliest found (measured_run (out-Operand x).run).crowded
 operand_walks found x = simp operand_measures
 
 pub run_walks : (found : Option Place) (x : Run)
-    → earliest found (measured_run x).crowded ≡ earliest (earliest (earliest found (over most_elements (1 + length (out-Run x).rest) (measured_atom (out-Run x).first).spot.place)) (measured_atom (out-Run x).first).crowded) (all_crowded (map measured_run_part (out-Run x).rest))
+    → earliest found (measured_run x).crowded
+    ≡ earliest
+    (earliest
+    (earliest found
+    (over most_elements (1 + length (out-Run x).rest)
+    (measured_atom (out-Run x).first).spot.place)) (measured_atom (out-Run x).first).crowded)
+    (all_crowded (map measured_run_part (out-Run x).rest))
 run_walks found x = simp (run_measures, length-map, earliest_append)
 
 pub walks-Atom : (found : Option Place) (atom : Atom)
-    → earliest found (measured_run_part (a_run_part.Atom atom)).crowded ≡ earliest found (measured_atom atom).crowded
+    → earliest found (measured_run_part (a_run_part.Atom atom)).crowded
+    ≡ earliest found (measured_atom atom).crowded
 walks-Atom found atom = simp measures-Atom
 
 pub walks-Postfix : (found : Option Place) (postfix : Postfix)
-    → earliest found (measured_run_part (a_run_part.Postfix postfix)).crowded ≡ earliest found (measured_postfix postfix).crowded
+    → earliest found (measured_run_part (a_run_part.Postfix postfix)).crowded
+    ≡ earliest found (measured_postfix postfix).crowded
 walks-Postfix found postfix = simp measures-Postfix
 
 pub walks-Subscript : (found : Option Place) (left : Spot) (index : Expr) (right : Spot)
-    → earliest found (measured_postfix (a_postfix.Subscript left index right)).crowded ≡ earliest found (measured_expr index).crowded
+    → earliest found (measured_postfix (a_postfix.Subscript left index right)).crowded
+    ≡ earliest found (measured_expr index).crowded
 walks-Subscript found left index right = simp (measures-Subscript, earliest_append, earliest_none)
 
 pub walks-Power : (found : Option Place) (power : Spot) (exponent : Atom)
-    → earliest found (measured_postfix (a_postfix.Power power exponent)).crowded ≡ earliest found (measured_atom exponent).crowded
+    → earliest found (measured_postfix (a_postfix.Power power exponent)).crowded
+    ≡ earliest found (measured_atom exponent).crowded
 walks-Power found power exponent = simp (measures-Power, earliest_append, earliest_none)
 
 pub walks-Field : (found : Option Place) (dot : Spot) (name : Name)
     → earliest found (measured_postfix (a_postfix.Field dot name)).crowded ≡ found
 walks-Field found dot name = simp (measures-Field, earliest_append, earliest_none)
 
-pub walks-Call : (found : Option Place) (dot : Spot) (name : Name) (left : Spot) (arguments : Option ExprList) (right : Spot)
-    → earliest found (measured_postfix (a_postfix.Call dot name left arguments right)).crowded ≡ earliest found (all_crowded (listed_parts (option_map measured_expr_list arguments)))
-walks-Call found dot name left arguments right = simp (measures-Call, earliest_append, earliest_none)
+pub walks-Call : (found : Option Place) (dot : Spot) (name : Name) (left : Spot)
+    (arguments : Option ExprList) (right : Spot)
+    → earliest found (measured_postfix (a_postfix.Call dot name left arguments right)).crowded
+    ≡ earliest found (all_crowded (listed_parts (option_map measured_expr_list arguments)))
+walks-Call found dot name left arguments right =
+    simp (measures-Call, earliest_append, earliest_none)
 
 pub walks-Name : (found : Option Place) (name : Name)
     → earliest found (measured_atom (an_atom.Name name)).crowded ≡ found
@@ -153,25 +204,38 @@ pub walks-Self_ : (found : Option Place) (s : Spot)
 walks-Self_ found s = simp (measures-Self_, earliest_append, earliest_none)
 
 pub walks-Parens : (found : Option Place) (left : Spot) (contents : Option ExprList) (right : Spot)
-    → earliest found (measured_atom (an_atom.Parens left contents right)).crowded ≡ earliest found (over most_tuple_parts (length (listed_parts (option_map measured_expr_list contents))) left.place ++ all_crowded (listed_parts (option_map measured_expr_list contents)))
+    → earliest found (measured_atom (an_atom.Parens left contents right)).crowded
+    ≡ earliest found
+    (over most_tuple_parts (length (listed_parts (option_map measured_expr_list contents)))
+    left.place ++ all_crowded (listed_parts (option_map measured_expr_list contents)))
 walks-Parens found left contents right = simp measures-Parens
 
 pub walks-Delimited : (found : Option Place) (form : Delimited)
-    → earliest found (measured_atom (an_atom.Delimited form)).crowded ≡ earliest found (measured_delimited form).crowded
+    → earliest found (measured_atom (an_atom.Delimited form)).crowded
+    ≡ earliest found (measured_delimited form).crowded
 walks-Delimited found form = simp measures-Delimited
 
-pub walks-ArrayFill : (found : Option Place) (spots : FillSpots) (element : TypeTree) (size value : Expr)
-    → earliest found (measured_atom (an_atom.ArrayFill spots element size value)).crowded ≡ earliest (earliest (earliest found (measured_type element).crowded) (measured_expr size).crowded) (measured_expr value).crowded
-walks-ArrayFill found spots element size value = simp (measures-ArrayFill, earliest_append, earliest_none)
+pub walks-ArrayFill : (found : Option Place) (spots : FillSpots) (element : TypeTree)
+    (size value : Expr)
+    → earliest found (measured_atom (an_atom.ArrayFill spots element size value)).crowded
+    ≡ earliest
+    (earliest (earliest found (measured_type element).crowded) (measured_expr size).crowded)
+    (measured_expr value).crowded
+walks-ArrayFill found spots element size value =
+    simp (measures-ArrayFill, earliest_append, earliest_none)
 
 pub expr_list_walks : (found : Option Place) (x : ExprList)
-    → earliest found (all_crowded (measured_expr_list x).parts) ≡ earliest (earliest found (measured_expr (out-ExprList x).first).crowded) (all_crowded (map measured_next_expr (out-ExprList x).others))
+    → earliest found (all_crowded (measured_expr_list x).parts)
+    ≡ earliest (earliest found (measured_expr (out-ExprList x).first).crowded)
+    (all_crowded (map measured_next_expr (out-ExprList x).others))
 expr_list_walks found x = simp (expr_list_measures, earliest_append)
 
 pub next_expr_walks : (found : Option Place) (x : NextExpr)
-    → earliest found (measured_next_expr x).crowded ≡ earliest found (measured_expr (out-NextExpr x).expr).crowded
+    → earliest found (measured_next_expr x).crowded
+    ≡ earliest found (measured_expr (out-NextExpr x).expr).crowded
 next_expr_walks found x = simp next_expr_measures
 
 -- how many expressions a list has
-pub expr_list_count : (x : ExprList) → length (measured_expr_list x).parts ≡ 1 + length (out-ExprList x).others
+pub expr_list_count : (x : ExprList)
+    → length (measured_expr_list x).parts ≡ 1 + length (out-ExprList x).others
 expr_list_count x = simp (expr_list_measures, length-map) (one_and (length (out-ExprList x).others))

@@ -1,4 +1,5 @@
--- The chapter "Grammar", limits: the earliest of some places is one of them, and none of them stands before it.
+-- The chapter "Grammar", limits: the earliest of some places is one of them, and none of them
+-- stands before it.
 use Rattle.std.proofs.Common.{◌≡◌, Bool, true, false, cond, List, [], ◌∷◌, ◌++◌, Option, Some, None, ◌⊎◌, inl, inr, ⊎_elim, refl, sym, ap, ◌∙◌, subst, arith}
 use Rattle.std.specs.Prelude.{MatchOption}
 use Rattle.std.specs.List.{Contains, flat_map}
@@ -40,7 +41,8 @@ in_cons p ps o h = ⊎_elim (λ k. inl (only k)) inr (Contains-append_cases (p �
 
 -- of these places this one is the earliest
 abbrev IsLeast : List Place → Place → Type 0
-IsLeast places at = Contains places at × ((other : Place) → Contains places other → ¬ (IsBefore other at))
+IsLeast places at = Contains places at
+    × ((other : Place) → Contains places other → ¬ (IsBefore other at))
 
 -- what a test for the earliest of some places finds
 abbrev Finds : List Place → Option Place → Type 0
@@ -49,13 +51,29 @@ Finds places (Some at) = IsLeast places at
 
 module _ (p : Place) (ps : List Place) where
   alone : ps ≡ [] → Finds (p ∷ ps) (Some p)
-  alone e = subst (λ (s : List Place). Finds (p ∷ s) (Some p)) (sym e) (Contains-push [] p, λ other h. ⊎_elim (λ same. subst (λ o. ¬ (IsBefore o p)) same (irreflexive p)) (λ n. absurd (none other n)) (in_cons p [] other h)) where
-    none : (other : Place) → Contains [] other → ⊥
-    none other n = omega arith
+  alone e =
+      subst (λ (s : List Place). Finds (p ∷ s) (Some p)) (sym e) (
+        Contains-push [] p,
+        λ other h. ⊎_elim (λ same. subst (λ o. ¬ (IsBefore o p)) same (irreflexive p))
+            (λ n. absurd (none other n)) (in_cons p [] other h),
+      ) where
+        none : (other : Place) → Contains [] other → ⊥
+        none other n = omega arith
 
-  earlier-found : (q : Place) → IsLeast ps q → (b : Bool) → is_before q p ≡ b → Finds (p ∷ ps) (Some (cond b q p))
-  earlier-found q h true e = (Contains-append_right (p ∷ []) ps q h.0, λ other k. ⊎_elim (λ same. subst (λ o. ¬ (IsBefore o q)) same (asymmetric q p (is_before-yes q p e))) (λ n. h.1 other n) (in_cons p ps other k))
-  earlier-found q h false e = (first, λ other k. ⊎_elim (λ same. subst (λ o. ¬ (IsBefore o p)) same (irreflexive p)) (λ n before. h.1 other n (goes_on other p q (is_before-no q p e) before)) (in_cons p ps other k)) where
+  earlier-found : (q : Place) → IsLeast ps q → (b : Bool) → is_before q p ≡ b
+      → Finds (p ∷ ps) (Some (cond b q p))
+  earlier-found q h true e = (
+    Contains-append_right (p ∷ []) ps q h.0,
+    λ other k. ⊎_elim
+        (λ same. subst (λ o. ¬ (IsBefore o q)) same (asymmetric q p (is_before-yes q p e)))
+        (λ n. h.1 other n) (in_cons p ps other k),
+  )
+  earlier-found q h false e = (
+    first,
+    λ other k. ⊎_elim (λ same. subst (λ o. ¬ (IsBefore o p)) same (irreflexive p))
+        (λ n before. h.1 other n (goes_on other p q (is_before-no q p e) before))
+        (in_cons p ps other k),
+  ) where
     first : Contains (p ∷ ps) p
     first = (0, omega arith, refl)
 
@@ -69,19 +87,32 @@ finds (p ∷ ps) = with_more p ps (least ps) (finds ps)
 
 -- the earliest place of what passes a limit answers which component does
 module _ (c : Component) where
-  answered : (least_one : Option Place) → Finds (crowded c) least_one → MatchOption least_one (KeepsLimits c) (λ at. BreaksLimit c at)
+  answered : (least_one : Option Place) → Finds (crowded c) least_one
+      → MatchOption least_one (KeepsLimits c) (λ at. BreaksLimit c at)
   answered None h = h
   answered (Some at) h = h
 
-  pub answers : (found : Option Place) → found ≡ earliest None (crowded c) → MatchOption found (KeepsLimits c) (λ at. BreaksLimit c at)
+  pub answers : (found : Option Place) → found ≡ earliest None (crowded c)
+      → MatchOption found (KeepsLimits c) (λ at. BreaksLimit c at)
   unfolding earliest
-  answers found is = subst (λ o. MatchOption o (KeepsLimits c) (λ at. BreaksLimit c at)) (sym is) (answered (least (crowded c)) (finds (crowded c)))
+  answers found is =
+      subst (λ o. MatchOption o (KeepsLimits c) (λ at. BreaksLimit c at)) (sym is)
+      (answered (least (crowded c)) (finds (crowded c)))
 
   -- the same of the three walks, one after the other
-  pub answers_all : (declarations types : List Place) (found : Option Place) → declarations ≡ first_behind most_declarations (flat_map declaration_places c.declarations)
+  pub answers_all : (declarations types : List Place) (found : Option Place)
+      → declarations ≡ first_behind most_declarations (flat_map declaration_places c.declarations)
       → types ≡ first_behind most_types (flat_map (λ d. type_places d.declaration) c.declarations)
-      → found ≡ earliest (earliest (earliest None declarations) types) (all_crowded (measured_declarations c)) → MatchOption found (KeepsLimits c) (λ at. BreaksLimit c at)
+      → found ≡ earliest (earliest (earliest None declarations) types)
+      (all_crowded (measured_declarations c))
+      → MatchOption found (KeepsLimits c) (λ at. BreaksLimit c at)
   answers_all declarations types found are of_types is =
-      answers found (is ∙ sym (earliest_append (earliest None declarations) types (all_crowded (measured_declarations c))) ∙ sym (earliest_append None declarations (types ++ all_crowded (measured_declarations c)))
+      answers found (is
+      ∙ sym (earliest_append (earliest None declarations) types
+      (all_crowded (measured_declarations c)))
+      ∙ sym (earliest_append None declarations
+      (types ++ all_crowded (measured_declarations c)))
       ∙ ap (λ ds. earliest None (ds ++ (types ++ all_crowded (measured_declarations c)))) are
-      ∙ ap (λ ts. earliest None (first_behind most_declarations (flat_map declaration_places c.declarations) ++ (ts ++ all_crowded (measured_declarations c)))) of_types)
+      ∙ ap (λ ts. earliest None
+      (first_behind most_declarations (flat_map declaration_places c.declarations)
+      ++ (ts ++ all_crowded (measured_declarations c)))) of_types)

@@ -16,27 +16,48 @@ use Rattle.fort_tree.proofs.MeasuresTypes.{measures-Simple, measures-Arrow, meas
 use Rattle.fort_limits.specs.Earliest.{earliest}
 use Rattle.fort_limits.proofs.EarliestLaws.{earliest_none, earliest_append, one_and}
 
-pub walks-Simple : (found : Option Place) (simple : SimpleType) → earliest found (measured_type (a_type_tree.Simple simple)).crowded ≡ earliest found (measured_simple_type simple).crowded
+pub walks-Simple : (found : Option Place) (simple : SimpleType)
+    → earliest found (measured_type (a_type_tree.Simple simple)).crowded
+    ≡ earliest found (measured_simple_type simple).crowded
 walks-Simple found simple = simp measures-Simple
 
 pub walks-Arrow : (found : Option Place) (domain : SimpleType) (arrow : Spot) (result : SimpleType)
-    → earliest found (measured_type (a_type_tree.Arrow domain arrow result)).crowded ≡ earliest (earliest found (measured_simple_type domain).crowded) (measured_simple_type result).crowded
+    → earliest found (measured_type (a_type_tree.Arrow domain arrow result)).crowded
+    ≡ earliest (earliest found (measured_simple_type domain).crowded)
+    (measured_simple_type result).crowded
 walks-Arrow found domain arrow result = simp (measures-Arrow, earliest_append, earliest_none)
 
-pub walks-Named : (found : Option Place) (name : Name) → earliest found (measured_simple_type (a_simple_type.Named name)).crowded ≡ found
+pub walks-Named : (found : Option Place) (name : Name)
+    → earliest found (measured_simple_type (a_simple_type.Named name)).crowded ≡ found
 walks-Named found name = simp (measures-Named, earliest_none)
 
-pub walks-Array : (found : Option Place) (array : Name) (left : Spot) (element : TypeTree) (comma : Spot) (index : Name) (right : Spot)
-    → earliest found (measured_simple_type (a_simple_type.Array array left element comma index right)).crowded ≡ earliest found (measured_type element).crowded
-walks-Array found array left element comma index right = simp (measures-Array, earliest_append, earliest_none)
+pub walks-Array : (found : Option Place) (array : Name) (left : Spot) (element : TypeTree)
+    (comma : Spot) (index : Name) (right : Spot)
+    → earliest found
+    (measured_simple_type (a_simple_type.Array array left element comma index right)).crowded
+    ≡ earliest found (measured_type element).crowded
+walks-Array found array left element comma index right =
+    simp (measures-Array, earliest_append, earliest_none)
 
 pub walks-Parts : (found : Option Place) (left : Spot) (parts : Option TypeList) (right : Spot)
-    → earliest found (measured_simple_type (a_simple_type.Parts left parts right)).crowded ≡ earliest found (over most_tuple_parts (length (listed_parts (option_map measured_type_list parts))) left.place ++ all_crowded (listed_parts (option_map measured_type_list parts)))
+    → earliest found (measured_simple_type (a_simple_type.Parts left parts right)).crowded
+    ≡ earliest found
+    (over most_tuple_parts (length (listed_parts (option_map measured_type_list parts))) left.place
+    ++ all_crowded (listed_parts (option_map measured_type_list parts)))
 walks-Parts found left parts right = simp measures-Parts
 
 pub type_list_walks : (found : Option Place) (left : Place) (x : TypeList)
-    → earliest found (over most_tuple_parts (length (measured_type_list x).parts) left ++ all_crowded (measured_type_list x).parts)
-    ≡ earliest (earliest (earliest found (over most_tuple_parts (1 + length (out-TypeList x).others) left)) (measured_type (out-TypeList x).first).crowded) (all_crowded (map measured_next_type (out-TypeList x).others))
+    → earliest found
+    (over most_tuple_parts (length (measured_type_list x).parts) left
+    ++ all_crowded (measured_type_list x).parts)
+    ≡ earliest
+    (earliest (earliest found (over most_tuple_parts (1 + length (out-TypeList x).others) left))
+    (measured_type (out-TypeList x).first).crowded)
+    (all_crowded (map measured_next_type (out-TypeList x).others))
 type_list_walks found left x =
     simp (type_list_measures, length-map, earliest_append)
-    (ap (λ n. earliest (earliest (earliest found (over most_tuple_parts n left)) (measured_type (out-TypeList x).first).crowded) (all_crowded (map measured_next_type (out-TypeList x).others))) (one_and (length (out-TypeList x).others)))
+    (ap (λ n. earliest
+    (earliest (earliest found (over most_tuple_parts n left))
+    (measured_type (out-TypeList x).first).crowded)
+    (all_crowded (map measured_next_type (out-TypeList x).others)))
+    (one_and (length (out-TypeList x).others)))

@@ -7,7 +7,8 @@ later_assoc : (a b c : Option Value) → later (later a b) c ≡ later a (later 
 later_assoc a b None = refl
 later_assoc a b (Some v) = refl
 
-first_assoc : (r w r' w' r'' : Option Value) → first_read (first_read r w r') (later w w') r'' ≡ first_read r w (first_read r' w' r'')
+first_assoc : (r w r' w' r'' : Option Value)
+    → first_read (first_read r w r') (later w w') r'' ≡ first_read r w (first_read r' w' r'')
 first_assoc (Some v) w r' w' r'' = refl
 first_assoc None (Some w) r' None r'' = refl
 first_assoc None (Some w) r' (Some w') r'' = refl
@@ -19,7 +20,8 @@ pub joined_assoc : (c d e : Cell) → joined (joined c d) e ≡ joined c (joined
 joined_assoc untouched d e = refl
 joined_assoc (found r w) untouched e = refl
 joined_assoc (found r w) (found r' w') untouched = refl
-joined_assoc (found r w) (found r' w') (found r'' w'') = λ i. found (first_assoc r w r' w' r'' i) (later_assoc w w' w'' i)
+joined_assoc (found r w) (found r' w') (found r'' w'') =
+    λ i. found (first_assoc r w r' w' r'' i) (later_assoc w w' w'' i)
 joined_assoc (found r w) (found r' w') (made w'') = refl
 joined_assoc (found r w) (made w') untouched = refl
 joined_assoc (found r w) (made w') (found r'' w'') = refl
@@ -38,7 +40,8 @@ joined_untouched (found r w) = refl
 joined_untouched (made w) = refl
 
 -- on an entry that fits, the join acts as the one and then the other
-pub entry_joined : (c d : Cell) (o : Option Value) → Fits c o → Fits d (left_at c o) → left_at (joined c d) o ≡ left_at d (left_at c o)
+pub entry_joined : (c d : Cell) (o : Option Value) → Fits c o → Fits d (left_at c o)
+    → left_at (joined c d) o ≡ left_at d (left_at c o)
 entry_joined untouched d o f g = refl
 entry_joined (found r w) untouched o f g = refl
 entry_joined (found r w) (found r' w') o f g = sym (later_assoc o w w')
@@ -47,12 +50,14 @@ entry_joined (made w) untouched o f g = refl
 entry_joined (made w) (found r' w') o f g = refl
 entry_joined (made w) (made w') o f g = refl
 
-found_fits : (r w r' w' : Option Value) (v : Value) → Agrees (Some v) r → Fits (found r' w') (later (Some v) w) → Agrees (Some v) (first_read r w r')
+found_fits : (r w r' w' : Option Value) (v : Value) → Agrees (Some v) r
+    → Fits (found r' w') (later (Some v) w) → Agrees (Some v) (first_read r w r')
 found_fits (Some x) w r' w' v f g = f
 found_fits None (Some y) r' w' v f g = tt
 found_fits None None r' w' v f g = g
 
-pub joined_fits : (c d : Cell) (o : Option Value) → Fits c o → Fits d (left_at c o) → Fits (joined c d) o
+pub joined_fits : (c d : Cell) (o : Option Value) → Fits c o → Fits d (left_at c o)
+    → Fits (joined c d) o
 joined_fits untouched d o f g = g
 joined_fits (found r w) untouched o f g = f
 joined_fits (found r w) (found r' w') None f g = absurd f
@@ -85,7 +90,8 @@ meets_of (made None) (made w') o f g = tt
 meets_of (made (Some v)) (made w') o f g = absurd g
 
 -- an entry that fits the join fits the one and then the other
-pub split : (c d : Cell) (o : Option Value) → Meets c d → Fits (joined c d) o → Fits c o × Fits d (left_at c o)
+pub split : (c d : Cell) (o : Option Value) → Meets c d → Fits (joined c d) o
+    → Fits c o × Fits d (left_at c o)
 split untouched d o m f = (tt, f)
 split (found r w) untouched o m f = (f, tt)
 split (found r w) (found r' w') None m f = absurd f
@@ -129,7 +135,8 @@ fits_taken_away (found r w) (Some v) f = f
 fits_taken_away (made w) None f = f
 fits_taken_away (made w) (Some v) f = f
 
--- older locations have the values from before a failed attempt; after an aborted one the store is as before
+-- older locations have the values from before a failed attempt; after an aborted one the store is
+-- as before
 pub older_back : (c : Cell) (v : Value) → Fits c (Some v) → left_at (given_back c) (Some v) ≡ Some v
 older_back untouched v f = refl
 older_back (found r w) v f = refl

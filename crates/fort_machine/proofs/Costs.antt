@@ -42,7 +42,8 @@ Costly _ = Unit {0}
 one : (n : ℕ) → 0 < 1 + n
 one n = omega arith
 
-costly_standing : (st : Standing) (k : Value → Act) → ((v : Value) → Costly (k v)) → Costly (by_standing st k)
+costly_standing : (st : Standing) (k : Value → Act) → ((v : Value) → Costly (k v))
+    → Costly (by_standing st k)
 costly_standing (at_value v) k h = h v
 costly_standing (at_throw v) k h = one 0
 costly_standing open_yet k h = tt
@@ -50,17 +51,21 @@ costly_standing open_yet k h = tt
 costly_after : (a : Term) (k : Value → Act) → ((v : Value) → Costly (k v)) → Costly (after a k)
 costly_after a k h = costly_standing (standing a) k h
 
-costly_all : (ts : List Term) (k : List Value → Act) → ((vs : List Value) → Costly (k vs)) → Costly (after_all ts k)
+costly_all : (ts : List Term) (k : List Value → Act) → ((vs : List Value) → Costly (k vs))
+    → Costly (after_all ts k)
 costly_all [] k h = h []
-costly_all (a ∷ ts) k h = costly_after a _ (λ v. costly_all ts (λ vs. k (v ∷ vs)) (λ vs. h (v ∷ vs)))
+costly_all (a ∷ ts) k h =
+    costly_after a _ (λ v. costly_all ts (λ vs. k (v ∷ vs)) (λ vs. h (v ∷ vs)))
 
-costly_together : (g : Together) (k : List Value → Act) → ((vs : List Value) → Costly (k vs)) → Costly (by_together g k)
+costly_together : (g : Together) (k : List Value → Act) → ((vs : List Value) → Costly (k vs))
+    → Costly (by_together g k)
 costly_together (at_values vs) k h = h vs
 costly_together (leftmost v) k h = one 0
 costly_together some_still k h = tt
 costly_together some_open k h = tt
 
-costly_once : (ts : List Term) (k : List Value → Act) → ((vs : List Value) → Costly (k vs)) → Costly (once_all ts k)
+costly_once : (ts : List Term) (k : List Value → Act) → ((vs : List Value) → Costly (k vs))
+    → Costly (once_all ts k)
 costly_once ts k h = costly_together (standing_together ts) k h
 
 costly_object : (o : Option Value) → Costly (throws_object o)
@@ -105,9 +110,13 @@ costly_if : (b : Bool) (x y : Act) → Costly x → Costly y → Costly (if b th
 costly_if true x y gx gy = gx
 costly_if false x y gx gy = gy
 
-costly_element : (p : Program) (k m : ValueKind) (f : Option ℕ → Act) → ((o : Option ℕ) → Costly (f o)) → Costly (by_element p k m f)
-costly_element p (Value-F.Array element base size) (Value-F.Small (pos i)) f h = costly_if (nat_lt i size) _ _ (h (Some (base.0 + i))) (costly_throwing p p.built_in.index_out_of_range)
-costly_element p (Value-F.Array element base size) (Value-F.Small (negsuc i)) f h = costly_throwing p p.built_in.index_out_of_range
+costly_element : (p : Program) (k m : ValueKind) (f : Option ℕ → Act)
+    → ((o : Option ℕ) → Costly (f o)) → Costly (by_element p k m f)
+costly_element p (Value-F.Array element base size) (Value-F.Small (pos i)) f h =
+    costly_if (nat_lt i size) _ _ (h (Some (base.0 + i)))
+    (costly_throwing p p.built_in.index_out_of_range)
+costly_element p (Value-F.Array element base size) (Value-F.Small (negsuc i)) f h =
+    costly_throwing p p.built_in.index_out_of_range
 costly_element p _ _ f h = tt
 
 costly_sizing : (k : ValueKind) → Costly (sizing k)
@@ -119,31 +128,37 @@ costly_choosing (Value-F.Truth true) a b = one 0
 costly_choosing (Value-F.Truth false) a b = one 0
 costly_choosing _ a b = tt
 
-costly_trying : (p : Program) (x : ℕ) (cs : List (Term × Ty)) (last : Option Term) (st : Standing) → Costly (trying p x cs last st)
+costly_trying : (p : Program) (x : ℕ) (cs : List (Term × Ty)) (last : Option Term) (st : Standing)
+    → Costly (trying p x cs last st)
 costly_trying p x cs last (at_value v) = one 0
 costly_trying p x cs last (at_throw v) = one 0
 costly_trying p x cs last open_yet = tt
 
 costly_deep : (p : Program) (n : ℕ) → Costly (too_deep p n)
-costly_deep p n = costly_if (nat_le n 100) stuck (throwing p p.built_in.depth_exceeded) tt (costly_throwing p p.built_in.depth_exceeded)
+costly_deep p n =
+    costly_if (nat_le n 100) stuck (throwing p p.built_in.depth_exceeded) tt
+    (costly_throwing p p.built_in.depth_exceeded)
 
 costly_item : (items : Items) (k : ℕ) (next : Value → Term) → Costly (by_item items k next)
 costly_item (numbers_from first count) k next = one 0
 costly_item (elements_from base count) k next = tt
 costly_item no_items k next = tt
 
-costly_for : (o : Order) (items : Items) (k n x : ℕ) (source : Value) (b : Term) → Costly (for_items o items k n x source b)
+costly_for : (o : Order) (items : Items) (k n x : ℕ) (source : Value) (b : Term)
+    → Costly (for_items o items k n x source b)
 costly_for o items k zero x source b = one 0
 costly_for order.Seq items k (suc n) x source b = costly_item items k _
 costly_for order.Parallel items k (suc zero) x source b = costly_item items k _
 costly_for order.Parallel items k (suc (suc n)) x source b = one 0
 
-costly_reduce : (o : Order) (items : Items) (k n : ℕ) (set : SetId) (empty : Term) (x : ℕ) (source : Value) (b : Term) → Costly (reduce_items o items k n set empty x source b)
+costly_reduce : (o : Order) (items : Items) (k n : ℕ) (set : SetId) (empty : Term) (x : ℕ)
+    (source : Value) (b : Term) → Costly (reduce_items o items k n set empty x source b)
 costly_reduce o items k zero set empty x source b = one 0
 costly_reduce o items k (suc zero) set empty x source b = costly_item items k _
 costly_reduce o items k (suc (suc n)) set empty x source b = one 0
 
-costly_spanned : (s : Span) (items : Items) (f : ℕ → ℕ → Act) → ((k n : ℕ) → Costly (f k n)) → Costly (spanned s items f)
+costly_spanned : (s : Span) (items : Items) (f : ℕ → ℕ → Act) → ((k n : ℕ) → Costly (f k n))
+    → Costly (spanned s items f)
 costly_spanned (span.Part k n) items f h = h k n
 costly_spanned span.Whole (numbers_from first count) f h = h 0 count
 costly_spanned span.Whole (elements_from base count) f h = h 0 count
@@ -153,24 +168,40 @@ costly_act : (p : Program) (y : Term-F Term Value Closure) → Costly (act_at p 
 costly_act p (Term-F.Call set arguments) = costly_once arguments (calls set) (λ vs. tt)
 costly_act p (Term-F.Operator set operands) = costly_all operands (calls set) (λ vs. tt)
 costly_act p (Term-F.Apply f a) = costly_once (f ∷ a ∷ []) applying costly_applying
-costly_act p (Term-F.Fill ty n a) = costly_after n _ (λ size. costly_after a _ (λ v. costly_filling p ty v (out-Value size)))
+costly_act p (Term-F.Fill ty n a) =
+    costly_after n _ (λ size. costly_after a _ (λ v. costly_filling p ty v (out-Value size)))
 costly_act p (Term-F.Let xs a b) = costly_after a _ (λ v. costly_binding (bound_to xs v) b)
 costly_act p (Term-F.Mutable x ty a b) = costly_after a _ (λ v. one 0)
 costly_act p (Term-F.Read x) = costly_reading (location_of x)
 costly_act p (Term-F.Write x a) = costly_after a _ (λ v. costly_writing (location_of x) v)
-costly_act p (Term-F.ReadField o f) = costly_after o _ (λ v. costly_reading (field_of p f (out-Value v)))
-costly_act p (Term-F.WriteField o f a) = costly_after o _ (λ v. costly_after a _ (λ w. costly_writing (field_of p f (out-Value v)) w))
-costly_act p (Term-F.ReadElement a i) = costly_after a _ (λ v. costly_after i _ (λ w. costly_element p (out-Value v) (out-Value w) reading_at costly_reading))
+costly_act p (Term-F.ReadField o f) =
+    costly_after o _ (λ v. costly_reading (field_of p f (out-Value v)))
+costly_act p (Term-F.WriteField o f a) =
+    costly_after o _ (λ v. costly_after a _ (λ w. costly_writing (field_of p f (out-Value v)) w))
+costly_act p (Term-F.ReadElement a i) =
+    costly_after a _
+    (λ v. costly_after i _
+    (λ w. costly_element p (out-Value v) (out-Value w) reading_at costly_reading))
 costly_act p (Term-F.WriteElement a i b) =
-    costly_after a _ (λ v. costly_after i _ (λ w. costly_after b _ (λ u. costly_element p (out-Value v) (out-Value w) (λ l. writing_at l u) (λ l. costly_writing l u))))
+    costly_after a _
+    (λ v. costly_after i _
+    (λ w. costly_after b _
+    (λ u. costly_element p (out-Value v) (out-Value w) (λ l. writing_at l u)
+    (λ l. costly_writing l u))))
 costly_act p (Term-F.Size a) = costly_after a _ (λ v. costly_sizing (out-Value v))
 costly_act p (Term-F.Then a b) = costly_after a _ (λ v. one 0)
 costly_act p (Term-F.If c a b) = costly_after c _ (λ v. costly_choosing (out-Value v) a b)
 costly_act p (Term-F.While c b) = one 0
 costly_act p (Term-F.Typecase x a cs b) = costly_after a _ (λ v. one 0)
-costly_act p (Term-F.For o s x a b) = costly_after a _ (λ v. costly_spanned s (items_at (out-Value v)) _ (λ k n. costly_for o (items_at (out-Value v)) k n x v b))
+costly_act p (Term-F.For o s x a b) =
+    costly_after a _
+    (λ v. costly_spanned s (items_at (out-Value v)) _
+    (λ k n. costly_for o (items_at (out-Value v)) k n x v b))
 costly_act p (Term-F.ForHalves a b) = costly_once (a ∷ b ∷ []) _ (λ vs. one 0)
-costly_act p (Term-F.Reduce o s set empty x a b) = costly_after a _ (λ v. costly_spanned s (items_at (out-Value v)) _ (λ k n. costly_reduce o (items_at (out-Value v)) k n set empty x v b))
+costly_act p (Term-F.Reduce o s set empty x a b) =
+    costly_after a _
+    (λ v. costly_spanned s (items_at (out-Value v)) _
+    (λ k n. costly_reduce o (items_at (out-Value v)) k n set empty x v b))
 costly_act p (Term-F.ReduceHalves set a b) = costly_once (a ∷ b ∷ []) (calls set) (λ vs. tt)
 costly_act p (Term-F.Also blocks) = costly_once blocks _ (λ vs. one 0)
 costly_act p (Term-F.Throw a) = costly_after a _ (λ v. tt)
@@ -199,12 +230,14 @@ costly_body p (body.New id) vs = costly_new id vs _
 
 costly_acts : (p : Program) (a : Term) (x : Act) → Acts p a x → Costly x
 costly_acts p a x (by_itself e) = subst Costly e (costly_act p (out-Term a))
-costly_acts p a x (by_call {values = vs} {decl = decl} e h i) = subst Costly i (costly_body p decl.body vs)
+costly_acts p a x (by_call {values = vs} {decl = decl} e h i) =
+    subst Costly i (costly_body p decl.body vs)
 
 cost_is : (d e : Effect) → d ≡ e → 0 < e.cost → 0 < d.cost
 cost_is d e q h = subst (λ (x : Effect). 0 < x.cost) (sym q) h
 
-costly_does : (p : Program) (inner : Bool) (loc : ℕ) (x : Act) (b : Term) (d : Effect) → Costly x → Does p inner loc x b d → 0 < d.cost
+costly_does : (p : Program) (inner : Bool) (loc : ℕ) (x : Act) (b : Term) (d : Effect) → Costly x
+    → Does p inner loc x b d → 0 < d.cost
 costly_does p inner loc stuck b d g k = absurd k
 costly_does p inner loc (turns next output cost) b d g k = cost_is d _ k.2 g
 costly_does p inner loc (enters c next) b d g k = cost_is d _ k.3 (one 0)
@@ -214,22 +247,36 @@ costly_does p inner loc (makes vs next cost) b d g k = cost_is d _ k.1 g
 costly_does p inner loc (calls set vs) b d g k = absurd k
 costly_does p inner loc acts.ends b d g k = cost_is d _ k.5 (one 0)
 
-local_costs : (p : Program) (inner : Bool) (loc : ℕ) (a b : Term) (d : Effect) → Local p inner loc a b d → 0 < d.cost
+local_costs : (p : Program) (inner : Bool) (loc : ℕ) (a b : Term) (d : Effect)
+    → Local p inner loc a b d → 0 < d.cost
 local_costs p inner loc a b d (steps x h k) = costly_does p inner loc x b d (costly_acts p a x h) k
 
-closes_costs : (p : Program) (m : Mode) (body b : Term) (ended : Ended) (d e : Effect) → Closes p m body ended d b e → 0 < e.cost
+closes_costs : (p : Program) (m : Mode) (body b : Term) (ended : Ended) (d e : Effect)
+    → Closes p m body ended d b e → 0 < e.cost
 closes_costs p m body b ended d e (completed v x y z) = cost_is e _ z (one d.cost)
 closes_costs p m body b ended d e (failed v x y z) = cost_is e _ z (one d.cost)
 closes_costs p m body b ended d e (gave_up v x y z u w) = cost_is e _ w (one d.cost)
 closes_costs p m body b ended d e (fell_asleep marks x y z o u w) = cost_is e _ w (one d.cost)
 
-one_more : (ps rest : List Pick) (pick : Pick) (n m k : ℕ) → ps ≡ pick ∷ rest → k ≡ n + m → 0 < n → length rest ≤ m → length ps ≤ k
-one_more ps rest pick n m k e q h i = let z : length ps ≡ suc (length rest) = ap length e in omega (arith, z, q, h, i)
+one_more : (ps rest : List Pick) (pick : Pick) (n m k : ℕ) → ps ≡ pick ∷ rest → k ≡ n + m → 0 < n
+    → length rest ≤ m → length ps ≤ k
+one_more ps rest pick n m k e q h i =
+    let z : length ps ≡ suc (length rest) = ap length e in omega (arith, z, q, h, i)
 
 pub picks_cost : PicksCost
-picks_cost p inner strict s ps t r d (none a b c) = let z : length ps ≡ 0 = ap length a in omega (arith, z)
-picks_cost p inner strict s ps t r d (step {rest = rest} {a = a} {b = b} {d1 = d1} {d2 = d2} {loc = loc} fs e c n l f k w) =
-    one_more ps rest _ d1.cost d2.cost d.cost e (ap (λ (x : Effect). x.cost) w) (local_costs p inner loc a b d1 l) (picks_cost p inner strict (afterwards d1 s) rest (plug (trodden fs) b) r d2 k)
-picks_cost p inner strict s ps t r d (stop fs a e c n h x w) = let z : length ps ≡ 1 = ap length e in let y : d.cost ≡ 1 = ap (λ (x : Effect). x.cost) w in omega (arith, z, y)
-picks_cost p inner strict s ps t r d (attempt {m = m} {rest = rest} {b = b} {body = body} {ended = ended} {d1 = d1} {d2 = d2} {d3 = d3} fs e c n l bare may k close k' w) =
-    one_more ps rest _ d2.cost d3.cost d.cost e (ap (λ (x : Effect). x.cost) w) (closes_costs p m body b ended d1 d2 close) (picks_cost p inner strict (afterwards d2 s) rest (plug (trodden fs) b) r d3 k')
+picks_cost p inner strict s ps t r d (none a b c) =
+    let z : length ps ≡ 0 = ap length a in omega (arith, z)
+picks_cost p inner strict s ps t r d
+    (step {rest = rest} {a = a} {b = b} {d1 = d1} {d2 = d2} {loc = loc} fs e c n l f k w) =
+    one_more ps rest _ d1.cost d2.cost d.cost e (ap (λ
+    (x : Effect). x.cost) w) (local_costs p inner loc a b d1 l)
+    (picks_cost p inner strict (afterwards d1 s) rest (plug (trodden fs) b) r d2 k)
+picks_cost p inner strict s ps t r d (stop fs a e c n h x w) =
+    let z : length ps ≡ 1 = ap length e in let y : d.cost ≡ 1 = ap (λ (x : Effect). x.cost) w
+    in omega (arith, z, y)
+picks_cost p inner strict s ps t r d
+    (attempt {m = m} {rest = rest} {b = b} {body = body} {ended = ended} {d1 = d1} {d2 = d2} {d3 =
+    d3} fs e c n l bare may k close k' w) =
+    one_more ps rest _ d2.cost d3.cost d.cost e (ap (λ
+    (x : Effect). x.cost) w) (closes_costs p m body b ended d1 d2 close)
+    (picks_cost p inner strict (afterwards d2 s) rest (plug (trodden fs) b) r d3 k')

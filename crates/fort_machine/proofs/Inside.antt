@@ -19,11 +19,14 @@ pub in_middle : (pre post : List Term) (a : Term) → IsOneOf a (pre ++ a ∷ po
 in_middle [] post a = inl refl
 in_middle (t ∷ pre) post a = inr (in_middle pre post a)
 
-split_more : (t c b : Term) (pre post : List Term) → (c ≡ b) ⊎ ((a : Term) → IsOneOf c (pre ++ a ∷ post)) → (c ≡ b) ⊎ ((a : Term) → IsOneOf c (t ∷ (pre ++ a ∷ post)))
+split_more : (t c b : Term) (pre post : List Term)
+    → (c ≡ b) ⊎ ((a : Term) → IsOneOf c (pre ++ a ∷ post))
+    → (c ≡ b) ⊎ ((a : Term) → IsOneOf c (t ∷ (pre ++ a ∷ post)))
 split_more t c b pre post (inl e) = inl e
 split_more t c b pre post (inr k) = inr (λ a. inr (k a))
 
-split_middle : (pre post : List Term) (b c : Term) → IsOneOf c (pre ++ b ∷ post) → (c ≡ b) ⊎ ((a : Term) → IsOneOf c (pre ++ a ∷ post))
+split_middle : (pre post : List Term) (b c : Term) → IsOneOf c (pre ++ b ∷ post)
+    → (c ≡ b) ⊎ ((a : Term) → IsOneOf c (pre ++ a ∷ post))
 split_middle [] post b c (inl e) = inl e
 split_middle [] post b c (inr h) = inr (λ a. inr h)
 split_middle (t ∷ pre) post b c (inl e) = inr (λ a. inl e)
@@ -74,21 +77,30 @@ terms_round (in_group before behind) b = refl
 terms_round _ b = refl
 
 -- what a term with a part is, the part finished or not
-group_out : (ts : List Term) (o : Option (List Value)) → values_of ts ≡ o → (out-Term (group ts) ≡ Term-F.Group ts) ⊎ ((v : Value) × (out-Term (group ts) ≡ Term-F.Value v))
+group_out : (ts : List Term) (o : Option (List Value)) → values_of ts ≡ o
+    → (out-Term (group ts) ≡ Term-F.Group ts)
+    ⊎ ((v : Value) × (out-Term (group ts) ≡ Term-F.Value v))
 group_out ts None e = inl (ap out-Term (group_open ts e) ∙ outs-Group ts)
 group_out ts (Some vs) e = go (nat_le (depth (Tuple vs)) deepest) (ap (tuple_of ts) e)
   where
-    go : (b : Bool) → group ts ≡ (if b then term.Value (Tuple vs) else Group ts) → (out-Term (group ts) ≡ Term-F.Group ts) ⊎ ((v : Value) × (out-Term (group ts) ≡ Term-F.Value v))
+    go : (b : Bool) → group ts ≡ (if b then term.Value (Tuple vs) else Group ts)
+        → (out-Term (group ts) ≡ Term-F.Group ts)
+        ⊎ ((v : Value) × (out-Term (group ts) ≡ Term-F.Value v))
     go true q = inr (Tuple vs, ap out-Term q ∙ outs-Value (Tuple vs))
     go false q = inl (ap out-Term q ∙ outs-Group ts)
 
-pub out_group : (ts : List Term) → (out-Term (group ts) ≡ Term-F.Group ts) ⊎ ((v : Value) × (out-Term (group ts) ≡ Term-F.Value v))
+pub out_group : (ts : List Term)
+    → (out-Term (group ts) ≡ Term-F.Group ts)
+    ⊎ ((v : Value) × (out-Term (group ts) ≡ Term-F.Value v))
 out_group ts = group_out ts (values_of ts) refl
 
 abbrev Layer : Frame → Term → Type 0
-Layer f b = (out-Term (on f b) ≡ on_layer f b) ⊎ ((v : Value) × (out-Term (on f b) ≡ Term-F.Value v)) ⊎ (on f b ≡ b)
+Layer f b = (out-Term (on f b) ≡ on_layer f b)
+    ⊎ ((v : Value) × (out-Term (on f b) ≡ Term-F.Value v)) ⊎ (on f b ≡ b)
 
-group_layer : (before behind : List Term) (t : Term) → (out-Term (group (before ++ t ∷ behind)) ≡ Term-F.Group (before ++ t ∷ behind)) ⊎ ((v : Value) × (out-Term (group (before ++ t ∷ behind)) ≡ Term-F.Value v))
+group_layer : (before behind : List Term) (t : Term)
+    → (out-Term (group (before ++ t ∷ behind)) ≡ Term-F.Group (before ++ t ∷ behind))
+    ⊎ ((v : Value) × (out-Term (group (before ++ t ∷ behind)) ≡ Term-F.Value v))
     → Layer (in_group before behind) t
 group_layer before behind t (inl e) = inl e
 group_layer before behind t (inr e) = inr (inl e)
@@ -135,66 +147,93 @@ layer_on in_stepped t = marked_layer t (decide t)
 abbrev pub Sleeper : Marks → Term → Type 0
 Sleeper marks t = (body : Term) × Inside (Asleep marks body) t
 
-pub inside_on : (u : Term) (f : Frame) (t : Term) → standing t ≡ open_yet → Inside u t → Inside u (on f t)
-inside_on u f t o i = in_part t (subst (IsOneOf t) (sym (ap terms_in (out_on f t o) ∙ terms_round f t)) (in_middle (pre_of f) (post_of f) t)) i
+pub inside_on : (u : Term) (f : Frame) (t : Term) → standing t ≡ open_yet → Inside u t
+    → Inside u (on f t)
+inside_on u f t o i =
+    in_part t
+    (subst (IsOneOf t) (sym (ap terms_in (out_on f t o) ∙ terms_round f t))
+    (in_middle (pre_of f) (post_of f) t)) i
 
-pub inside_plug : (u : Term) (fs : List Frame) (a : Term) → standing a ≡ open_yet → Inside u a → Inside u (plug fs a)
+pub inside_plug : (u : Term) (fs : List Frame) (a : Term) → standing a ≡ open_yet → Inside u a
+    → Inside u (plug fs a)
 inside_plug u [] a o i = i
 inside_plug u (f ∷ fs) a o i = inside_on u f (plug fs a) (plug_open fs a o) (inside_plug u fs a o i)
 
 abbrev Split : Term → (Term → Term) → Term → Type 0
 Split u c b = Inside u b ⊎ ((a : Term) → standing a ≡ open_yet → Inside u (c a))
 
-split_part : (u : Term) (f : Frame) (b c : Term) → Inside u c → (c ≡ b) ⊎ ((a : Term) → IsOneOf c (pre_of f ++ a ∷ post_of f)) → Split u (on f) b
+split_part : (u : Term) (f : Frame) (b c : Term) → Inside u c
+    → (c ≡ b) ⊎ ((a : Term) → IsOneOf c (pre_of f ++ a ∷ post_of f)) → Split u (on f) b
 split_part u f b c i (inl e) = inl (subst (Inside u) e i)
-split_part u f b c i (inr k) = inr (λ a o. in_part c (subst (IsOneOf c) (sym (ap terms_in (out_on f a o) ∙ terms_round f a)) (k a)) i)
+split_part u f b c i (inr k) =
+    inr (λ a o. in_part c
+    (subst (IsOneOf c) (sym (ap terms_in (out_on f a o) ∙ terms_round f a)) (k a)) i)
 
 -- what sleeps in a term with a part sleeps in the part, or whatever else stands there
-split_on : (marks : Marks) (body : Term) (f : Frame) (b : Term) → Inside (Asleep marks body) (on f b) → Split (Asleep marks body) (on f) b
+split_on : (marks : Marks) (body : Term) (f : Frame) (b : Term)
+    → Inside (Asleep marks body) (on f b) → Split (Asleep marks body) (on f) b
 split_on marks body f b (itself e) = go (layer_on f b)
   where
     go : Layer f b → Split (Asleep marks body) (on f) b
-    go (inl q) = absurd (no_frame_asleep marks body f b (sym (outs-Asleep marks body) ∙ ap out-Term e ∙ q))
+    go (inl q) =
+        absurd (no_frame_asleep marks body f b (sym (outs-Asleep marks body) ∙ ap out-Term e ∙ q))
     go (inr (inr q)) = inl (itself (e ∙ q))
-    go (inr (inl (v, q))) = let z : Term-F.Asleep marks body ≡ Term-F.Value v = sym (outs-Asleep marks body) ∙ ap out-Term e ∙ q in absurd cc
+    go (inr (inl (v, q))) =
+        let z : Term-F.Asleep marks body ≡ Term-F.Value v =
+        sym (outs-Asleep marks body) ∙ ap out-Term e ∙ q in absurd cc
 split_on marks body f b (in_part c h i) = go (layer_on f b)
   where
     go : Layer f b → Split (Asleep marks body) (on f) b
     go (inr (inr q)) = inl (subst (Inside (Asleep marks body)) q (in_part c h i))
-    go (inl q) = split_part (Asleep marks body) f b c i (split_middle (pre_of f) (post_of f) b c (subst (IsOneOf c) (ap terms_in q ∙ terms_round f b) h))
+    go (inl q) =
+        split_part (Asleep marks body) f b c i
+        (split_middle (pre_of f) (post_of f) b c
+        (subst (IsOneOf c) (ap terms_in q ∙ terms_round f b) h))
     go (inr (inl (v, q))) = absurd (subst (IsOneOf c) (ap terms_in q) h)
 
 -- the mark of a part doesn't sleep
-inside_mark : (marks : Marks) (body x t : Term) → t ≡ Stepped x → Inside (Asleep marks body) t → Inside (Asleep marks body) x
-inside_mark marks body x t e (itself q) = let z : Term-F.Asleep marks body ≡ Term-F.Stepped x = sym (outs-Asleep marks body) ∙ ap out-Term (q ∙ e) ∙ outs-Stepped x in absurd cc
-inside_mark marks body x t e (in_part c h i) = go (subst (IsOneOf c) (ap terms_in (ap out-Term e ∙ outs-Stepped x)) h)
+inside_mark : (marks : Marks) (body x t : Term) → t ≡ Stepped x → Inside (Asleep marks body) t
+    → Inside (Asleep marks body) x
+inside_mark marks body x t e (itself q) =
+    let z : Term-F.Asleep marks body ≡ Term-F.Stepped x =
+    sym (outs-Asleep marks body) ∙ ap out-Term (q ∙ e) ∙ outs-Stepped x in absurd cc
+inside_mark marks body x t e (in_part c h i) =
+    go (subst (IsOneOf c) (ap terms_in (ap out-Term e ∙ outs-Stepped x)) h)
   where
     go : (c ≡ x) ⊎ ⊥ → Inside (Asleep marks body) x
     go (inl q) = subst (Inside (Asleep marks body)) q i
     go (inr q) = absurd q
 
-inside_stepped : (marks : Marks) (body x : Term) → Inside (Asleep marks body) (stepped x) → Inside (Asleep marks body) x
+inside_stepped : (marks : Marks) (body x : Term) → Inside (Asleep marks body) (stepped x)
+    → Inside (Asleep marks body) x
 inside_stepped marks body x i = go (decide x)
   where
     go : (standing x ≡ open_yet) ⊎ Finished x → Inside (Asleep marks body) x
     go (inl o) = inside_mark marks body x (stepped x) (stepped_open x o) i
     go (inr h) = subst (Inside (Asleep marks body)) (stepped_finished x h) i
 
-inside_with_mark : (marks : Marks) (body b : Term) (ns : List ℕ) (fs : List Frame) → Inside (Asleep marks body) (plug (with_mark ns fs) b) → Inside (Asleep marks body) (plug fs b)
+inside_with_mark : (marks : Marks) (body b : Term) (ns : List ℕ) (fs : List Frame)
+    → Inside (Asleep marks body) (plug (with_mark ns fs) b) → Inside (Asleep marks body) (plug fs b)
 inside_with_mark marks body b [] fs i = i
 inside_with_mark marks body b (n ∷ ns) [] i = inside_stepped marks body b i
 inside_with_mark marks body b (n ∷ ns) (in_stepped ∷ fs) i = i
 inside_with_mark marks body b (n ∷ ns) (f ∷ fs) i = inside_stepped marks body (plug (f ∷ fs) b) i
 
 -- what sleeps after a step in a part sleeps in the part, or whatever else stands there
-pub split_plug : (marks : Marks) (body : Term) (fs : List Frame) (b : Term) → Inside (Asleep marks body) (plug (trodden fs) b) → Split (Asleep marks body) (plug fs) b
+pub split_plug : (marks : Marks) (body : Term) (fs : List Frame) (b : Term)
+    → Inside (Asleep marks body) (plug (trodden fs) b) → Split (Asleep marks body) (plug fs) b
 split_plug marks body [] b i = inl i
-split_plug marks body (f ∷ fs) b i = go (split_on marks body f (plug (with_mark (part_number f) (trodden fs)) b) i) (split_plug marks body fs b)
+split_plug marks body (f ∷ fs) b i =
+    go (split_on marks body f (plug (with_mark (part_number f) (trodden fs)) b) i)
+    (split_plug marks body fs b)
   where
     inner : Split (Asleep marks body) (plug fs) b → Split (Asleep marks body) (plug (f ∷ fs)) b
     inner (inl k) = inl k
-    inner (inr k) = inr (λ a o. inside_on (Asleep marks body) f (plug fs a) (plug_open fs a o) (k a o))
+    inner (inr k) =
+        inr (λ a o. inside_on (Asleep marks body) f (plug fs a) (plug_open fs a o) (k a o))
 
-    go : Split (Asleep marks body) (on f) (plug (with_mark (part_number f) (trodden fs)) b) → (Inside (Asleep marks body) (plug (trodden fs) b) → Split (Asleep marks body) (plug fs) b) → Split (Asleep marks body) (plug (f ∷ fs)) b
+    go : Split (Asleep marks body) (on f) (plug (with_mark (part_number f) (trodden fs)) b)
+        → (Inside (Asleep marks body) (plug (trodden fs) b) → Split (Asleep marks body) (plug fs) b)
+        → Split (Asleep marks body) (plug (f ∷ fs)) b
     go (inl k) ih = inner (ih (inside_with_mark marks body b (part_number f) (trodden fs) k))
     go (inr k) ih = inr (λ a o. k (plug fs a) (plug_open fs a o))

@@ -20,4 +20,5 @@ pub one_store : OneStore
 one_store p inner s s' ps t r d k f = framed p inner false s s' ps t r d k (λ e. absurd cc) f
 
 pub one_store_bare : OneStoreBare
-one_store_bare p inner s s' ps t r d bare k f = framed p inner true s s' ps t r d k (λ e. bare_alike s s' t bare) f
+one_store_bare p inner s s' ps t r d bare k f =
+    framed p inner true s s' ps t r d k (λ e. bare_alike s s' t bare) f

@@ -25,7 +25,8 @@ on_layer (in_first_reduced set second) t = Term-F.ReduceHalves set t second
 on_layer (in_second_reduced set first) t = Term-F.ReduceHalves set first t
 on_layer (in_block before behind) t = Term-F.Also (before ++ t ∷ behind)
 on_layer in_throw t = Term-F.Throw t
-on_layer (in_operand set before behind) t = Term-F.Operator set (map term.Value before ++ t ∷ behind)
+on_layer (in_operand set before behind) t =
+    Term-F.Operator set (map term.Value before ++ t ∷ behind)
 on_layer (in_fill_size ty value) t = Term-F.Fill ty t value
 on_layer (in_fill_value ty size) t = Term-F.Fill ty (term.Value size) t
 on_layer (in_let xs rest) t = Term-F.Let xs t rest
@@ -38,7 +39,8 @@ on_layer (in_element index) t = Term-F.ReadElement t index
 on_layer (in_index array) t = Term-F.ReadElement (term.Value array) t
 on_layer (in_element_target index value) t = Term-F.WriteElement t index value
 on_layer (in_element_index array value) t = Term-F.WriteElement (term.Value array) t value
-on_layer (in_element_value array index) t = Term-F.WriteElement (term.Value array) (term.Value index) t
+on_layer (in_element_value array index) t =
+    Term-F.WriteElement (term.Value array) (term.Value index) t
 on_layer in_size t = Term-F.Size t
 on_layer (in_then rest) t = Term-F.Then t rest
 on_layer (in_test one two) t = Term-F.If t one two
@@ -50,7 +52,8 @@ on_layer in_stepped t = Term-F.Stepped t
 
 -- the layer of a term round an open part
 pub out_on : (f : Frame) (t : Term) → standing t ≡ open_yet → out-Term (on f t) ≡ on_layer f t
-out_on (in_group before behind) t o = ap out-Term (group_open _ (values_open before behind t o)) ∙ outs-Group _
+out_on (in_group before behind) t o =
+    ap out-Term (group_open _ (values_open before behind t o)) ∙ outs-Group _
 out_on (in_call set before behind) t o = outs-Call _ _
 out_on (in_function argument) t o = outs-Apply _ _
 out_on (in_argument function) t o = outs-Apply _ _
@@ -90,7 +93,8 @@ layer_open _ t o = refl
 pub on_open : (f : Frame) (t : Term) → standing t ≡ open_yet → standing (on f t) ≡ open_yet
 on_open f t o = ap standing_at (out_on f t o) ∙ layer_open f t o
 
-pub plug_open : (fs : List Frame) (a : Term) → standing a ≡ open_yet → standing (plug fs a) ≡ open_yet
+pub plug_open : (fs : List Frame) (a : Term) → standing a ≡ open_yet
+    → standing (plug fs a) ≡ open_yet
 plug_open [] a o = o
 plug_open (f ∷ fs) a o = on_open f (plug fs a) (plug_open fs a o)
 
@@ -143,7 +147,8 @@ backs (in_second_reduced set first) = inr refl
 backs (in_block before behind) = inr refl
 backs _ = inl refl
 
-frame_back : (f : Frame) (n : Node) (before behind : List Term) → kind_of f ≡ beside n before behind → f ≡ back_of (beside n before behind)
+frame_back : (f : Frame) (n : Node) (before behind : List Term) → kind_of f ≡ beside n before behind
+    → f ≡ back_of (beside n before behind)
 frame_back f n before behind e = go (backs f)
   where
     go : (kind_of f ≡ lone) ⊎ (f ≡ back_of (kind_of f)) → f ≡ back_of (beside n before behind)
@@ -178,7 +183,8 @@ first _ n k = n
 
 abbrev operand : SetId → List Value → List Term → Next
 operand set vs [] = over
-operand set vs (t ∷ ts) = first (standing t) (serial (in_operand set vs ts) t) (λ v. operand set (vs ++ v ∷ []) ts)
+operand set vs (t ∷ ts) =
+    first (standing t) (serial (in_operand set vs ts) t) (λ v. operand set (vs ++ v ∷ []) ts)
 
 abbrev next_at : Term-F Term Value Closure → Next
 next_at (Term-F.Group parts) = parallel a_group parts
@@ -189,15 +195,20 @@ next_at (Term-F.ReduceHalves set a b) = parallel (two_reduced set) (a ∷ b ∷ 
 next_at (Term-F.Also blocks) = parallel a_block blocks
 next_at (Term-F.Throw a) = serial in_throw a
 next_at (Term-F.Operator set operands) = operand set [] operands
-next_at (Term-F.Fill ty n a) = first (standing n) (serial (in_fill_size ty a) n) (λ v. serial (in_fill_value ty v) a)
+next_at (Term-F.Fill ty n a) =
+    first (standing n) (serial (in_fill_size ty a) n) (λ v. serial (in_fill_value ty v) a)
 next_at (Term-F.Let xs a b) = serial (in_let xs b) a
 next_at (Term-F.Mutable x ty a b) = serial (in_mutable x ty b) a
 next_at (Term-F.Write x a) = serial (in_write x) a
 next_at (Term-F.ReadField o f) = serial (in_field f) o
-next_at (Term-F.WriteField o f a) = first (standing o) (serial (in_field_target f a) o) (λ v. serial (in_field_value v f) a)
-next_at (Term-F.ReadElement a i) = first (standing a) (serial (in_element i) a) (λ v. serial (in_index v) i)
+next_at (Term-F.WriteField o f a) =
+    first (standing o) (serial (in_field_target f a) o) (λ v. serial (in_field_value v f) a)
+next_at (Term-F.ReadElement a i) =
+    first (standing a) (serial (in_element i) a) (λ v. serial (in_index v) i)
 next_at (Term-F.WriteElement a i b) =
-    first (standing a) (serial (in_element_target i b) a) (λ v. first (standing i) (serial (in_element_index v b) i) (λ w. serial (in_element_value v w) b))
+    first (standing a) (serial (in_element_target i b) a)
+    (λ v. first (standing i) (serial (in_element_index v b) i)
+    (λ w. serial (in_element_value v w) b))
 next_at (Term-F.Size a) = serial in_size a
 next_at (Term-F.Then a b) = serial (in_then b) a
 next_at (Term-F.If c a b) = serial (in_test a b) c
@@ -215,16 +226,22 @@ by_kind f t (beside n before behind) = parallel n (before ++ t ∷ behind)
 first_value : (v : Value) (n : Next) (k : Value → Next) → first (standing (term.Value v)) n k ≡ k v
 first_value v n k = ap (λ st. first st n k) (standing-Value v)
 
-first_open : (t : Term) (n : Next) (k : Value → Next) → standing t ≡ open_yet → first (standing t) n k ≡ n
+first_open : (t : Term) (n : Next) (k : Value → Next) → standing t ≡ open_yet
+    → first (standing t) n k ≡ n
 first_open t n k o = ap (λ st. first st n k) o
 
-operand_on : (set : SetId) (done before : List Value) (behind : List Term) (t : Term) → standing t ≡ open_yet
-    → operand set done (map term.Value before ++ t ∷ behind) ≡ serial (in_operand set (done ++ before) behind) t
-operand_on set done [] behind t o = first_open t _ _ o ∙ ap (λ x. serial (in_operand set x behind) t) (sym (append-nil done))
+operand_on : (set : SetId) (done before : List Value) (behind : List Term) (t : Term)
+    → standing t ≡ open_yet
+    → operand set done (map term.Value before ++ t ∷ behind)
+    ≡ serial (in_operand set (done ++ before) behind) t
+operand_on set done [] behind t o =
+    first_open t _ _ o ∙ ap (λ x. serial (in_operand set x behind) t) (sym (append-nil done))
 operand_on set done (v ∷ before) behind t o =
-    first_value v _ _ ∙ operand_on set (done ++ v ∷ []) before behind t o ∙ ap (λ x. serial (in_operand set x behind) t) (append_assoc done (v ∷ []) before)
+    first_value v _ _ ∙ operand_on set (done ++ v ∷ []) before behind t o
+    ∙ ap (λ x. serial (in_operand set x behind) t) (append_assoc done (v ∷ []) before)
 
-next_on : (f : Frame) (t : Term) → standing t ≡ open_yet → next_at (on_layer f t) ≡ by_kind f t (kind_of f)
+next_on : (f : Frame) (t : Term) → standing t ≡ open_yet
+    → next_at (on_layer f t) ≡ by_kind f t (kind_of f)
 next_on (in_operand set before behind) t o = operand_on set [] before behind t o
 next_on (in_fill_size ty value) t o = first_open t _ _ o
 next_on (in_fill_value ty size) t o = first_value size _ _
@@ -239,23 +256,30 @@ next_on _ t o = refl
 
 data Compared (f g : Frame) (x y : Term) : Type 0 where
   same : f ≡ g → x ≡ y → part_number f ≡ [] → part_number g ≡ [] → Compared f g x y
-  parts : (bef beh bef2 beh2 : List Term) → part_number f ≡ length bef ∷ [] → part_number g ≡ length bef2 ∷ [] → bef ++ x ∷ beh ≡ bef2 ++ y ∷ beh2
+  parts : (bef beh bef2 beh2 : List Term) → part_number f ≡ length bef ∷ []
+      → part_number g ≡ length bef2 ∷ [] → bef ++ x ∷ beh ≡ bef2 ++ y ∷ beh2
       → (bef ≡ bef2 → beh ≡ beh2 → f ≡ g) → Compared f g x y
 
-compare_kinds : (f g : Frame) (x y : Term) (k m : Kind) → kind_of f ≡ k → kind_of g ≡ m → by_kind f x k ≡ by_kind g y m → Compared f g x y
-compare_kinds f g x y lone lone a b q = same (cc) (cc) (number_kind f ∙ ap number_of a) (number_kind g ∙ ap number_of b)
+compare_kinds : (f g : Frame) (x y : Term) (k m : Kind) → kind_of f ≡ k → kind_of g ≡ m
+    → by_kind f x k ≡ by_kind g y m → Compared f g x y
+compare_kinds f g x y lone lone a b q =
+    same (cc) (cc) (number_kind f ∙ ap number_of a) (number_kind g ∙ ap number_of b)
 compare_kinds f g x y lone (beside n bef beh) a b q = absurd cc
 compare_kinds f g x y (beside n bef beh) lone a b q = absurd cc
 compare_kinds f g x y (beside n bef beh) (beside n2 bef2 beh2) a b q =
     let w : n ≡ n2 = cc in
     parts bef beh bef2 beh2 (number_kind f ∙ ap number_of a) (number_kind g ∙ ap number_of b) (cc)
-    (λ s r. frame_back f n bef beh a ∙ (λ i. back_of (beside (w i) (s i) (r i))) ∙ sym (frame_back g n2 bef2 beh2 b))
+    (λ s r. frame_back f n bef beh a ∙ (λ i. back_of (beside (w i) (s i) (r i)))
+    ∙ sym (frame_back g n2 bef2 beh2 b))
 
-compare : (f g : Frame) (x y : Term) → standing x ≡ open_yet → standing y ≡ open_yet → on f x ≡ on g y → Compared f g x y
+compare : (f g : Frame) (x y : Term) → standing x ≡ open_yet → standing y ≡ open_yet
+    → on f x ≡ on g y → Compared f g x y
 compare f g x y ox oy e =
-    compare_kinds f g x y (kind_of f) (kind_of g) refl refl (sym (next_on f x ox) ∙ ap next_at (sym (out_on f x ox) ∙ ap out-Term e ∙ out_on g y oy) ∙ next_on g y oy)
+    compare_kinds f g x y (kind_of f) (kind_of g) refl refl (sym (next_on f x ox)
+    ∙ ap next_at (sym (out_on f x ox) ∙ ap out-Term e ∙ out_on g y oy) ∙ next_on g y oy)
 
-same_middle : (xs ys ps qs : List Term) (x y : Term) → length xs ≡ length ps → xs ++ x ∷ ys ≡ ps ++ y ∷ qs → (xs ≡ ps) × (x ≡ y) × (ys ≡ qs)
+same_middle : (xs ys ps qs : List Term) (x y : Term) → length xs ≡ length ps
+    → xs ++ x ∷ ys ≡ ps ++ y ∷ qs → (xs ≡ ps) × (x ≡ y) × (ys ≡ qs)
 same_middle [] ys [] qs x y n e = (refl, cc, cc)
 same_middle [] ys (p ∷ ps) qs x y n e = absurd (omega arith)
 same_middle (z ∷ xs) ys [] qs x y n e = absurd (omega arith)
@@ -283,23 +307,32 @@ no_front : (ns ms : List ℕ) → [] ≡ ns ++ ms → ns ≡ []
 no_front [] ms e = refl
 no_front (n ∷ ns) ms e = absurd cc
 
-not_waiting : (f : Frame) (fs : List Frame) (t : Term) → standing t ≡ open_yet → Finished t ⊎ (passes f t ≡ true) → [] ≡ road (f ∷ fs) → ⊥
+not_waiting : (f : Frame) (fs : List Frame) (t : Term) → standing t ≡ open_yet
+    → Finished t ⊎ (passes f t ≡ true) → [] ≡ road (f ∷ fs) → ⊥
 not_waiting f fs t o (inl h) p = not_finished t o h
 not_waiting f fs t o (inr h) p = passes_number f t h (no_front (part_number f) (road fs) p)
 
 pub one_place : OnePlace
 one_place [] [] a b e p ra rb = (refl, e)
-one_place [] (g ∷ gs) a b e p ra rb = absurd (not_waiting g gs (plug gs b) (plug_open gs b (ready_open b rb)) (ra.no_part g (plug gs b) e) p)
-one_place (f ∷ fs) [] a b e p ra rb = absurd (not_waiting f fs (plug fs a) (plug_open fs a (ready_open a ra)) (rb.no_part f (plug fs a) (sym e)) (sym p))
+one_place [] (g ∷ gs) a b e p ra rb =
+    absurd (not_waiting g gs (plug gs b) (plug_open gs b (ready_open b rb))
+    (ra.no_part g (plug gs b) e) p)
+one_place (f ∷ fs) [] a b e p ra rb =
+    absurd (not_waiting f fs (plug fs a) (plug_open fs a (ready_open a ra))
+    (rb.no_part f (plug fs a) (sym e)) (sym p))
 one_place (f ∷ fs) (g ∷ gs) a b e p ra rb =
-    go (compare f g (plug fs a) (plug gs b) (plug_open fs a (ready_open a ra)) (plug_open gs b (ready_open b rb)) e) (λ h k. one_place fs gs a b h k ra rb)
+    go (compare f g (plug fs a) (plug gs b) (plug_open fs a (ready_open a ra))
+    (plug_open gs b (ready_open b rb)) e) (λ h k. one_place fs gs a b h k ra rb)
   where
-    go : Compared f g (plug fs a) (plug gs b) → (plug fs a ≡ plug gs b → road fs ≡ road gs → (fs ≡ gs) × (a ≡ b)) → (f ∷ fs ≡ g ∷ gs) × (a ≡ b)
+    go : Compared f g (plug fs a) (plug gs b)
+        → (plug fs a ≡ plug gs b → road fs ≡ road gs → (fs ≡ gs) × (a ≡ b))
+        → (f ∷ fs ≡ g ∷ gs) × (a ≡ b)
     go (same h k n m) ih =
         let i = ih k (sym (ap (λ x. x ++ road fs) n) ∙ p ∙ ap (λ x. x ++ road gs) m) in
         (cc (h, i.0), i.1)
     go (parts bef beh bef2 beh2 n n2 l back) ih =
-        let q : length bef ∷ road fs ≡ length bef2 ∷ road gs = sym (ap (λ x. x ++ road fs) n) ∙ p ∙ ap (λ x. x ++ road gs) n2 in
+        let q : length bef ∷ road fs ≡ length bef2 ∷ road gs =
+        sym (ap (λ x. x ++ road fs) n) ∙ p ∙ ap (λ x. x ++ road gs) n2 in
         let m = same_middle bef beh bef2 beh2 (plug fs a) (plug gs b) (cc) l in
         let i = ih m.1 (cc) in
         let fg = back m.0 m.2 in

@@ -16,8 +16,13 @@ use Rattle.fort_machine.proofs.Places.{on_layer, plug_open}
 use Rattle.fort_machine.proofs.Resting.{one_value_rests, Grouped, as_form, as_value, grouped, EachOf, values_at_rest, tuple_rests}
 
 -- a term of a run by its form
-pub proper_at : (t : Term) (y : Term-F Term Value Closure) → out-Term t ≡ y → MarksOpen y → IsNoValue y → AllProper (going_in y) → AllResting (resting_in y) → AllRestingValues (values_in y) → Proper t
-proper_at t y e m n gs rs vs = proper (subst MarksOpen (sym e) m) (subst IsNoValue (sym e) n) (subst (λ z. AllProper (going_in z)) (sym e) gs) (subst (λ z. AllResting (resting_in z)) (sym e) rs)
+pub proper_at : (t : Term) (y : Term-F Term Value Closure) → out-Term t ≡ y → MarksOpen y
+    → IsNoValue y → AllProper (going_in y) → AllResting (resting_in y)
+    → AllRestingValues (values_in y) → Proper t
+proper_at t y e m n gs rs vs =
+    proper (subst MarksOpen (sym e) m) (subst IsNoValue (sym e) n)
+    (subst (λ z. AllProper (going_in z)) (sym e) gs)
+    (subst (λ z. AllResting (resting_in z)) (sym e) rs)
     (subst (λ z. AllRestingValues (values_in z)) (sym e) vs)
 
 pub record Propers (y : Term-F Term Value Closure) : Type 0 where
@@ -28,7 +33,8 @@ pub record Propers (y : Term-F Term Value Closure) : Type 0 where
   pub values : AllRestingValues (values_in y)
 
 pub propers_of : {t : Term} → Proper t → Propers (out-Term t)
-propers_of (proper m n gs rs vs) = record { marks = m; no_value = n; going = gs; rests = rs; values = vs }
+propers_of (proper m n gs rs vs) =
+    record { marks = m; no_value = n; going = gs; rests = rs; values = vs }
 
 pub propers_as : {t : Term} (y : Term-F Term Value Closure) → out-Term t ≡ y → Proper t → Propers y
 propers_as y e h = subst Propers e (propers_of h)
@@ -37,13 +43,17 @@ pub one_proper : {t : Term} {ts : List Term} → AllProper (t ∷ ts) → Proper
 one_proper (next_proper h hs) = h
 
 pub proper_value : {v : Value} → RestingValue v → Proper (term.Value v)
-proper_value {v} h = proper_at (term.Value v) _ (outs-Value v) tt tt no_propers no_rests (next_resting_value h no_resting_values)
+proper_value {v} h =
+    proper_at (term.Value v) _ (outs-Value v) tt tt no_propers no_rests
+    (next_resting_value h no_resting_values)
 
 pub value_proper : {v : Value} → Proper (term.Value v) → RestingValue v
 value_proper {v} h = one_value_rests (propers_as _ (outs-Value v) h).values
 
 pub proper_throw : {v : Value} → RestingValue v → Proper (throw_of v)
-proper_throw {v} h = proper_at (throw_of v) _ (outs-Throw (term.Value v)) tt tt (next_proper (proper_value h) no_propers) no_rests no_resting_values
+proper_throw {v} h =
+    proper_at (throw_of v) _ (outs-Throw (term.Value v)) tt tt
+    (next_proper (proper_value h) no_propers) no_rests no_resting_values
 
 pub throw_proper : {v : Value} → Proper (throw_of v) → RestingValue v
 throw_proper {v} h = value_proper (one_proper (propers_as _ (outs-Throw (term.Value v)) h).going)
@@ -97,7 +107,10 @@ marks_untouched _ u = tt
 
 mutual
   pub rest_proper : {t : Term} → Resting t → Proper t
-  rest_proper {t} (resting u n ts vs) = let h = each_both ts in proper (marks_untouched (out-Term t) u) n (going_part (out-Term t) h) (resting_part (out-Term t) h) vs
+  rest_proper {t} (resting u n ts vs) =
+      let h = each_both ts
+      in proper (marks_untouched (out-Term t) u) n (going_part (out-Term t) h)
+      (resting_part (out-Term t) h) vs
 
   each_both : {ts : List Term} → AllResting ts → EachBoth ts
   each_both no_rests = tt
@@ -112,15 +125,22 @@ pub group_proper : (ts : List Term) → AllProper ts → Proper (group ts)
 group_proper ts h = go (grouped ts)
   where
     go : Grouped ts → Proper (group ts)
-    go (as_form e) = proper_at (group ts) _ (ap out-Term e ∙ outs-Group ts) tt e h no_rests no_resting_values
-    go (as_value vs e q) = subst Proper (sym q) (proper_value (tuple_rests vs (values_at_rest Proper (λ v h. value_proper h) ts vs e (each_proper h))))
+    go (as_form e) =
+        proper_at (group ts) _ (ap out-Term e ∙ outs-Group ts) tt e h no_rests no_resting_values
+    go (as_value vs e q) =
+        subst Proper (sym q)
+        (proper_value
+        (tuple_rests vs
+        (values_at_rest Proper (λ v h. value_proper h) ts vs e (each_proper h))))
 
 -- a part with its mark
 pub stepped_proper : (b : Term) → Proper b → Proper (stepped b)
 stepped_proper b h = go (decide b)
   where
     go : (standing b ≡ open_yet) ⊎ Finished b → Proper (stepped b)
-    go (inl o) = proper_at (stepped b) _ (ap out-Term (stepped_open b o) ∙ outs-Stepped b) o tt (next_proper h no_propers) no_rests no_resting_values
+    go (inl o) =
+        proper_at (stepped b) _ (ap out-Term (stepped_open b o)
+        ∙ outs-Stepped b) o tt (next_proper h no_propers) no_rests no_resting_values
     go (inr f) = subst Proper (sym (stepped_finished b f)) h
 
 -- the parts that go before and behind the one that is left out
@@ -218,9 +238,11 @@ plain_no_value _ t n = tt
 abbrev Middle : (Term → List Term) → Term → Type 0
 Middle at a = Proper a × ((b : Term) → Proper b → AllProper (at b))
 
-middle : (pre post : List Term) (a : Term) → AllProper (pre ++ a ∷ post) → Middle (λ b. pre ++ b ∷ post) a
+middle : (pre post : List Term) (a : Term) → AllProper (pre ++ a ∷ post)
+    → Middle (λ b. pre ++ b ∷ post) a
 middle [] post a (next_proper h hs) = (h, λ b i. next_proper i hs)
-middle (t ∷ pre) post a (next_proper h hs) = let m = middle pre post a hs in (m.0, λ b i. next_proper h (m.1 b i))
+middle (t ∷ pre) post a (next_proper h hs) =
+    let m = middle pre post a hs in (m.0, λ b i. next_proper h (m.1 b i))
 
 -- a part may be replaced by another one
 abbrev pub Place : (Term → Term) → Term → Type 0
@@ -229,29 +251,43 @@ Place at a = Proper a × ((b : Term) → Proper b → Proper (at b))
 plain_frame : (f : Frame) (a : Term) → IsPlain f → Proper (on f a) → Place (on f) a
 plain_frame f a n h =
     let r = propers_as (on_layer f a) (out_plain f a n) h in
-    let m = middle (goes_before f) (goes_behind f) a (subst AllProper (going_round f a) r.going) in (
+    let m = middle (goes_before f) (goes_behind f) a (subst AllProper (going_round f a) r.going)
+    in (
       m.0,
-      λ b i. proper_at (on f b) (on_layer f b) (out_plain f b n) (plain_marks f b n) (plain_no_value f b n) (subst AllProper (sym (going_round f b)) (m.1 b i)) (subst AllResting (resting_round f a b) r.rests)
+      λ b i. proper_at (on f b) (on_layer f b) (out_plain f b n) (plain_marks f b n)
+          (plain_no_value f b n) (subst AllProper (sym (going_round f b)) (m.1 b i))
+          (subst AllResting (resting_round f a b) r.rests)
           (subst AllRestingValues (sym (no_values_round f b)) no_resting_values),
     )
 
 frame_proper : (f : Frame) (a : Term) → standing a ≡ open_yet → Proper (on f a) → Place (on f) a
 frame_proper (in_group before behind) a o h =
-    let m = middle before behind a (propers_as _ (ap out-Term (group_open (before ++ a ∷ behind) (values_open before behind a o)) ∙ outs-Group (before ++ a ∷ behind)) h).going in
+    let m = middle before behind a
+    (propers_as _
+    (ap out-Term (group_open (before ++ a ∷ behind) (values_open before behind a o))
+    ∙ outs-Group (before ++ a ∷ behind)) h).going in
     (m.0, λ b i. group_proper (before ++ b ∷ behind) (m.1 b i))
-frame_proper in_stepped a o h = (one_proper (propers_as _ (ap out-Term (stepped_open a o) ∙ outs-Stepped a) h).going, λ b i. stepped_proper b i)
+frame_proper in_stepped a o h = (
+  one_proper (propers_as _ (ap out-Term (stepped_open a o) ∙ outs-Stepped a) h).going,
+  λ b i. stepped_proper b i,
+)
 frame_proper f a o h = plain_frame f a tt h
 
-mark_proper : (b : Term) (ns : List ℕ) (fs : List Frame) → Proper (plug fs b) → Proper (plug (with_mark ns fs) b)
+mark_proper : (b : Term) (ns : List ℕ) (fs : List Frame) → Proper (plug fs b)
+    → Proper (plug (with_mark ns fs) b)
 mark_proper b [] fs h = h
 mark_proper b (n ∷ ns) [] h = stepped_proper b h
 mark_proper b (n ∷ ns) (in_stepped ∷ fs) h = h
 mark_proper b (n ∷ ns) (f ∷ fs) h = stepped_proper (plug (f ∷ fs) b) h
 
 -- a part at any depth may be, with the marks of the way
-pub plug_proper : (fs : List Frame) (a : Term) → standing a ≡ open_yet → Proper (plug fs a) → Place (plug (trodden fs)) a
+pub plug_proper : (fs : List Frame) (a : Term) → standing a ≡ open_yet → Proper (plug fs a)
+    → Place (plug (trodden fs)) a
 plug_proper [] a o h = (h, λ b i. i)
 plug_proper (f ∷ fs) a o h =
     let p = frame_proper f (plug fs a) (plug_open fs a o) h in
-    let q = plug_proper fs a o p.0 in
-    (q.0, λ b i. p.1 (plug (with_mark (part_number f) (trodden fs)) b) (mark_proper b (part_number f) (trodden fs) (q.1 b i)))
+    let q = plug_proper fs a o p.0 in (
+      q.0,
+      λ b i. p.1 (plug (with_mark (part_number f) (trodden fs)) b)
+          (mark_proper b (part_number f) (trodden fs) (q.1 b i)),
+    )

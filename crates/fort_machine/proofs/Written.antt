@@ -17,16 +17,22 @@ EachBare (t ∷ ts) = Bare t × EachBare ts
 
 none_dozes : (ts : List Term) → EachBare ts → list_any (λ (b : Bool). b) (map dozes ts) ≡ false
 none_dozes [] e = refl
-none_dozes (t ∷ ts) e = ap (λ b. b || list_any (λ (b : Bool). b) (map dozes ts)) e.0 ∙ none_dozes ts e.1
+none_dozes (t ∷ ts) e =
+    ap (λ b. b || list_any (λ (b : Bool). b) (map dozes ts)) e.0 ∙ none_dozes ts e.1
 
-bare_form : (y : Term-F Term Value Closure) → IsBeforeRuns y → EachBare (terms_in y) → dozing y ≡ false
+bare_form : (y : Term-F Term Value Closure) → IsBeforeRuns y → EachBare (terms_in y)
+    → dozing y ≡ false
 bare_form (Term-F.Asleep marks a) w e = absurd w
-bare_form (Term-F.Fn c) w e = fold_out-Closure Bool (Unit {0}) Bool dozes_at (λ v. tt) (λ c. c.body) c ∙ e.0
-bare_form form w e = ap (list_any (λ (b : Bool). b)) (parts_map dozes truths closure_truths form) ∙ none_dozes (parts_of form) e
+bare_form (Term-F.Fn c) w e =
+    fold_out-Closure Bool (Unit {0}) Bool dozes_at (λ v. tt) (λ c. c.body) c ∙ e.0
+bare_form form w e =
+    ap (list_any (λ (b : Bool). b)) (parts_map dozes truths closure_truths form)
+    ∙ none_dozes (parts_of form) e
 
 mutual
   pub written_bare : {t : Term} → Written t → Bare t
-  written_bare {t} (written w ts vs) = out_dozes t ∙ bare_form (out-Term t) w.before_runs (each_bare ts)
+  written_bare {t} (written w ts vs) =
+      out_dozes t ∙ bare_form (out-Term t) w.before_runs (each_bare ts)
 
   each_bare : {ts : List Term} → AllWritten ts → EachBare ts
   each_bare end_of_terms = tt

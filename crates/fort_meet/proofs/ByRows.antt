@@ -15,7 +15,9 @@ use Rattle.fort_meet.proofs.Numbers.{contains_at, at_contained, same_number}
 
 module _ (h : DeclaredTypes) (rows : List (List Bool)) (e : IsExact (Path h) (length h) rows) where
   path_of : (i j : ℕ) → IsTrue (is_set rows i j) → Path h i j
-  path_of i j t = let k = set_inside rows i j (length h) e.wide t in let m = e.high in (e.sets i j (let l = k.0 in omega arith) k.1).0 t
+  path_of i j t =
+      let k = set_inside rows i j (length h) e.wide t in let m = e.high
+      in (e.sets i j (let l = k.0 in omega arith) k.1).0 t
 
   set_of : (i j : ℕ) → i < length h → Path h i j → IsTrue (is_set rows i j)
   set_of i j l p = (e.sets i j l (end_inside h i j p l)).1 p
@@ -26,7 +28,9 @@ module _ (h : DeclaredTypes) (rows : List (List Bool)) (e : IsExact (Path h) (le
   both_of : (a b m : ℕ) → IsCommon h a b m → IsInBoth rows a b m
   both_of a b m w = (set_of m a w.0 w.1, set_of m b w.0 w.2)
 
-  pub meets_of : (a b : ℕ) (common list : List TypeId) → Lists (IsInBoth rows a b) (length rows) common → IsHighest rows common (length common) list → AreMeets h a b list
+  pub meets_of : (a b : ℕ) (common list : List TypeId)
+      → Lists (IsInBoth rows a b) (length rows) common → IsHighest rows common (length common) list
+      → AreMeets h a b list
   meets_of a b common list c s = record {
     exactly = λ m. (λ w. record { common = shared m w; highest = top m w }, listed m);
     rising = s.rising c.rising;
@@ -43,10 +47,17 @@ module _ (h : DeclaredTypes) (rows : List (List Bool)) (e : IsExact (Path h) (le
 
       top : (m : TypeId) → Contains list m → (k : ℕ) → IsCommon h a b k → Path h m.0 k → k ≡ m.0
       top m w k q p = let id : TypeId = record { 0 = k } in
-          let n = e.high in let l = q.0 in let d : Contains common id = c.each id (omega arith) (both_of a b k q) in
+          let n = e.high in let l = q.0
+          in let d : Contains common id = c.each id (omega arith) (both_of a b k q) in
           elim (same k m.0) as (λ _. k ≡ m.0) [
             | inl f ↦ f
-            | inr f ↦ absurd (s.only m w (id, d, (λ g. f (ap (λ (z : TypeId). z.0) g)), set_of m.0 k (inside m (among m w)) p))
+            | inr f ↦
+                absurd (s.only m w (
+                  id,
+                  d,
+                  (λ g. f (ap (λ (z : TypeId). z.0) g)),
+                  set_of m.0 k (inside m (among m w)) p,
+                ))
           ]
         where
           same : (x y : ℕ) → (x ≡ y) ⊎ (x ≢ y)
@@ -55,15 +66,22 @@ module _ (h : DeclaredTypes) (rows : List (List Bool)) (e : IsExact (Path h) (le
       listed : (m : TypeId) → IsMeet h a b m.0 → Contains list m
       listed m w = let n = e.high in let l = w.common.0 in
           let d = at_contained common m (c.each m (omega arith) (both_of a b m.0 w.common)) in
-          s.each d.0 m (place_inside d.0 d.1) d.1 (λ p. p.2 (same_number p.0 m (w.highest p.0.0 (common_of a b p.0.0 (inside p.0 p.1) (c.only p.0 p.1)) (path_of m.0 p.0.0 p.3))))
+          s.each d.0 m (place_inside d.0 d.1) d.1
+          (λ p. p.2
+          (same_number p.0 m
+          (w.highest p.0.0 (common_of a b p.0.0 (inside p.0 p.1) (c.only p.0 p.1))
+          (path_of m.0 p.0.0 p.3))))
         where
           place_inside : (k : ℕ) → slice_get common k ≡ Some m → k < length common
           place_inside k f = slice_get_within common k m f
 
 -- what is found in the rows of a table
-pub found : (table : TypeTable) (rows : List (List Bool)) (a b : ℕ) (common shown : List TypeId) (result : Result (List TypeId) Memory) → rows ≡ table.below → shown ≡ common
-    → Lists (IsInBoth rows a b) (length rows) common → IfOk result (λ list. IsHighest rows shown (length shown) list)
+pub found : (table : TypeTable) (rows : List (List Bool)) (a b : ℕ) (common shown : List TypeId)
+    (result : Result (List TypeId) Memory) → rows ≡ table.below → shown ≡ common
+    → Lists (IsInBoth rows a b) (length rows) common
+    → IfOk result (λ list. IsHighest rows shown (length shown) list)
     → IfOk result (λ list. (h : DeclaredTypes) → HasRows h table → AreMeets h a b list)
-found table rows a b common shown (Ok list) e f c s = λ h t. meets_of h rows (subst (IsExact (Path h) (length h)) (sym e) t.below) a b common list c
+found table rows a b common shown (Ok list) e f c s =
+    λ h t. meets_of h rows (subst (IsExact (Path h) (length h)) (sym e) t.below) a b common list c
     (subst (λ z. IsHighest rows z (length z) list) f s)
 found table rows a b common shown (Err m) e f c s = tt

@@ -44,47 +44,71 @@ same_bool false true f g = g refl
 same_bool false false f g = refl
 
 bytes_turned : (a b : List ℕ) → bytes_eq a b ≡ bytes_eq b a
-bytes_turned a b = same_bool (bytes_eq a b) (bytes_eq b a) (λ e. (bytes_decides b a).1 (sym ((bytes_decides a b).0 e))) (λ e. (bytes_decides a b).1 (sym ((bytes_decides b a).0 e)))
+bytes_turned a b =
+    same_bool (bytes_eq a b) (bytes_eq b a)
+    (λ e. (bytes_decides b a).1 (sym ((bytes_decides a b).0 e)))
+    (λ e. (bytes_decides a b).1 (sym ((bytes_decides b a).0 e)))
 
 nat_turned : (m n : ℕ) → nat_eq m n ≡ nat_eq n m
-nat_turned m n = same_bool (nat_eq m n) (nat_eq n m) (λ e. eq-eqb n m (sym (eqb-true m n e))) (λ e. eq-eqb m n (sym (eqb-true n m e)))
+nat_turned m n =
+    same_bool (nat_eq m n) (nat_eq n m) (λ e. eq-eqb n m (sym (eqb-true m n e)))
+    (λ e. eq-eqb m n (sym (eqb-true n m e)))
 
 no_function : (p q : Bool) → (p && (beq true false && q)) ≡ false
 no_function true q = refl
 no_function false q = refl
 
-belongs_not : (k : Key) (d : BuiltInDeclaration) → k.dotted ≡ true → belongs k (built_in_entry d) ≡ false
-belongs_not k d e = ap (λ z. bytes_eq k.name d.name && (beq z false && nat_eq k.width (length d.parameters))) e ∙ no_function (bytes_eq k.name d.name) (nat_eq k.width (length d.parameters))
+belongs_not : (k : Key) (d : BuiltInDeclaration) → k.dotted ≡ true
+    → belongs k (built_in_entry d) ≡ false
+belongs_not k d e =
+    ap (λ z. bytes_eq k.name d.name && (beq z false && nat_eq k.width (length d.parameters))) e
+    ∙ no_function (bytes_eq k.name d.name) (nat_eq k.width (length d.parameters))
 
-belongs_has : (k : Key) (d : BuiltInDeclaration) → k.dotted ≡ false → belongs k (built_in_entry d) ≡ has k.name k.width d
-belongs_has k d e = ap (λ z. bytes_eq k.name d.name && (beq z false && nat_eq k.width (length d.parameters))) e
-    ∙ ap (λ z. z && nat_eq k.width (length d.parameters)) (bytes_turned k.name d.name) ∙ ap (λ z. bytes_eq d.name k.name && z) (nat_turned k.width (length d.parameters))
+belongs_has : (k : Key) (d : BuiltInDeclaration) → k.dotted ≡ false
+    → belongs k (built_in_entry d) ≡ has k.name k.width d
+belongs_has k d e =
+    ap (λ z. bytes_eq k.name d.name && (beq z false && nat_eq k.width (length d.parameters))) e
+    ∙ ap (λ z. z && nat_eq k.width (length d.parameters)) (bytes_turned k.name d.name)
+    ∙ ap (λ z. bytes_eq d.name k.name && z) (nat_turned k.width (length d.parameters))
 
 -- ---- the built-in declarations of a key
 
-kept : (d : BuiltInDeclaration) (es : List Entry) (ds : List BuiltInDeclaration) (b c : Bool) → b ≡ c → map member_of es ≡ map built_in_member ds
+kept : (d : BuiltInDeclaration) (es : List Entry) (ds : List BuiltInDeclaration) (b c : Bool)
+    → b ≡ c → map member_of es ≡ map built_in_member ds
     → map member_of (cond b (built_in_entry d ∷ es) es) ≡ map built_in_member (cond c (d ∷ ds) ds)
 kept d es ds true true e h = ap (λ l. built_in_member d ∷ l) h
 kept d es ds false false e h = h
 kept d es ds true false e h = absurd cc
 kept d es ds false true e h = absurd cc
 
-functions_are : (k : Key) (ds : List BuiltInDeclaration) → k.dotted ≡ false → map member_of (filter (belongs k) (map built_in_entry ds)) ≡ map built_in_member (filter (has k.name k.width) ds)
+functions_are : (k : Key) (ds : List BuiltInDeclaration) → k.dotted ≡ false
+    → map member_of (filter (belongs k) (map built_in_entry ds))
+    ≡ map built_in_member (filter (has k.name k.width) ds)
 functions_are k [] e = refl
-functions_are k (d ∷ ds) e = kept d (filter (belongs k) (map built_in_entry ds)) (filter (has k.name k.width) ds) (belongs k (built_in_entry d)) (has k.name k.width d) (belongs_has k d e) (functions_are k ds e)
+functions_are k (d ∷ ds) e =
+    kept d (filter (belongs k) (map built_in_entry ds)) (filter (has k.name k.width) ds)
+    (belongs k (built_in_entry d)) (has k.name k.width d) (belongs_has k d e) (functions_are k ds e)
 
-left_out : (x : Entry) (es : List Entry) (b : Bool) → b ≡ false → map member_of es ≡ [] → map member_of (cond b (x ∷ es) es) ≡ []
+left_out : (x : Entry) (es : List Entry) (b : Bool) → b ≡ false → map member_of es ≡ []
+    → map member_of (cond b (x ∷ es) es) ≡ []
 left_out x es true e h = absurd cc
 left_out x es false e h = h
 
-dotted_are : (k : Key) (ds : List BuiltInDeclaration) → k.dotted ≡ true → map member_of (filter (belongs k) (map built_in_entry ds)) ≡ []
+dotted_are : (k : Key) (ds : List BuiltInDeclaration) → k.dotted ≡ true
+    → map member_of (filter (belongs k) (map built_in_entry ds)) ≡ []
 dotted_are k [] e = refl
-dotted_are k (d ∷ ds) e = left_out (built_in_entry d) (filter (belongs k) (map built_in_entry ds)) (belongs k (built_in_entry d)) (belongs_not k d e) (dotted_are k ds e)
+dotted_are k (d ∷ ds) e =
+    left_out (built_in_entry d) (filter (belongs k) (map built_in_entry ds))
+    (belongs k (built_in_entry d)) (belongs_not k d e) (dotted_are k ds e)
 
-built_in_are : (k : Key) → map member_of (filter (belongs k) built_in_entries) ≡ map built_in_member (built_in_of k.dotted k.name k.width)
+built_in_are : (k : Key)
+    → map member_of (filter (belongs k) built_in_entries)
+    ≡ map built_in_member (built_in_of k.dotted k.name k.width)
 built_in_are k = at k.dotted refl
   where
-    at : (b : Bool) → k.dotted ≡ b → map member_of (filter (belongs k) built_in_entries) ≡ map built_in_member (built_in_of b k.name k.width)
+    at : (b : Bool) → k.dotted ≡ b
+        → map member_of (filter (belongs k) built_in_entries)
+        ≡ map built_in_member (built_in_of b k.name k.width)
     at true e = dotted_are k declarations e
     at false e = functions_are k declarations e
 
@@ -109,17 +133,24 @@ module _ (list names : List Spelling) where
   object_own t (object_member.Variable v) = tt
   object_own t (object_member.Method m) = (method_own t m, tt)
 
-  constructor_own : (t : ℕ) (o : Object) (ps : Option ObjectParameters) → AllByRecursion Own (constructor_entry list names t o ps)
+  constructor_own : (t : ℕ) (o : Object) (ps : Option ObjectParameters)
+      → AllByRecursion Own (constructor_entry list names t o ps)
   constructor_own t o None = tt
   constructor_own t o (Some ps) = ((λ e. absurd cc), tt)
 
   declared_own : (d : Declaration) → AllByRecursion Own (entries_at list names d)
   declared_own (declaration.Variable v) = tt
   declared_own (declaration.Function f) = ((λ e. absurd cc), tt)
-  declared_own (declaration.Trait t) = all_joined Own (trait_entry list names (number_of list (spelling names t.name))) t.members (λ x. trait_own (number_of list (spelling names t.name)) x.member)
-  declared_own (declaration.Object o) = all_join Own (constructor_entry list names (number_of list (spelling names o.name)) o o.parameters) (flat_map (object_entry list names (number_of list (spelling names o.name))) o.members)
+  declared_own (declaration.Trait t) =
+      all_joined Own (trait_entry list names (number_of list (spelling names t.name))) t.members
+      (λ x. trait_own (number_of list (spelling names t.name)) x.member)
+  declared_own (declaration.Object o) =
+      all_join Own
+      (constructor_entry list names (number_of list (spelling names o.name)) o o.parameters)
+      (flat_map (object_entry list names (number_of list (spelling names o.name))) o.members)
       (constructor_own (number_of list (spelling names o.name)) o o.parameters)
-      (all_joined Own (object_entry list names (number_of list (spelling names o.name))) o.members (λ x. object_own (number_of list (spelling names o.name)) x.member))
+      (all_joined Own (object_entry list names (number_of list (spelling names o.name))) o.members
+      (λ x. object_own (number_of list (spelling names o.name)) x.member))
 
 -- ---- a set
 
@@ -128,7 +159,9 @@ module _ (c : Component) where
   rest = flat_map (declared_entries (types_of c) c.names) c.declarations
 
   all_own : AllByRecursion Own rest
-  all_own = all_joined Own (declared_entries (types_of c) c.names) c.declarations (λ d. declared_own (types_of c) c.names d.declaration)
+  all_own =
+      all_joined Own (declared_entries (types_of c) c.names) c.declarations
+      (λ d. declared_own (types_of c) c.names d.declaration)
 
   own_of : (k : Key) (d : Member) → ComesFrom k rest d → d.kind ≡ a_kind.BuiltIn → ⊥
   own_of k d (e, j, g, b, m) q = all_item Own rest j e all_own g (ap (λ (z : Member). z.kind) m ∙ q)
@@ -138,10 +171,13 @@ module _ (c : Component) where
     width = k.width;
     all_wide = λ j d a. width_is k (entries_of c) d (comes_from k (entries_of c) d j a);
     others = map member_of (filter (belongs k) rest);
-    are = ap (map member_of) (filter-append (belongs k) built_in_entries rest) ∙ map-append member_of (filter (belongs k) built_in_entries) (filter (belongs k) rest)
+    are = ap (map member_of) (filter-append (belongs k) built_in_entries rest)
+        ∙ map-append member_of (filter (belongs k) built_in_entries) (filter (belongs k) rest)
         ∙ ap (λ l. l ++ map member_of (filter (belongs k) rest)) (built_in_are k);
     none_built_in = λ j d a. own_of k d (comes_from k rest d j a);
   }
 
 pub built_ins_first : BuiltInsStandFirst
-built_ins_first c m w i s e = let k = get_mapped (set_of (entries_of c)) (keys_of (entries_of c)) i s (sym (ap (λ z. slice_get z i) w.sets) ∙ e) in subst HasBuiltInFirst k.2 (first_of_key c k.0)
+built_ins_first c m w i s e =
+    let k = get_mapped (set_of (entries_of c)) (keys_of (entries_of c)) i s
+    (sym (ap (λ z. slice_get z i) w.sets) ∙ e) in subst HasBuiltInFirst k.2 (first_of_key c k.0)

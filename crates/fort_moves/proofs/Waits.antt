@@ -87,7 +87,8 @@ next_at (Term-F.Write x a) = serial a
 next_at (Term-F.ReadField o f) = serial o
 next_at (Term-F.WriteField o f a) = first (standing o) (serial o) (serial a)
 next_at (Term-F.ReadElement a i) = first (standing a) (serial a) (serial i)
-next_at (Term-F.WriteElement a i b) = first (standing a) (serial a) (first (standing i) (serial i) (serial b))
+next_at (Term-F.WriteElement a i b) =
+    first (standing a) (serial a) (first (standing i) (serial i) (serial b))
 next_at (Term-F.Size a) = serial a
 next_at (Term-F.Then a b) = serial a
 next_at (Term-F.If c a b) = serial c
@@ -110,12 +111,14 @@ no_value (at_value v) n k e = absurd cc
 no_value (at_throw v) n k e = refl
 no_value open_yet n k e = refl
 
-operand_on : (before : List Value) (behind : List Term) (t : Term) → value_at (standing t) ≡ None → operand (map term.Value before ++ t ∷ behind) ≡ serial t
+operand_on : (before : List Value) (behind : List Term) (t : Term) → value_at (standing t) ≡ None
+    → operand (map term.Value before ++ t ∷ behind) ≡ serial t
 operand_on [] behind t o = no_value (standing t) _ _ o
 operand_on (v ∷ before) behind t o = first_value v _ _ ∙ operand_on before behind t o
 
 -- a part that is no value is what its form goes on by
-pub next_on : (f : Frame) (t : Term) → value_at (standing t) ≡ None → next_at (on_layer f t) ≡ by_kind t (kind_of f)
+pub next_on : (f : Frame) (t : Term) → value_at (standing t) ≡ None
+    → next_at (on_layer f t) ≡ by_kind t (kind_of f)
 next_on (in_group before behind) t o = refl
 next_on (in_call set before behind) t o = refl
 next_on (in_function argument) t o = refl
@@ -143,41 +146,66 @@ Waits over = Unit {0}
 Waits (serial b) = Finished b
 Waits (parallel ts) = AllOver ts
 
-pub take_middle : (before behind : List Term) (b : Term) → take (length before) (before ++ b ∷ behind) ≡ before
+pub take_middle : (before behind : List Term) (b : Term)
+    → take (length before) (before ++ b ∷ behind) ≡ before
 take_middle [] behind b = refl
 take_middle (x ∷ before) behind b = ap (λ ys. x ∷ ys) (take_middle before behind b)
 
-drop_middle : (before behind : List Term) (b : Term) → drop (suc (length before)) (before ++ b ∷ behind) ≡ behind
+drop_middle : (before behind : List Term) (b : Term)
+    → drop (suc (length before)) (before ++ b ∷ behind) ≡ behind
 drop_middle [] behind b = refl
 drop_middle (x ∷ before) behind b = drop_middle before behind b
 
-pub at_middle : (before behind : List Term) (b : Term) → slice_get (before ++ b ∷ behind) (length before) ≡ Some b
+pub at_middle : (before behind : List Term) (b : Term)
+    → slice_get (before ++ b ∷ behind) (length before) ≡ Some b
 at_middle [] behind b = refl
 at_middle (x ∷ before) behind b = at_middle before behind b
 
-pub in_middle : (before behind : List Term) (b : Term) → length before < length (before ++ b ∷ behind)
+pub in_middle : (before behind : List Term) (b : Term)
+    → length before < length (before ++ b ∷ behind)
 in_middle [] behind b = omega arith
 in_middle (x ∷ before) behind b = let h = in_middle before behind b in omega (arith, h)
 
-pub drop_sides : (before behind : List Term) (b : Term) → drop (length before + 1) (before ++ b ∷ behind) ≡ behind
-drop_sides before behind b = let one : length before + 1 ≡ suc (length before) = omega arith in ap (λ n. drop n (before ++ b ∷ behind)) one ∙ drop_middle before behind b
+pub drop_sides : (before behind : List Term) (b : Term)
+    → drop (length before + 1) (before ++ b ∷ behind) ≡ behind
+drop_sides before behind b =
+    let one : length before + 1 ≡ suc (length before) = omega arith
+    in ap (λ n. drop n (before ++ b ∷ behind)) one ∙ drop_middle before behind b
 
-held_over : (f : Frame) (b : Term) (k : Kind) → kind_of f ≡ k → Waits (by_kind b k) → Finished b ⊎ (passes f b ≡ true)
+held_over : (f : Frame) (b : Term) (k : Kind) → kind_of f ≡ k → Waits (by_kind b k)
+    → Finished b ⊎ (passes f b ≡ true)
 held_over f b lone e w = inl w
-held_over f b (between before behind) e w = go (w (length before) (omega arith) (in_middle before behind b) b (at_middle before behind b))
+held_over f b (between before behind) e w =
+    go (w (length before) (omega arith) (in_middle before behind b) b (at_middle before behind b))
   where
-    go : Finished b ⊎ ((list_any is_thrown (take (length before) (before ++ b ∷ behind) ++ drop (length before + 1) (before ++ b ∷ behind)) && is_still b) ≡ true) → Finished b ⊎ (passes f b ≡ true)
+    go : Finished b
+        ⊎ ((list_any is_thrown
+        (take (length before) (before ++ b ∷ behind)
+        ++ drop (length before + 1) (before ++ b ∷ behind)) && is_still b) ≡ true)
+        → Finished b ⊎ (passes f b ≡ true)
     go (inl h) = inl h
     go (inr h) =
-        let same : take (length before) (before ++ b ∷ behind) ++ drop (length before + 1) (before ++ b ∷ behind) ≡ beside f = (λ i. take_middle before behind b i ++ drop_sides before behind b i) ∙ sym (beside_is f ∙ ap sides_of e) in
+        let same : take (length before) (before ++ b ∷ behind)
+        ++ drop (length before + 1) (before ++ b ∷ behind) ≡ beside f =
+        (λ i. take_middle before behind b i ++ drop_sides before behind b i)
+        ∙ sym (beside_is f ∙ ap sides_of e) in
         inr (subst (λ xs. (list_any is_thrown xs && is_still b) ≡ true) same h)
 
-ready_by : (a : Term) (y : Term-F Term Value Closure) → out-Term a ≡ y → standing_at y ≡ open_yet → Waits (next_at y) → Ready a
-ready_by a y e o w = record { unfinished = not_finished a (ap standing_at e ∙ o); no_part = λ f b q. go f b q (decide b) }
+ready_by : (a : Term) (y : Term-F Term Value Closure) → out-Term a ≡ y → standing_at y ≡ open_yet
+    → Waits (next_at y) → Ready a
+ready_by a y e o w =
+    record {
+      unfinished = not_finished a (ap standing_at e ∙ o);
+      no_part = λ f b q. go f b q (decide b);
+    }
   where
-    go : (f : Frame) (b : Term) → a ≡ on f b → (standing b ≡ open_yet) ⊎ Finished b → Finished b ⊎ (passes f b ≡ true)
+    go : (f : Frame) (b : Term) → a ≡ on f b → (standing b ≡ open_yet) ⊎ Finished b
+        → Finished b ⊎ (passes f b ≡ true)
     go f b q (inr h) = inl h
-    go f b q (inl h) = held_over f b (kind_of f) refl (subst Waits (ap next_at (sym e ∙ ap out-Term q ∙ out_on f b h) ∙ next_on f b (ap value_at h)) w)
+    go f b q (inl h) =
+        held_over f b (kind_of f) refl
+        (subst Waits (ap next_at (sym e ∙ ap out-Term q ∙ out_on f b h)
+        ∙ next_on f b (ap value_at h)) w)
 
 -- forms without parts that go
 pub variable_ready : (x : ℕ) → Ready (Variable x)
@@ -196,21 +224,26 @@ while_ready a b = ready_by (While a b) (Term-F.While a b) (outs-While a b) refl 
 pub group_ready : (ts : List Term) → AllOver ts → Ready (Group ts)
 group_ready ts w = ready_by (Group ts) (Term-F.Group ts) (outs-Group ts) refl w
 
-pub node_ready : (h : Head) (ts : List Term) → suits h ts ≡ true → h ≢ head.Group → AllOver ts → Ready (form_of h ts)
+pub node_ready : (h : Head) (ts : List Term) → suits h ts ≡ true → h ≢ head.Group → AllOver ts
+    → Ready (form_of h ts)
 node_ready head.Group ts e n w = absurd (n refl)
-node_ready (head.Call set) ts e n w = ready_by (Call set ts) (Term-F.Call set ts) (outs-Call set ts) refl w
+node_ready (head.Call set) ts e n w =
+    ready_by (Call set ts) (Term-F.Call set ts) (outs-Call set ts) refl w
 node_ready head.Also ts e n w = ready_by (Also ts) (Term-F.Also ts) (outs-Also ts) refl w
 node_ready head.Apply [] e n w = absurd cc
 node_ready head.Apply (a ∷ []) e n w = absurd cc
-node_ready head.Apply (a ∷ b ∷ []) e n w = ready_by (Apply a b) (Term-F.Apply a b) (outs-Apply a b) refl w
+node_ready head.Apply (a ∷ b ∷ []) e n w =
+    ready_by (Apply a b) (Term-F.Apply a b) (outs-Apply a b) refl w
 node_ready head.Apply (a ∷ b ∷ c ∷ ts) e n w = absurd cc
 node_ready head.ForHalves [] e n w = absurd cc
 node_ready head.ForHalves (a ∷ []) e n w = absurd cc
-node_ready head.ForHalves (a ∷ b ∷ []) e n w = ready_by (ForHalves a b) (Term-F.ForHalves a b) (outs-ForHalves a b) refl w
+node_ready head.ForHalves (a ∷ b ∷ []) e n w =
+    ready_by (ForHalves a b) (Term-F.ForHalves a b) (outs-ForHalves a b) refl w
 node_ready head.ForHalves (a ∷ b ∷ c ∷ ts) e n w = absurd cc
 node_ready (head.ReduceHalves set) [] e n w = absurd cc
 node_ready (head.ReduceHalves set) (a ∷ []) e n w = absurd cc
-node_ready (head.ReduceHalves set) (a ∷ b ∷ []) e n w = ready_by (ReduceHalves set a b) (Term-F.ReduceHalves set a b) (outs-ReduceHalves set a b) refl w
+node_ready (head.ReduceHalves set) (a ∷ b ∷ []) e n w =
+    ready_by (ReduceHalves set a b) (Term-F.ReduceHalves set a b) (outs-ReduceHalves set a b) refl w
 node_ready (head.ReduceHalves set) (a ∷ b ∷ c ∷ ts) e n w = absurd cc
 
 -- operands that are all values
@@ -219,10 +252,13 @@ operand_values [] = refl
 operand_values (v ∷ vs) = first_value v _ _ ∙ operand_values vs
 
 pub operands_ready : (set : SetId) (vs : List Value) → Ready (Operator set (map term.Value vs))
-operands_ready set vs = ready_by (Operator set (map term.Value vs)) (Term-F.Operator set (map term.Value vs)) (outs-Operator set (map term.Value vs)) refl (subst Waits (sym (operand_values vs)) tt)
+operands_ready set vs =
+    ready_by (Operator set (map term.Value vs)) (Term-F.Operator set (map term.Value vs))
+    (outs-Operator set (map term.Value vs)) refl (subst Waits (sym (operand_values vs)) tt)
 
 -- forms that go from left to right
-layer_of : (f : code.Frame) (t : Term) → IsInOrder f → out-Term (on (frame_of f) t) ≡ on_layer (frame_of f) t
+layer_of : (f : code.Frame) (t : Term) → IsInOrder f
+    → out-Term (on (frame_of f) t) ≡ on_layer (frame_of f) t
 layer_of (frame.Node n) t i = absurd i
 layer_of frame.Throw t i = outs-Throw _
 layer_of (frame.Operand a b c) t i = outs-Operator _ _
@@ -251,21 +287,27 @@ pub lone_order : (f : code.Frame) → IsInOrder f → kind_of (frame_of f) ≡ l
 lone_order (frame.Node n) i = absurd i
 lone_order _ i = refl
 
-thrown_open : (f : code.Frame) (v : Value) → IsInOrder f → standing_at (on_layer (frame_of f) (throw_of v)) ≡ open_yet
+thrown_open : (f : code.Frame) (v : Value) → IsInOrder f
+    → standing_at (on_layer (frame_of f) (throw_of v)) ≡ open_yet
 thrown_open (frame.Node n) v i = absurd i
 thrown_open frame.Throw v i = ap of_thrown (outs-Throw (term.Value v))
 thrown_open _ v i = refl
 
 pub throw_ready : (f : code.Frame) (v : Value) → IsInOrder f → Ready (on (frame_of f) (throw_of v))
 throw_ready f v i =
-    let coming : next_at (on_layer (frame_of f) (throw_of v)) ≡ serial (throw_of v) = next_on (frame_of f) (throw_of v) (ap value_at (standing-throw v)) ∙ ap (by_kind (throw_of v)) (lone_order f i) in
-    ready_by (on (frame_of f) (throw_of v)) (on_layer (frame_of f) (throw_of v)) (layer_of f (throw_of v) i) (thrown_open f v i) (subst Waits (sym coming) (ends.Finished.throw v refl))
+    let coming : next_at (on_layer (frame_of f) (throw_of v)) ≡ serial (throw_of v) =
+    next_on (frame_of f) (throw_of v) (ap value_at (standing-throw v))
+    ∙ ap (by_kind (throw_of v)) (lone_order f i) in
+    ready_by (on (frame_of f) (throw_of v)) (on_layer (frame_of f) (throw_of v))
+    (layer_of f (throw_of v) i) (thrown_open f v i)
+    (subst Waits (sym coming) (ends.Finished.throw v refl))
 
 last_order : (f : code.Frame) → IsLast f → IsInOrder f
 last_order (frame.Node n) l = absurd l
 last_order _ l = tt
 
-last_coming : (f : code.Frame) (v : Value) → IsLast f → next_at (on_layer (frame_of f) (term.Value v)) ≡ serial (term.Value v)
+last_coming : (f : code.Frame) (v : Value) → IsLast f
+    → next_at (on_layer (frame_of f) (term.Value v)) ≡ serial (term.Value v)
 last_coming (frame.Node n) v l = absurd l
 last_coming frame.Throw v l = absurd l
 last_coming (frame.Operand a b c) v l = absurd l
@@ -280,11 +322,14 @@ last_coming (frame.Index array) v l = first_value array _ _
 last_coming (frame.ElementValue array index) v l = first_value array _ _ ∙ first_value index _ _
 last_coming _ v l = refl
 
-last_open : (f : code.Frame) (v : Value) → IsLast f → standing_at (on_layer (frame_of f) (term.Value v)) ≡ open_yet
+last_open : (f : code.Frame) (v : Value) → IsLast f
+    → standing_at (on_layer (frame_of f) (term.Value v)) ≡ open_yet
 last_open (frame.Node n) v l = absurd l
 last_open frame.Throw v l = absurd l
 last_open _ v l = refl
 
 pub value_ready : (f : code.Frame) (v : Value) → IsLast f → Ready (on (frame_of f) (term.Value v))
 value_ready f v l =
-    ready_by (on (frame_of f) (term.Value v)) (on_layer (frame_of f) (term.Value v)) (layer_of f (term.Value v) (last_order f l)) (last_open f v l) (subst Waits (sym (last_coming f v l)) (ends.Finished.value v refl))
+    ready_by (on (frame_of f) (term.Value v)) (on_layer (frame_of f) (term.Value v))
+    (layer_of f (term.Value v) (last_order f l)) (last_open f v l)
+    (subst Waits (sym (last_coming f v l)) (ends.Finished.value v refl))

@@ -9,8 +9,11 @@ use Rattle.fort_set.specs.Pairs.{NeverMeet, AreUnordered, Passes, aside, ordered
 
 module _ (h : DeclaredTypes) (sound : Sound h) (s : MemberSet) where
   -- two that are more specific than each other have the same parameters
-  both_ways : (p q : Member) → IsMoreSpecific h p q → IsMoreSpecific h q p → p.parameters ≡ q.parameters
-  both_ways p q a b = same_lists p.parameters q.parameters a.0 (λ k x y e f. same h sound x y (a.1 k x y e f) (b.1 k y x f e))
+  both_ways : (p q : Member) → IsMoreSpecific h p q → IsMoreSpecific h q p
+      → p.parameters ≡ q.parameters
+  both_ways p q a b =
+      same_lists p.parameters q.parameters a.0
+      (λ k x y e f. same h sound x y (a.1 k x y e f) (b.1 k y x f e))
 
   -- three cases that say nothing of two declarations are not one of these
   unordered_aside : (p q : Member) → AreUnordered h s p q → NeverMeet h s p q → ⊥

@@ -1,4 +1,5 @@
--- Whether new lines may stand between the units of a flat expression is nothing to the atoms and runs in it.
+-- Whether new lines may stand between the units of a flat expression is nothing to the atoms and
+-- runs in it.
 use Rattle.std.proofs.Common.{◌≡◌, Bool, List, [], ◌∷◌, Option, Some, None, refl, ap}
 use Rattle.std.specs.Prelude.{map, ◌&&◌}
 use Rattle.fort_tree.specs.declared.expr.Atom.{Atom}
@@ -36,7 +37,8 @@ module _ (names : Spellings) (a b blocks : Bool) where
 
   pub atom_same : (x : Atom) → Same (said_atom x)
   atom_same = cases_atom (λ x. Same (said_atom x))
-      (λ w. rw (says-Name w) refl) (λ v s. rw (says-Number v s) refl) (λ v s. rw (says-Text v s) refl)
+      (λ w. rw (says-Name w) refl) (λ v s. rw (says-Number v s) refl)
+      (λ v s. rw (says-Text v s) refl)
       (λ s. rw (says-True s) refl) (λ s. rw (says-False s) refl) (λ s. rw (says-Self_ s) refl)
       (λ left c right. rw (says-Parens left c right) refl)
       (λ d. rw (says-Delimited d) (delimited_same d))
@@ -45,15 +47,20 @@ module _ (names : Spellings) (a b blocks : Bool) where
   pub postfix_same : (x : Postfix) → Same (said_postfix x)
   postfix_same = cases_postfix (λ x. Same (said_postfix x))
       (λ left i right. rw (says-Subscript left i right) refl)
-      (λ p e. rw (says-Power p e) (ap (λ (c : Bool). is_empty (gap_of (said_atom e)) && c) (atom_same e)))
+      (λ p e. rw (says-Power p e) (ap (λ
+      (c : Bool). is_empty (gap_of (said_atom e)) && c) (atom_same e)))
       (λ d w. rw (says-Field d w) refl) (λ d w left l right. rw (says-Call d w left l right) refl)
 
   pub run_part_same : (x : RunPart) → Same (said_run_part x)
   run_part_same = cases_run_part (λ x. Same (said_run_part x))
-      (λ x. rw (says-Atom x) (ap (λ (c : Bool). is_empty (gap_of (said_atom x)) && c) (atom_same x)))
-      (λ x. rw (says-Postfix x) (ap (λ (c : Bool). is_empty (gap_of (said_postfix x)) && c) (postfix_same x)))
+      (λ x. rw (says-Atom x) (ap (λ
+      (c : Bool). is_empty (gap_of (said_atom x)) && c) (atom_same x)))
+      (λ x. rw (says-Postfix x) (ap (λ
+      (c : Bool). is_empty (gap_of (said_postfix x)) && c) (postfix_same x)))
 
-  parts_same : (xs : List RunPart) → all_obey names (allowing a blocks) (map said_run_part xs) ≡ all_obey names (allowing b blocks) (map said_run_part xs)
+  parts_same : (xs : List RunPart)
+      → all_obey names (allowing a blocks) (map said_run_part xs)
+      ≡ all_obey names (allowing b blocks) (map said_run_part xs)
   parts_same [] = refl
   parts_same (x ∷ xs) = rw (run_part_same x, parts_same xs) refl
 

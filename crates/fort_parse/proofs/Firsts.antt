@@ -33,10 +33,14 @@ use Rattle.fort_parse.proofs.Statements.{allowing}
 
 -- ---- what they begin with
 
-pub delimited_begins : (names : Spellings) (allowed : Allowed) (d : Delimited) → (said_delimited d).obeys names allowed ≡ true → begins_atom allowed.blocks (said_delimited d).first.kind ≡ true
+pub delimited_begins : (names : Spellings) (allowed : Allowed) (d : Delimited)
+    → (said_delimited d).obeys names allowed ≡ true
+    → begins_atom allowed.blocks (said_delimited d).first.kind ≡ true
 unfolding begins_atom
-delimited_begins names allowed = cases_delimited (λ d. (said_delimited d).obeys names allowed ≡ true → begins_atom allowed.blocks (said_delimited d).first.kind ≡ true)
-    (λ at b others end ob. let own = rw (says-Do at b others end) at ob in rw (says-Do at b others end) (left_true _ _ own))
+delimited_begins names allowed = cases_delimited (λ d. (said_delimited d).obeys names allowed ≡ true
+    → begins_atom allowed.blocks (said_delimited d).first.kind ≡ true)
+    (λ at b others end ob. let own = rw (says-Do at b others end) at ob
+    in rw (says-Do at b others end) (left_true _ _ own))
     (λ at c then b others o end ob. rw (says-If at c then b others o end) refl)
     (λ at c d b end ob. rw (says-While at c d b end) refl)
     (λ at g others d b end ob. rw (says-For at g others d b end) refl)
@@ -44,29 +48,49 @@ delimited_begins names allowed = cases_delimited (λ d. (said_delimited d).obeys
     (λ at n e s of c o end ob. rw (says-Typecase at n e s of c o end) refl)
     (λ at b c f end ob. rw (says-Try at b c f end) refl)
 
-pub atom_begins : (names : Spellings) (allowed : Allowed) (a : Atom) → (said_atom a).obeys names allowed ≡ true → begins_atom allowed.blocks (said_atom a).first.kind ≡ true
+pub atom_begins : (names : Spellings) (allowed : Allowed) (a : Atom)
+    → (said_atom a).obeys names allowed ≡ true
+    → begins_atom allowed.blocks (said_atom a).first.kind ≡ true
 unfolding begins_atom
-atom_begins names allowed = cases_atom (λ a. (said_atom a).obeys names allowed ≡ true → begins_atom allowed.blocks (said_atom a).first.kind ≡ true)
-    (λ w ob. rw (says-Name w) refl) (λ v s ob. rw (says-Number v s) refl) (λ v s ob. rw (says-Text v s) refl)
-    (λ s ob. rw (says-True s) refl) (λ s ob. rw (says-False s) refl) (λ s ob. rw (says-Self_ s) refl)
+atom_begins names allowed = cases_atom (λ a. (said_atom a).obeys names allowed ≡ true
+    → begins_atom allowed.blocks (said_atom a).first.kind ≡ true)
+    (λ w ob. rw (says-Name w) refl) (λ v s ob. rw (says-Number v s) refl)
+    (λ v s ob. rw (says-Text v s) refl)
+    (λ s ob. rw (says-True s) refl) (λ s ob. rw (says-False s) refl)
+    (λ s ob. rw (says-Self_ s) refl)
     (λ left c right ob. rw (says-Parens left c right) refl)
     (λ d ob. rw (says-Delimited d) (delimited_begins names allowed d (rw (says-Delimited d) at ob)))
     (λ spots e s v ob. rw (says-ArrayFill spots e s v) refl)
 
-pub run_begins : (names : Spellings) (allowed : Allowed) (r : Run) → (said_run r).obeys names allowed ≡ true → begins_atom allowed.blocks (said_run r).first.kind ≡ true
-run_begins names allowed r ob = let own = rw (run_says r) at ob in rw (run_says r) (atom_begins names allowed (out-Run r).first (left_true _ _ own))
+pub run_begins : (names : Spellings) (allowed : Allowed) (r : Run)
+    → (said_run r).obeys names allowed ≡ true
+    → begins_atom allowed.blocks (said_run r).first.kind ≡ true
+run_begins names allowed r ob =
+    let own = rw (run_says r) at ob
+    in rw (run_says r) (atom_begins names allowed (out-Run r).first (left_true _ _ own))
 
-unit_begins : (names : Spellings) (allowed : Allowed) (prefix : Option Prefix) (r : Run) → (with_prefix prefix (said_run r)).obeys names allowed ≡ true → begins_unit allowed.blocks (with_prefix prefix (said_run r)).first.kind ≡ true
+unit_begins : (names : Spellings) (allowed : Allowed) (prefix : Option Prefix) (r : Run)
+    → (with_prefix prefix (said_run r)).obeys names allowed ≡ true
+    → begins_unit allowed.blocks (with_prefix prefix (said_run r)).first.kind ≡ true
 unfolding begins_unit begins_atom is_prefix
 unit_begins names allowed None r ob = rw (run_begins names allowed r ob) refl
 unit_begins names allowed (Some (a_prefix.Minus s)) r ob = refl
 unit_begins names allowed (Some (a_prefix.Not s)) r ob = refl
 
-pub operand_begins : (names : Spellings) (allowed : Allowed) (o : Operand) → (said_operand o).obeys names allowed ≡ true → begins_unit allowed.blocks (said_operand o).first.kind ≡ true
-operand_begins names allowed o ob = let own = rw (operand_says o) at ob in rw (operand_says o) (unit_begins names allowed (out-Operand o).prefix (out-Operand o).run own)
+pub operand_begins : (names : Spellings) (allowed : Allowed) (o : Operand)
+    → (said_operand o).obeys names allowed ≡ true
+    → begins_unit allowed.blocks (said_operand o).first.kind ≡ true
+operand_begins names allowed o ob =
+    let own = rw (operand_says o) at ob
+    in rw (operand_says o)
+    (unit_begins names allowed (out-Operand o).prefix (out-Operand o).run own)
 
-pub flat_begins : (names : Spellings) (allowed : Allowed) (f : Flat) → (said_flat f).obeys names allowed ≡ true → begins_unit allowed.blocks (said_flat f).first.kind ≡ true
-flat_begins names allowed f ob = let own = rw (flat_says f) at ob in rw (flat_says f) (operand_begins names allowed (out-Flat f).first (left_true _ _ own))
+pub flat_begins : (names : Spellings) (allowed : Allowed) (f : Flat)
+    → (said_flat f).obeys names allowed ≡ true
+    → begins_unit allowed.blocks (said_flat f).first.kind ≡ true
+flat_begins names allowed f ob =
+    let own = rw (flat_says f) at ob
+    in rw (flat_says f) (operand_begins names allowed (out-Flat f).first (left_true _ _ own))
 
 big_begins : (b : Big) → begins_head (big_first b).kind ≡ true
 unfolding begins_head
@@ -93,10 +117,16 @@ head_is_expr : (k : Kind) → begins_head k ≡ true → begins_expr k ≡ true
 unfolding begins_expr
 head_is_expr k e = rw e (true_right (begins_unit true k))
 
-pub expr_begins : (names : Spellings) (lines : Bool) (e : Expr) → (said_expr e).obeys names (allowing lines true) ≡ true → begins_expr (said_expr e).first.kind ≡ true
-expr_begins names lines = cases_expr (λ e. (said_expr e).obeys names (allowing lines true) ≡ true → begins_expr (said_expr e).first.kind ≡ true)
-    (λ f ob. let own = rw (says-Flat f) at ob in rw (says-Flat f) (unit_is_expr _ (flat_begins names (allowing lines true) f own)))
-    (λ t s h v ob. let own = rw (says-Assign t s h v) at ob in rw (says-Assign t s h v) (unit_is_expr _ (flat_begins names (allowing false true) t (left_true _ _ own))))
+pub expr_begins : (names : Spellings) (lines : Bool) (e : Expr)
+    → (said_expr e).obeys names (allowing lines true) ≡ true
+    → begins_expr (said_expr e).first.kind ≡ true
+expr_begins names lines = cases_expr (λ e. (said_expr e).obeys names (allowing lines true) ≡ true
+    → begins_expr (said_expr e).first.kind ≡ true)
+    (λ f ob. let own = rw (says-Flat f) at ob
+    in rw (says-Flat f) (unit_is_expr _ (flat_begins names (allowing lines true) f own)))
+    (λ t s h v ob. let own = rw (says-Assign t s h v) at ob
+    in rw (says-Assign t s h v)
+    (unit_is_expr _ (flat_begins names (allowing false true) t (left_true _ _ own))))
     (λ h b ob. rw (says-Open h b) (head_is_expr _ (head_begins h)))
     (λ h t s v ob. rw (says-OpenAssign h t s v) (head_is_expr _ (head_begins h)))
 
@@ -106,7 +136,8 @@ pub close_no_expr : begins_expr (kind.Mark mark.CloseParen) ≡ false
 unfolding begins_expr begins_unit begins_atom is_prefix begins_head
 close_no_expr = refl
 
-word_not_head : (blocks : Bool) (w : Reserved) → (word_begins_atom blocks w || false) ≡ true → word_begins_head w ≡ false
+word_not_head : (blocks : Bool) (w : Reserved) → (word_begins_atom blocks w || false) ≡ true
+    → word_begins_head w ≡ false
 word_not_head blocks reserved.Atomic e = absurd cc
 word_not_head blocks reserved.Tryatomic e = absurd cc
 word_not_head blocks reserved.Throw e = absurd cc
@@ -126,8 +157,10 @@ unit_not_head blocks (kind.Text v) e = refl
 unit_not_head blocks (kind.Op o) e = refl
 unit_not_head blocks (kind.Mark m) e = refl
 
-pub flat_not_head : (names : Spellings) (allowed : Allowed) (f : Flat) → (said_flat f).obeys names allowed ≡ true → begins_head (said_flat f).first.kind ≡ false
-flat_not_head names allowed f ob = unit_not_head allowed.blocks (said_flat f).first.kind (flat_begins names allowed f ob)
+pub flat_not_head : (names : Spellings) (allowed : Allowed) (f : Flat)
+    → (said_flat f).obeys names allowed ≡ true → begins_head (said_flat f).first.kind ≡ false
+flat_not_head names allowed f ob =
+    unit_not_head allowed.blocks (said_flat f).first.kind (flat_begins names allowed f ob)
 
 -- an atom begins with no prefix operator, no infix operator and no postfix
 pub atom_not_prefix : (blocks : Bool) (k : Kind) → begins_atom blocks k ≡ true → is_prefix k ≡ false
@@ -139,7 +172,8 @@ atom_not_prefix blocks (kind.Text v) e = refl
 atom_not_prefix blocks (kind.Op o) e = absurd cc
 atom_not_prefix blocks (kind.Mark m) e = refl
 
-pub atom_not_infix : (blocks : Bool) (k : Kind) → begins_atom blocks k ≡ true → is_infix_kind k ≡ false
+pub atom_not_infix : (blocks : Bool) (k : Kind) → begins_atom blocks k ≡ true
+    → is_infix_kind k ≡ false
 unfolding begins_atom is_infix_kind
 atom_not_infix blocks (kind.Word w) e = refl
 atom_not_infix blocks (kind.Name v) e = refl
@@ -148,12 +182,14 @@ atom_not_infix blocks (kind.Text v) e = refl
 atom_not_infix blocks (kind.Op o) e = absurd cc
 atom_not_infix blocks (kind.Mark m) e = refl
 
-mark_not_postfix : (m : Mark) → begins_atom true (kind.Mark m) ≡ true → begins_postfix (kind.Mark m) ≡ false
+mark_not_postfix : (m : Mark) → begins_atom true (kind.Mark m) ≡ true
+    → begins_postfix (kind.Mark m) ≡ false
 unfolding begins_atom begins_postfix
 mark_not_postfix mark.OpenParen e = refl
 mark_not_postfix _ e = absurd cc
 
-pub atom_not_postfix : (blocks : Bool) (k : Kind) → begins_atom blocks k ≡ true → begins_postfix k ≡ false
+pub atom_not_postfix : (blocks : Bool) (k : Kind) → begins_atom blocks k ≡ true
+    → begins_postfix k ≡ false
 unfolding begins_atom begins_postfix
 atom_not_postfix blocks (kind.Word w) e = refl
 atom_not_postfix blocks (kind.Name v) e = refl

@@ -1,4 +1,5 @@
--- The tokens with which items, clauses and blocks begin and end, and what they say of what stands before them.
+-- The tokens with which items, clauses and blocks begin and end, and what they say of what stands
+-- before them.
 use Rattle.std.proofs.Common.{◌≡◌, Bool, true, false, Option, Some, None, refl}
 use Rattle.std.specs.Prelude.{◌||◌}
 use Rattle.fort_base.specs.declared.refusal.Gap.{Gap}
@@ -35,7 +36,8 @@ unit_is_expr : (k : Kind) → begins_unit true k ≡ true → begins_expr k ≡ 
 unfolding begins_expr
 unit_is_expr k e = rw e refl
 
-word_begins_item : (w : Reserved) → begins_expr (kind.Word w) ≡ true → begins_item_kind (kind.Word w) ≡ true
+word_begins_item : (w : Reserved) → begins_expr (kind.Word w) ≡ true
+    → begins_item_kind (kind.Word w) ≡ true
 unfolding begins_expr begins_unit begins_atom is_prefix begins_head begins_item_kind
 word_begins_item reserved.True e = refl
 word_begins_item reserved.False e = refl
@@ -83,7 +85,8 @@ type_is_item (kind.Text v) e = absurd cc
 type_is_item (kind.Op v) e = absurd cc
 type_is_item (kind.Mark v) e = mark_type_item v e
 
-variable_at : (var : Option Spot) (x : Said) → begins_item_kind x.first.kind ≡ true → begins_item_kind (after_var var x).first.kind ≡ true
+variable_at : (var : Option Spot) (x : Said) → begins_item_kind x.first.kind ≡ true
+    → begins_item_kind (after_var var x).first.kind ≡ true
 unfolding begins_item_kind
 variable_at None x e = e
 variable_at (Some s) x e = refl
@@ -96,11 +99,17 @@ paren_is_item : begins_item_kind (kind.Mark mark.OpenParen) ≡ true
 unfolding begins_item_kind begins_expr begins_unit begins_atom
 paren_is_item = refl
 
-pub item_begins : (names : Spellings) (i : Item) → (said_item i).obeys names elsewhere ≡ true → begins_item_kind (said_item i).first.kind ≡ true
-item_begins names = cases_item (λ i. (said_item i).obeys names elsewhere ≡ true → begins_item_kind (said_item i).first.kind ≡ true)
-    (λ v ob. rw (says-Variable v, variable_says v) (variable_at (out-Variable v).var _ (name_is_item _)))
+pub item_begins : (names : Spellings) (i : Item) → (said_item i).obeys names elsewhere ≡ true
+    → begins_item_kind (said_item i).first.kind ≡ true
+item_begins names = cases_item (λ i. (said_item i).obeys names elsewhere ≡ true
+    → begins_item_kind (said_item i).first.kind ≡ true)
+    (λ v ob. rw (says-Variable v, variable_says v)
+    (variable_at (out-Variable v).var _ (name_is_item _)))
     (λ a b c d e f g h ob. rw (says-Names a b c d e f g h) paren_is_item)
-    (λ e ob. let own = rw (says-Expr e) at ob in rw (says-Expr e) (expr_is_item (said_expr e).first.kind (expr_begins names false e (right_true _ _ own))))
+    (λ e ob. let own = rw (says-Expr e) at ob
+    in rw (says-Expr e)
+    (expr_is_item (said_expr e).first.kind
+    (expr_begins names false e (right_true _ _ own))))
 
 -- ---- what ends an expression
 
@@ -110,7 +119,8 @@ line_empty gap.Space e = refl
 line_empty gap.Line e = refl
 
 -- a new line ends a flat expression
-pub line_stops : (blocks : Bool) (t : Token) → is_line t.gap ≡ true → flat_stops false blocks (Some t) ≡ true
+pub line_stops : (blocks : Bool) (t : Token) → is_line t.gap ≡ true
+    → flat_stops false blocks (Some t) ≡ true
 unfolding begins_run_part begins_flat_part
 line_stops blocks t e = rw (line_empty t.gap e, e) refl
 
@@ -145,7 +155,12 @@ semicolon_not k e = not_mark begins_item_kind mark.Semicolon refl k e
 -- a token on a new line that may begin an item ends the one before
 pub new_line : (t : Token) → is_line t.gap ≡ true → begins_item_kind t.kind ≡ true → Stops (Some t)
 unfolding sees
-new_line t e f = record { expr = rw (line_stops true t e, assigns_not t.kind f) refl; colon = colon_not t.kind f; semicolon = semicolon_not t.kind f }
+new_line t e f =
+    record {
+      expr = rw (line_stops true t e, assigns_not t.kind f) refl;
+      colon = colon_not t.kind f;
+      semicolon = semicolon_not t.kind f;
+    }
 
 -- ---- what ends a block
 
@@ -166,7 +181,8 @@ pub record Ends (next : Option Token) : Type 0 where
   pub clause : (ready : Bool) → begins_apart_of (begins_unit true) ready next ≡ false
   pub types : (ready : Bool) → begins_apart_of begins_type ready next ≡ false
 
-ends_all : (w : Reserved) (s : Spot) → word_begins_atom true w ≡ false → begins_item_kind (kind.Word w) ≡ false → Ends (Some (word w s))
+ends_all : (w : Reserved) (s : Spot) → word_begins_atom true w ≡ false
+    → begins_item_kind (kind.Word w) ≡ false → Ends (Some (word w s))
 unfolding begins_apart_of begins_unit begins_atom is_prefix begins_type sees is_range is_mark
 ends_all w s e f = record {
   stops = record { expr = word_ends_expr false w s e; colon = refl; semicolon = refl };

@@ -15,7 +15,8 @@ use Rattle.fort_plain.specs.Paths.{AllSleep}
 use Rattle.fort_plain.specs.Takes.{MustWait}
 
 -- the fuel doesn't cover a cost
-pub too_dear : (spent cost fuel : ℕ) (b : Bool) → b ≡ nat_le (spent + cost) fuel → b ≡ false → fuel < spent + cost
+pub too_dear : (spent cost fuel : ℕ) (b : Bool) → b ≡ nat_le (spent + cost) fuel → b ≡ false
+    → fuel < spent + cost
 too_dear spent cost fuel b e n = leb-false (spent + cost) fuel (sym e ∙ n)
 
 -- a flag's denial
@@ -28,15 +29,18 @@ is_so true e = refl
 is_so false e = let z : true ≡ false = e in absurd cc
 
 -- a location is there, or isn't
-pub some_seen : (o : Option (Bor Value)) (s : Option Value) (b : Bool) → option_copied o ≡ s → is_some o ≡ not b → b ≡ false → IsSome s
+pub some_seen : (o : Option (Bor Value)) (s : Option Value) (b : Bool) → option_copied o ≡ s
+    → is_some o ≡ not b → b ≡ false → IsSome s
 some_seen None s b e k t = let z : false ≡ true = k ∙ ap not t in absurd cc
 some_seen (Some v) s b e k t = subst IsSome e refl
 
-pub none_seen : (o : Option (Bor Value)) (s : Option Value) (b : Bool) → option_copied o ≡ s → is_some o ≡ not b → b ≡ true → s ≡ None
+pub none_seen : (o : Option (Bor Value)) (s : Option Value) (b : Bool) → option_copied o ≡ s
+    → is_some o ≡ not b → b ≡ true → s ≡ None
 none_seen None s b e k t = sym e
 none_seen (Some v) s b e k t = let z : true ≡ false = k ∙ ap not t in absurd cc
 
-pub seen_none : (o : Option (Bor Value)) (s : Option Value) (b : Bool) → option_copied o ≡ s → is_some o ≡ not b → s ≡ None → b ≡ true
+pub seen_none : (o : Option (Bor Value)) (s : Option Value) (b : Bool) → option_copied o ≡ s
+    → is_some o ≡ not b → s ≡ None → b ≡ true
 seen_none None s true e k t = refl
 seen_none None s false e k t = let z : false ≡ true = k in absurd cc
 seen_none (Some v) s b e k t = let z : option_copied (Some v) ≡ None = e ∙ t in absurd cc
@@ -60,19 +64,25 @@ FreeYet loc count s = (n : ℕ) → n < count → (loc + n < 2 ^ 64) × (s (loc 
 pub free_none : (loc : ℕ) (s : Store) → FreeYet loc 0 s
 free_none loc s n low = let f : ⊥ = omega (arith, low) in absurd f
 
-pub free_more : (loc count : ℕ) (s : Store) → FreeYet loc count s → (loc + count < 2 ^ 64) × (s (loc + count) ≡ None) → FreeYet loc (count + 1) s
+pub free_more : (loc count : ℕ) (s : Store) → FreeYet loc count s
+    → (loc + count < 2 ^ 64) × (s (loc + count) ≡ None) → FreeYet loc (count + 1) s
 free_more loc count s h k n low = go (n == count) refl
   where
     go : (b : Bool) → (n == count) ≡ b → (loc + n < 2 ^ 64) × (s (loc + n) ≡ None)
-    go true q = let same : n ≡ count = search (rules, q) in subst (λ i. (loc + i < 2 ^ 64) × (s (loc + i) ≡ None)) (sym same) k
+    go true q =
+        let same : n ≡ count = search (rules, q)
+        in subst (λ i. (loc + i < 2 ^ 64) × (s (loc + i) ≡ None)) (sym same) k
     go false q =
         let apart : n ≢ count = search (rules, q) in h n (omega (arith, low, apart))
 
-pub free_whole : (loc count : ℕ) (s : Store) → loc < 2 ^ 64 → FreeYet loc count s → (loc + count ≤ 2 ^ 64) × AreFree loc count s
+pub free_whole : (loc count : ℕ) (s : Store) → loc < 2 ^ 64 → FreeYet loc count s
+    → (loc + count ≤ 2 ^ 64) × AreFree loc count s
 free_whole loc zero s b h = (omega (arith, b), λ n low. (h n low).1)
-free_whole loc (suc count) s b h = let last = (h count (omega arith)).0 in (omega (arith, last), λ n low. (h n low).1)
+free_whole loc (suc count) s b h =
+    let last = (h count (omega arith)).0 in (omega (arith, last), λ n low. (h n low).1)
 
-pub free_one : (loc count n : ℕ) (s : Store) → n < count → (loc + count ≤ 2 ^ 64) × AreFree loc count s → (loc + n < 2 ^ 64) × (s (loc + n) ≡ None)
+pub free_one : (loc count n : ℕ) (s : Store) → n < count
+    → (loc + count ≤ 2 ^ 64) × AreFree loc count s → (loc + n < 2 ^ 64) × (s (loc + n) ≡ None)
 free_one loc count n s low h = let top = h.0 in (omega (arith, low, top), h.1 n low)
 
 -- ---- sleepers
@@ -80,11 +90,14 @@ free_one loc count n s low h = let top = h.0 in (omega (arith, low, top), h.1 n 
 pub waits_not : (s : Store) (t a : Term) → (Sleeps s a → ⊥) → MustWait s t a false
 waits_not s t a n = inl n
 
-pub waits_by : (s : Store) (t a : Term) (all waits : Bool) → AllSleep s t all → Sleeps s a → waits ≡ not all → MustWait s t a waits
+pub waits_by : (s : Store) (t a : Term) (all waits : Bool) → AllSleep s t all → Sleeps s a
+    → waits ≡ not all → MustWait s t a waits
 waits_by s t a true waits h z e = subst (MustWait s t a) (sym e) (inr h)
 waits_by s t a false waits h z e = subst (MustWait s t a) (sym e) (z, h)
 
 -- an atomic form is fresh or asleep
-pub is_atomic : (a : Term) (m : Mode) (body : Term) → Form a m body → ((k : Mode) (b : Term) → a ≡ Atomic k b → ⊥) → ((ms : Marks) (b : Term) → a ≡ Asleep ms b → ⊥) → ⊥
+pub is_atomic : (a : Term) (m : Mode) (body : Term) → Form a m body
+    → ((k : Mode) (b : Term) → a ≡ Atomic k b → ⊥) → ((ms : Marks) (b : Term) → a ≡ Asleep ms b → ⊥)
+    → ⊥
 is_atomic a m body (fresh e) f g = f m body e
 is_atomic a m body (slept ms q e) f g = g ms body e

@@ -31,10 +31,12 @@ by_itself (Term-F.Atomic mode body) h = h
 by_itself (Term-F.Asleep marks body) h = h
 by_itself _ h = tt
 
-shown : (t : Term) (form : Term-F Term Value Closure) → out-Term t ≡ form → NotTried form → NotTried (out-Term t)
+shown : (t : Term) (form : Term-F Term Value Closure) → out-Term t ≡ form → NotTried form
+    → NotTried (out-Term t)
 shown t form e h = subst NotTried (sym e) h
 
-node_shown : (h : Head) (ts : List Term) → suits h ts ≡ true → h ≢ head.Group → NotTried (out-Term (form_of h ts))
+node_shown : (h : Head) (ts : List Term) → suits h ts ≡ true → h ≢ head.Group
+    → NotTried (out-Term (form_of h ts))
 node_shown head.Group ts e n = absurd (n refl)
 node_shown (head.Call set) ts e n = shown _ _ (outs-Call set ts) tt
 node_shown head.Also ts e n = shown _ _ (outs-Also ts) tt
@@ -87,5 +89,6 @@ form_shown : (t : Term) (m : Mode) (body : Term) → Form t m body → NotTried 
 form_shown t m body (fresh e) h = subst NotTried (ap out-Term e ∙ outs-Atomic m body) h
 form_shown t m body (slept marks q e) h = subst NotTried (ap out-Term e ∙ outs-Asleep marks body) h
 
-pub made_is_not_tried : (r : Ready) (m : Mode) (body : Term) → IsMade r → Form (ready_term r) m body → ⊥
+pub made_is_not_tried : (r : Ready) (m : Mode) (body : Term) → IsMade r → Form (ready_term r) m body
+    → ⊥
 made_is_not_tried r m body k h = form_shown (ready_term r) m body h (made_shown r k)

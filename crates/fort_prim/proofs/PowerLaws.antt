@@ -30,5 +30,8 @@ steep : (n e : ℕ) → 2 ≤ n → 64 ≤ e → 2 ^ 64 ≤ n ^ e
 steep n e h k = le_trans (pow-le-pow_right (omega arith) k) (pow-le-pow_left h e)
 
 -- from 2 to the 64 on a power is too large
-pub steep_power : (a : ℤ) (e : ℕ) → 2 ≤ unsigned_abs a → 64 ≤ e → too_large ≡ within w64 (number (int_pow a e))
-steep_power a e h k = too_far (int_pow a e) (subst (λ n. 2 ^ 64 ≤ n) (sym (abs_pow a e)) (steep (unsigned_abs a) e h k))
+pub steep_power : (a : ℤ) (e : ℕ) → 2 ≤ unsigned_abs a → 64 ≤ e
+    → too_large ≡ within w64 (number (int_pow a e))
+steep_power a e h k =
+    too_far (int_pow a e)
+    (subst (λ n. 2 ^ 64 ≤ n) (sym (abs_pow a e)) (steep (unsigned_abs a) e h k))

@@ -21,7 +21,8 @@ narrower : (z : ℤ) → is_within w64 z ≡ false → is_within w32 z ≡ false
 narrower (pos n) h = smaller n h
 narrower (negsuc n) h = smaller n h
 
-asked_twice : (b : Bool) (z : ℤ) → (b ≡ false → is_within w32 z ≡ false) → within w32 (if b then number z else too_large) ≡ within w32 (number z)
+asked_twice : (b : Bool) (z : ℤ) → (b ≡ false → is_within w32 z ≡ false)
+    → within w32 (if b then number z else too_large) ≡ within w32 (number z)
 asked_twice true z h = refl
 asked_twice false z h = sym (ap (λ c. if c then number z else too_large) (h refl))
 
@@ -33,8 +34,11 @@ within_both by_zero = refl
 within_both below_zero = refl
 
 -- what is computed on ZZ64 serves on ZZ32
-pub on_both : (F : ℤ → ℤ → Figure) (f : Figure) (x y a b : ℤ) → x ≡ a → y ≡ b → f ≡ within w64 (F x y) → within w32 f ≡ within w32 (F a b)
-on_both F f x y a b p q h = ap (within w32) h ∙ within_both (F x y) ∙ ap (λ z. within w32 (F z y)) p ∙ ap (λ z. within w32 (F a z)) q
+pub on_both : (F : ℤ → ℤ → Figure) (f : Figure) (x y a b : ℤ) → x ≡ a → y ≡ b
+    → f ≡ within w64 (F x y) → within w32 f ≡ within w32 (F a b)
+on_both F f x y a b p q h =
+    ap (within w32) h ∙ within_both (F x y) ∙ ap (λ z. within w32 (F z y)) p
+    ∙ ap (λ z. within w32 (F a z)) q
 
 -- a number of 65 bits or more is too large
 pub far_out : (z : ℤ) → 2 ^ 64 ≤ unsigned_abs z → is_within w64 z ≡ false

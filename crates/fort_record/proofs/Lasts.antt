@@ -14,12 +14,17 @@ module _ (xs : List Open) (o : Open) where
 
   pub last_is : slice_get (xs ++ o ∷ []) (length (xs ++ o ∷ []) - 1) ≡ Some o
   last_is =
-      ap (slice_get (xs ++ o ∷ [])) place ∙ slice_get-get_or (xs ++ o ∷ []) (length xs) o (omega (arith, length-append xs (o ∷ []))) ∙ ap Some (get_or-append_seam xs o [] o)
+      ap (slice_get (xs ++ o ∷ [])) place
+      ∙ slice_get-get_or (xs ++ o ∷ []) (length xs) o (omega (arith, length-append xs (o ∷ [])))
+      ∙ ap Some (get_or-append_seam xs o [] o)
 
   pub rest_is : take (length (xs ++ o ∷ []) - 1) (xs ++ o ∷ []) ≡ xs
   rest_is = take_at xs (o ∷ []) _ (sym place)
 
-pub closed_is : (r : Reader) (xs : List Open) (o : Open) → r.attempts ≡ xs ++ o ∷ [] → closed r (slice_get r.attempts (length r.attempts - 1)) ≡ put_pick (record r { attempts = xs; picks = o.before }) (Attempt o.path r.picks)
+pub closed_is : (r : Reader) (xs : List Open) (o : Open) → r.attempts ≡ xs ++ o ∷ []
+    → closed r (slice_get r.attempts (length r.attempts - 1))
+    ≡ put_pick (record r { attempts = xs; picks = o.before }) (Attempt o.path r.picks)
 closed_is r xs o e =
     ap (λ os. closed r (slice_get os (length os - 1))) e ∙ ap (closed r) (last_is xs o)
-    ∙ ap (λ os. put_pick (record r { attempts = os; picks = o.before }) (Attempt o.path r.picks)) (ap (λ os. take (length os - 1) os) e ∙ rest_is xs o)
+    ∙ ap (λ os. put_pick (record r { attempts = os; picks = o.before }) (Attempt o.path r.picks))
+    (ap (λ os. take (length os - 1) os) e ∙ rest_is xs o)

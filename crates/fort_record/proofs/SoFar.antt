@@ -18,18 +18,25 @@ abbrev pub lines : List Open → List Pick → List ℕ
 lines [] ps = picks_text ps
 lines (o ∷ os) ps = picks_text o.before ++ (head_text o.path.0 ++ lines os ps)
 
-pub lines_last : (os : List Open) (o : Open) (ps : List Pick) → lines (os ++ o ∷ []) ps ≡ lines os o.before ++ (head_text o.path.0 ++ picks_text ps)
+pub lines_last : (os : List Open) (o : Open) (ps : List Pick)
+    → lines (os ++ o ∷ []) ps ≡ lines os o.before ++ (head_text o.path.0 ++ picks_text ps)
 lines_last [] o ps = refl
 lines_last (q ∷ os) o ps =
     ap (λ x. picks_text q.before ++ (head_text q.path.0 ++ x)) (lines_last os o ps)
-    ∙ ap (λ x. picks_text q.before ++ x) (sym (append_assoc (head_text q.path.0) (lines os o.before) (head_text o.path.0 ++ picks_text ps)))
-    ∙ sym (append_assoc (picks_text q.before) (head_text q.path.0 ++ lines os o.before) (head_text o.path.0 ++ picks_text ps))
+    ∙ ap (λ x. picks_text q.before ++ x)
+    (sym (append_assoc (head_text q.path.0) (lines os o.before)
+    (head_text o.path.0 ++ picks_text ps)))
+    ∙ sym (append_assoc (picks_text q.before) (head_text q.path.0 ++ lines os o.before)
+    (head_text o.path.0 ++ picks_text ps))
 
-pub lines_more : (os : List Open) (ps : List Pick) (p : Pick) → lines os (ps ++ p ∷ []) ≡ lines os ps ++ pick_text p
-lines_more [] ps p = picks_append ps (p ∷ []) ∙ ap (λ x. picks_text ps ++ x) (append-nil (pick_text p))
+pub lines_more : (os : List Open) (ps : List Pick) (p : Pick)
+    → lines os (ps ++ p ∷ []) ≡ lines os ps ++ pick_text p
+lines_more [] ps p =
+    picks_append ps (p ∷ []) ∙ ap (λ x. picks_text ps ++ x) (append-nil (pick_text p))
 lines_more (o ∷ os) ps p =
     ap (λ x. picks_text o.before ++ (head_text o.path.0 ++ x)) (lines_more os ps p)
-    ∙ ap (λ x. picks_text o.before ++ x) (sym (append_assoc (head_text o.path.0) (lines os ps) (pick_text p)))
+    ∙ ap (λ x. picks_text o.before ++ x)
+    (sym (append_assoc (head_text o.path.0) (lines os ps) (pick_text p)))
     ∙ sym (append_assoc (picks_text o.before) (head_text o.path.0 ++ lines os ps) (pick_text p))
 
 -- the picks of the run, and those behind `out`
@@ -42,7 +49,8 @@ top fuel rest = word_text word.Head ++ (decimal fuel ++ (10 ∷ rest))
 
 pub top_more : (fuel : ℕ) (a b : List ℕ) → top fuel (a ++ b) ≡ top fuel a ++ b
 top_more fuel a b =
-    ap (λ x. word_text word.Head ++ x) (sym (append_assoc (decimal fuel) (10 ∷ a) b)) ∙ sym (append_assoc (word_text word.Head) (decimal fuel ++ (10 ∷ a)) b)
+    ap (λ x. word_text word.Head ++ x) (sym (append_assoc (decimal fuel) (10 ∷ a) b))
+    ∙ sym (append_assoc (word_text word.Head) (decimal fuel ++ (10 ∷ a)) b)
 
 -- all before a line
 abbrev pub before : Reader → List ℕ
@@ -80,7 +88,8 @@ so_far_at r stage.Type = before r ++ (word_text word.Uncaught ++ digits r.part)
 so_far_at r (stage.Path w) = before r ++ (word_text (way_word w) ++ parts_text r.path r.part)
 so_far_at r (stage.Dash w) = before r ++ (word_text (way_word w) ++ 45 ∷ [])
 so_far_at r stage.Line = before r
-so_far_at r (stage.Output left) = ended r ++ (word_text word.Output ++ (decimal (length r.output + left) ++ (10 ∷ r.output)))
+so_far_at r (stage.Output left) =
+    ended r ++ (word_text word.Output ++ (decimal (length r.output + left) ++ (10 ∷ r.output)))
 
 abbrev pub so_far : Reader → List ℕ
 so_far r = so_far_at r r.stage

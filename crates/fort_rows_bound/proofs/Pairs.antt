@@ -9,16 +9,20 @@ use Rattle.fort_machine.specs.Acts.{stuck, enters, becomes}
 use Rattle.fort_machine.specs.Forms.{binding, entering}
 use Rattle.fort_machine.specs.Substitution.{paired, substituted_all}
 
-pub paired_apart : (xs : List (ℕ × Ty)) (vs : List Value) → length xs ≢ length vs → None ≡ paired xs vs
+pub paired_apart : (xs : List (ℕ × Ty)) (vs : List Value) → length xs ≢ length vs
+    → None ≡ paired xs vs
 paired_apart [] [] n = absurd (n refl)
 paired_apart [] (v ∷ vs) n = refl
 paired_apart (x ∷ xs) [] n = refl
-paired_apart (x ∷ xs) (v ∷ vs) n = ap (option_map (λ (hs : List (ℕ × Value)). (x.0, v) ∷ hs)) (paired_apart xs vs (λ e. n (omega (arith, e))))
+paired_apart (x ∷ xs) (v ∷ vs) n =
+    ap (option_map (λ
+    (hs : List (ℕ × Value)). (x.0, v) ∷ hs)) (paired_apart xs vs (λ e. n (omega (arith, e))))
 
 pub none_bound : (o : Option (List (ℕ × Value))) (rest : Term) → None ≡ o → binding o rest ≡ stuck
 none_bound o rest e = ap (λ (q : Option (List (ℕ × Value))). binding q rest) (sym e)
 
-pub all_bound : (o : Option (List (ℕ × Value))) (rest : Term) (hs : List (ℕ × Value)) → Some hs ≡ o → binding o rest ≡ becomes (substituted_all hs rest)
+pub all_bound : (o : Option (List (ℕ × Value))) (rest : Term) (hs : List (ℕ × Value)) → Some hs ≡ o
+    → binding o rest ≡ becomes (substituted_all hs rest)
 all_bound o rest hs e = ap (λ (q : Option (List (ℕ × Value))). binding q rest) (sym e)
 
 pub ruleset bindings = (none_bound, all_bound)
@@ -26,7 +30,8 @@ pub ruleset bindings = (none_bound, all_bound)
 pub not_entered : (c : Closure) (o : Option (List (ℕ × Value))) → None ≡ o → entering c o ≡ stuck
 not_entered c o e = ap (entering c) (sym e)
 
-pub is_entered : (c : Closure) (o : Option (List (ℕ × Value))) (hs : List (ℕ × Value)) → Some hs ≡ o → entering c o ≡ enters c.body (substituted_all (hs ++ c.held) c.body)
+pub is_entered : (c : Closure) (o : Option (List (ℕ × Value))) (hs : List (ℕ × Value)) → Some hs ≡ o
+    → entering c o ≡ enters c.body (substituted_all (hs ++ c.held) c.body)
 is_entered c o hs e = ap (entering c) (sym e)
 
 pub ruleset enterings = (not_entered, is_entered)

@@ -10,10 +10,12 @@ not_two (f ∷ []) n = refl
 not_two (f ∷ v ∷ []) n = absurd (n refl)
 not_two (f ∷ v ∷ w ∷ vs) n = refl
 
-pub two : (vs : List Value) (f v : Value) → length vs ≡ 2 → f ≡ get_or vs 0 f → v ≡ get_or vs 1 v → applying vs ≡ applying_to (out-Value f) v
+pub two : (vs : List Value) (f v : Value) → length vs ≡ 2 → f ≡ get_or vs 0 f → v ≡ get_or vs 1 v
+    → applying vs ≡ applying_to (out-Value f) v
 two [] f v e p q = absurd (omega (arith, e))
 two (g ∷ []) f v e p q = absurd (omega (arith, e))
-two (g ∷ w ∷ []) f v e p q = ap (λ x. applying_to (out-Value x) w) (sym p) ∙ ap (λ x. applying_to (out-Value f) x) (sym q)
+two (g ∷ w ∷ []) f v e p q =
+    ap (λ x. applying_to (out-Value x) w) (sym p) ∙ ap (λ x. applying_to (out-Value f) x) (sym q)
 two (g ∷ w ∷ u ∷ vs) f v e p q = absurd (omega (arith, e))
 
 pub ruleset applies = (not_two, two)

@@ -24,21 +24,32 @@ not_below (negsuc n) h = absurd (omega (arith, ints))
 
 pub ruleset signs = (below_zero, not_below)
 
-pub outside : (p : Program) (t : Ty) (base : Loc) (size : ℕ) (z : ℤ) (f : Option ℕ → Act) → None ≡ natural_of z → by_element p (Value-F.Array t base size) (Value-F.Small z) f ≡ throwing p p.built_in.index_out_of_range
+pub outside : (p : Program) (t : Ty) (base : Loc) (size : ℕ) (z : ℤ) (f : Option ℕ → Act)
+    → None ≡ natural_of z
+    → by_element p (Value-F.Array t base size) (Value-F.Small z) f
+    ≡ throwing p p.built_in.index_out_of_range
 outside p t base size (pos n) f e = absurd cc
 outside p t base size (negsuc n) f e = refl
 
-pub inside : (p : Program) (t : Ty) (base : Loc) (size : ℕ) (z : ℤ) (i : ℕ) (f : Option ℕ → Act) → Some i ≡ natural_of z
-    → by_element p (Value-F.Array t base size) (Value-F.Small z) f ≡ (if nat_lt i size then f (Some (base.0 + i)) else throwing p p.built_in.index_out_of_range)
-inside p t base size (pos n) i f e = let q : i ≡ n = cc in ap (λ k. if nat_lt k size then f (Some (base.0 + k)) else throwing p p.built_in.index_out_of_range) (sym q)
+pub inside : (p : Program) (t : Ty) (base : Loc) (size : ℕ) (z : ℤ) (i : ℕ) (f : Option ℕ → Act)
+    → Some i ≡ natural_of z
+    → by_element p (Value-F.Array t base size) (Value-F.Small z) f
+    ≡ (if nat_lt i size then f (Some (base.0 + i)) else throwing p p.built_in.index_out_of_range)
+inside p t base size (pos n) i f e =
+    let q : i ≡ n = cc
+    in ap (λ k. if nat_lt k size then f (Some (base.0 + k))
+    else throwing p p.built_in.index_out_of_range) (sym q)
 inside p t base size (negsuc n) i f e = absurd cc
 
-pub negative_fill : (p : Program) (ty : Ty) (v : Value) (z : ℤ) → None ≡ natural_of z → filling p ty v (Value-F.Small z) ≡ throwing p p.built_in.negative_size
+pub negative_fill : (p : Program) (ty : Ty) (v : Value) (z : ℤ) → None ≡ natural_of z
+    → filling p ty v (Value-F.Small z) ≡ throwing p p.built_in.negative_size
 negative_fill p ty v (pos n) e = absurd cc
 negative_fill p ty v (negsuc n) e = refl
 
-pub filled : (p : Program) (ty : Ty) (v : Value) (z : ℤ) (n : ℕ) → Some n ≡ natural_of z → act_of (deal.Makes (fresh.Array ty v n)) ≡ filling p ty v (Value-F.Small z)
-filled p ty v (pos m) n e = let q : n ≡ m = cc in ap (λ k. act_of (deal.Makes (fresh.Array ty v k))) q
+pub filled : (p : Program) (ty : Ty) (v : Value) (z : ℤ) (n : ℕ) → Some n ≡ natural_of z
+    → act_of (deal.Makes (fresh.Array ty v n)) ≡ filling p ty v (Value-F.Small z)
+filled p ty v (pos m) n e =
+    let q : n ≡ m = cc in ap (λ k. act_of (deal.Makes (fresh.Array ty v k))) q
 filled p ty v (negsuc m) n e = absurd cc
 
 pub ruleset elements = (outside, inside)

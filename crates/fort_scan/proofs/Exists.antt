@@ -65,7 +65,8 @@ nil_no_part a after (gaps.white c e i w) = absurd cc
 nil_no_part a after (gaps.line x e i p q) = absurd cc
 nil_no_part a after (gaps.comment x e i p q) = absurd cc
 
-by_part : (text : List ℕ) (e : PartEnd) → PartIs text e → ((after : List ℕ) → length after < length text → GapEnd after) → GapEnd text
+by_part : (text : List ℕ) (e : PartEnd) → PartIs text e
+    → ((after : List ℕ) → length after < length text → GapEnd after) → GapEnd text
 by_part text end.Stop p more = here text p.0 (inl p.1)
 by_part text end.Unclosed p more = here text p.1 (inr p.0)
 by_part text (end.Part n) p more =
@@ -78,16 +79,19 @@ gap_within : (fuel : ℕ) (text : List ℕ) → length text ≤ fuel → GapEnd 
 gap_within fuel [] l = here [] nil_no_part (inl refl)
 gap_within zero (c ∷ cs) l = absurd (omega arith)
 gap_within (suc fuel) (c ∷ cs) l =
-    by_part (c ∷ cs) (part_end (c ∷ cs)) (part_is (c ∷ cs) (omega arith)) (λ after s. gap_within fuel after (omega arith))
+    by_part (c ∷ cs) (part_end (c ∷ cs)) (part_is (c ∷ cs) (omega arith))
+    (λ after s. gap_within fuel after (omega arith))
 
 -- ---- each text has a next step
 
-by_read : (text : List ℕ) (n : ℕ) (r : Read) → Gap text (drop n text) → n ≤ length text → WordIs (drop n text) r → (s : Step) × StepIs text s
+by_read : (text : List ℕ) (n : ℕ) (r : Read) → Gap text (drop n text) → n ≤ length text
+    → WordIs (drop n text) r → (s : Step) × StepIs text s
 by_read text n (Whole m s) g l w = (step.Next n m s, next_is text n m s g l w)
 by_read text n (Stuck m) g l w = (step.Stuck n m, stuck_is text n m g l w)
 by_read text n (Fault r k) g l w = (step.Broken r (n + k), broken_is text n k r g l w)
 
-by_rest : (text : List ℕ) (n : ℕ) (rest : List ℕ) → rest ≡ drop n text → Gap text rest → n ≤ length text → opens rest ≡ false → (s : Step) × StepIs text s
+by_rest : (text : List ℕ) (n : ℕ) (rest : List ℕ) → rest ≡ drop n text → Gap text rest
+    → n ≤ length text → opens rest ≡ false → (s : Step) × StepIs text s
 by_rest text n [] e g l o = (step.End, g)
 by_rest text n (c ∷ cs) e g l o =
     by_read text n (word_of (drop n text)) (subst (Gap text) e g) l
@@ -98,51 +102,73 @@ step_exists text =
     let e = gap_within (length text) text (omega arith) in
     let n = length e.front in
     let rest : e.rest ≡ drop n text = sym (ap (drop n) e.whole ∙ drop_at e.front e.rest n refl) in
-    let l : n ≤ length text = (let a = ap length e.whole in let b = length-append e.front e.rest in omega arith) in
+    let l : n ≤ length text =
+    (let a = ap length e.whole in let b = length-append e.front e.rest in omega arith) in
     elim e.next [
       | inl o ↦ by_rest text n e.rest rest e.gap l o
-      | inr o ↦ (step.Broken OPEN_COMMENT n, open_is text n (subst (Gap text) rest e.gap) l (subst IsOpenComment rest o))
+      | inr o ↦ (
+        step.Broken OPEN_COMMENT n,
+        open_is text n (subst (Gap text) rest e.gap) l (subst IsOpenComment rest o),
+      )
     ]
 
 -- ---- each text is read to its end
 
 -- a text's list of tokens, or the rule that it breaks
 abbrev pub IsReadable : List ℕ → Type 0
-IsReadable text = ((ps : List Piece) × IsList text ps) ⊎ (((r : Rule) × (place : Place) × IsFault text r place) ⊎ ((place : Place) × IsMany text place))
+IsReadable text = ((ps : List Piece) × IsList text ps)
+    ⊎ (((r : Rule) × (place : Place) × IsFault text r place)
+    ⊎ ((place : Place) × IsMany text place))
 
 -- what is read from a later place on
 abbrev Later : List ℕ → ℕ → Type 0
-Later text at = (more : ℕ) (ps : List Piece) → at < more → more ≤ length text → length ps ≤ 262144 → Chain IsToken ps (body text) (drop more text) → IsReadable text
+Later text at = (more : ℕ) (ps : List Piece) → at < more → more ≤ length text → length ps ≤ 262144
+    → Chain IsToken ps (body text) (drop more text) → IsReadable text
 
-by_step : (text : List ℕ) (at : ℕ) (ps : List Piece) (s : Step) → at ≤ length text → length ps ≤ 262144 → Chain IsToken ps (body text) (drop at text)
+by_step : (text : List ℕ) (at : ℕ) (ps : List Piece) (s : Step) → at ≤ length text
+    → length ps ≤ 262144 → Chain IsToken ps (body text) (drop at text)
     → StepIs (drop at text) s → Later text at → IsReadable text
 by_step text at ps step.End l m h s later = inl (with_mark (mark text) ps, list_is text at ps h m s)
-by_step text at ps (step.Broken r n) l m h s later = inr (inl (r, place_at text (at + n), fault_is text at n ps r l m h s))
+by_step text at ps (step.Broken r n) l m h s later =
+    inr (inl (r, place_at text (at + n), fault_is text at n ps r l m h s))
 by_step text at ps (step.Stuck gap word) l m h s later =
     elim (cases_lt (length ps) 262144) [
-      | inl few ↦ inr (inl (BAD_CHARACTER, place_at text (at + (gap + word)), stuck_fault text at gap word ps l few h s))
-      | inr full ↦ inr (inr (place_at text (at + gap), stuck_many text at gap word ps l (omega arith) h s))
+      | inl few ↦
+          inr (inl (
+            BAD_CHARACTER,
+            place_at text (at + (gap + word)),
+            stuck_fault text at gap word ps l few h s,
+          ))
+      | inr full ↦
+          inr (inr (place_at text (at + gap), stuck_many text at gap word ps l (omega arith) h s))
     ]
 by_step text at ps (step.Next gap word shape) l m h s later =
     elim (cases_lt (length ps) 262144) [
       | inl few ↦
           let p = piece_at (drop at text) gap word in
           let rest = drop (gap + word) (drop at text) in
-          let chain = subst (Chain IsToken (ps ++ p ∷ []) (body text)) (drop-drop (gap + word) at text) (chain_more IsToken ps p (body text) (drop at text) rest h s.is) in
+          let chain =
+          subst (Chain IsToken (ps ++ p ∷ []) (body text)) (drop-drop (gap + word) at text)
+          (chain_more IsToken ps p (body text) (drop at text) rest h s.is) in
           let some = s.some in
           let within = s.within in
           let d = length-drop at text in
           let k = length-append ps (p ∷ []) in
           later (at + (gap + word)) (ps ++ p ∷ []) (omega arith) (omega arith) (omega arith) chain
-      | inr full ↦ inr (inr (place_at text (at + gap), many_is text at gap word ps shape l (omega arith) h s))
+      | inr full ↦
+          inr (inr (place_at text (at + gap), many_is text at gap word ps shape l (omega arith) h s))
     ]
 
-read_within : (fuel : ℕ) (text : List ℕ) (at : ℕ) (ps : List Piece) → length text ≤ at + fuel → at ≤ length text → length ps ≤ 262144
+read_within : (fuel : ℕ) (text : List ℕ) (at : ℕ) (ps : List Piece) → length text ≤ at + fuel
+    → at ≤ length text → length ps ≤ 262144
     → Chain IsToken ps (body text) (drop at text) → IsReadable text
 read_within zero text at ps f l m h =
-    let s = step_exists (drop at text) in by_step text at ps s.0 l m h s.1 (λ more qs a b c d. absurd (omega arith))
+    let s = step_exists (drop at text)
+    in by_step text at ps s.0 l m h s.1 (λ more qs a b c d. absurd (omega arith))
 read_within (suc fuel) text at ps f l m h =
-    let s = step_exists (drop at text) in by_step text at ps s.0 l m h s.1 (λ more qs a b c d. read_within fuel text more qs (omega arith) b c d)
+    let s = step_exists (drop at text)
+    in by_step text at ps s.0 l m h s.1
+    (λ more qs a b c d. read_within fuel text more qs (omega arith) b c d)
 
 body_at : (text : List ℕ) → (n : ℕ) × (n ≤ length text) × (body text ≡ drop n text)
 body_at [] = (0, omega arith, refl)
@@ -154,4 +180,6 @@ body_at (c ∷ cs) = by (c == 65279)
 
 -- each text has a list of tokens, or breaks a rule
 pub one_exists : (text : List ℕ) → IsReadable text
-one_exists text = let b = body_at text in read_within (length text) text b.0 [] (omega arith) b.1 (omega arith) b.2
+one_exists text =
+    let b = body_at text
+    in read_within (length text) text b.0 [] (omega arith) b.1 (omega arith) b.2

@@ -18,7 +18,8 @@ stands_once {w} {v} {text} {x} {y} h k =
     same_front w v x y e (omega arith)
 
 -- a gap ends at one place
-pub chain_ends : (ps bs : List (List ℕ)) (text x y : List ℕ) → Chain Part ps text x → Chain Part bs text y → NoPart x → NoPart y → x ≡ y
+pub chain_ends : (ps bs : List (List ℕ)) (text x y : List ℕ) → Chain Part ps text x
+    → Chain Part bs text y → NoPart x → NoPart y → x ≡ y
 chain_ends [] [] text x y h k n m = sym h ∙ k
 chain_ends [] (b ∷ bs) text x y h k n m = absurd (n b k.0 (subst (λ t. Part b t k.0) h k.1))
 chain_ends (a ∷ ps) [] text x y h k n m = absurd (m a h.0 (subst (λ t. Part a t h.0) k h.1))
@@ -29,39 +30,49 @@ pub gap_once : {text x y : List ℕ} → Gap text x → Gap text y → x ≡ y
 gap_once {text} {x} {y} h k = chain_ends h.0 k.0 text x y h.1 k.1 h.2 k.2
 
 -- a piece is one
-pub piece_once : {p q : Piece} {text x y : List ℕ} → IsPiece p text x → IsPiece q text y → (p ≡ q) × (x ≡ y)
+pub piece_once : {p q : Piece} {text x y : List ℕ} → IsPiece p text x → IsPiece q text y
+    → (p ≡ q) × (x ≡ y)
 piece_once {p} {q} {text} {x} {y} h k =
     let e : p.word ++ x ≡ q.word ++ y = gap_once h.gap k.gap in
     let both = stands_once h.word (subst (λ t. Stands q.word t y) (sym e) k.word) in
     let words : p.word ≡ q.word = both.0 in
     let rests : x ≡ y = both.1 in
-    let g : p.gap ++ (p.word ++ x) ≡ q.gap ++ (p.word ++ x) = sym h.whole ∙ k.whole ∙ ap (λ t. q.gap ++ t) (sym e) in
+    let g : p.gap ++ (p.word ++ x) ≡ q.gap ++ (p.word ++ x) =
+    sym h.whole ∙ k.whole ∙ ap (λ t. q.gap ++ t) (sym e) in
     let gaps : p.gap ≡ q.gap = append_cancel_right p.gap q.gap (p.word ++ x) g in
     (ap (λ (t : List ℕ × List ℕ). record { gap = t.0; word = t.1 }) (cc), rests)
 
 -- ---- lengths
 
-pub parts_shorter : (ps : List (List ℕ)) (text after : List ℕ) → Chain Part ps text after → length after ≤ length text
+pub parts_shorter : (ps : List (List ℕ)) (text after : List ℕ) → Chain Part ps text after
+    → length after ≤ length text
 parts_shorter [] text after h = let e = ap length h in omega arith
-parts_shorter (p ∷ ps) text after h = let a = part_shorter h.1 in let b = parts_shorter ps h.0 after h.2 in omega arith
+parts_shorter (p ∷ ps) text after h =
+    let a = part_shorter h.1 in let b = parts_shorter ps h.0 after h.2 in omega arith
 
 pub gap_shorter : {text rest : List ℕ} → Gap text rest → length rest ≤ length text
 gap_shorter {text} {rest} h = parts_shorter h.0 text rest h.1
 
-pub piece_shorter : {p : Piece} {text after : List ℕ} → IsPiece p text after → length after + length p.word ≤ length text
-piece_shorter {p} {text} {after} h = let a = gap_shorter h.gap in let b = length-append p.word after in omega arith
+pub piece_shorter : {p : Piece} {text after : List ℕ} → IsPiece p text after
+    → length after + length p.word ≤ length text
+piece_shorter {p} {text} {after} h =
+    let a = gap_shorter h.gap in let b = length-append p.word after in omega arith
 
-pub pieces_shorter : (ps : List Piece) (text after : List ℕ) → Chain IsPiece ps text after → length after ≤ length text
+pub pieces_shorter : (ps : List Piece) (text after : List ℕ) → Chain IsPiece ps text after
+    → length after ≤ length text
 pieces_shorter [] text after h = let e = ap length h in omega arith
-pieces_shorter (p ∷ ps) text after h = let a = piece_shorter h.1 in let b = pieces_shorter ps h.0 after h.2 in omega arith
+pieces_shorter (p ∷ ps) text after h =
+    let a = piece_shorter h.1 in let b = pieces_shorter ps h.0 after h.2 in omega arith
 
 -- ---- a text with tokens breaks no rule, and has no other tokens
 
 -- A fault stands behind the tokens, or within what follows their gap.
 pub fault_behind : (ps qs : List Piece) (text mid mid' rest rest' : List ℕ) (k k' : ℕ) (r' : Rule)
     → Chain IsToken ps text mid → Gap mid rest
-    → ((q : ℕ) (r : Rule) → Breaks rest q r → k ≤ q) → ((w after : List ℕ) → Stands w rest after → k ≤ length w)
-    → Chain IsPiece qs text mid' → Gap mid' rest' → Breaks rest' k' r' → k + length rest' ≤ k' + length rest
+    → ((q : ℕ) (r : Rule) → Breaks rest q r → k ≤ q)
+    → ((w after : List ℕ) → Stands w rest after → k ≤ length w)
+    → Chain IsPiece qs text mid' → Gap mid' rest' → Breaks rest' k' r'
+    → k + length rest' ≤ k' + length rest
 fault_behind [] [] text mid mid' rest rest' k k' r' a g least inside b g' f =
     let e : rest ≡ rest' = gap_once g (subst (λ t. Gap t rest') (sym b ∙ a) g') in
     let le = least k' r' (subst (λ t. Breaks t k' r') (sym e) f) in
@@ -81,12 +92,16 @@ fault_behind (p ∷ ps) [] text mid mid' rest rest' k k' r' a g least inside b g
 fault_behind (p ∷ ps) (q ∷ qs) text mid mid' rest rest' k k' r' a g least inside b g' f =
     let h = a.1 in
     let both = piece_once h.piece b.1 in
-    fault_behind ps qs a.0 mid mid' rest rest' k k' r' a.2 g least inside (subst (λ t. Chain IsPiece qs t mid') (sym both.1) b.2) g' f
+    fault_behind ps qs a.0 mid mid' rest rest' k k' r' a.2 g least inside
+    (subst (λ t. Chain IsPiece qs t mid') (sym both.1) b.2) g' f
 
 -- The text up to a gap is tokens, and behind the gap it breaks a rule: that is the first fault.
-pub first_fault : (ps : List Piece) (text mid rest : List ℕ) (k at : ℕ) → Chain IsToken ps (body text) mid → Gap mid rest
-    → ((q : ℕ) (r : Rule) → Breaks rest q r → k ≤ q) → ((w after : List ℕ) → Stands w rest after → k ≤ length w)
+pub first_fault : (ps : List Piece) (text mid rest : List ℕ) (k at : ℕ)
+    → Chain IsToken ps (body text) mid → Gap mid rest
+    → ((q : ℕ) (r : Rule) → Breaks rest q r → k ≤ q)
+    → ((w after : List ℕ) → Stands w rest after → k ≤ length w)
     → at + length rest ≡ length text + k → IsSoundBefore text at
 first_fault ps text mid rest k at a g least inside place q r f =
-    let h = fault_behind ps f.pieces (body text) mid f.middle rest f.rest k f.k r a g least inside f.before f.gap f.fault in
+    let h = fault_behind ps f.pieces (body text) mid f.middle rest f.rest k f.k r a g least inside
+    f.before f.gap f.fault in
     let e = f.place in omega arith

@@ -49,33 +49,45 @@ paths h table rows i j = elim (cases_lt i (length h)) as (λ _. Or (Path h i j))
   where
     by_bit : i < length h → j < length h → (b : Bool) → is_set table.below i j ≡ b → Or (Path h i j)
     by_bit l m true e = inl ((rows.below.sets i j l m).0 e)
-    by_bit l m false e = inr (λ p. let f : false ≡ true = sym e ∙ (rows.below.sets i j l m).1 p in absurd cc)
+    by_bit l m false e =
+        inr (λ p. let f : false ≡ true = sym e ∙ (rows.below.sets i j l m).1 p in absurd cc)
 
 module _ (h : DeclaredTypes) (table : TypeTable) (sound : Sound h) (rows : HasRows h table) where
   -- both ways round at once, since arrows turn
   abbrev Decided : Ty → Type 0
   Decided a = (b : Ty) → Or (Below h a b) × Or (Below h b a)
 
-  more : (x y : Ty) (xs ys : List Ty) → Below h x y → AllBelow h xs ys → AllBelow h (x ∷ xs) (y ∷ ys)
+  more : (x y : Ty) (xs ys : List Ty) → Below h x y → AllBelow h xs ys
+      → AllBelow h (x ∷ xs) (y ∷ ys)
   more x y xs ys b r = (let l = r.0 in omega arith, places)
     where
-      places : (k : ℕ) (u v : Ty) → slice_get (x ∷ xs) k ≡ Some u → slice_get (y ∷ ys) k ≡ Some v → Below h u v
-      places zero u v p q = let e : x ≡ u = cc in let f : y ≡ v = cc in subst (λ z. Below h z v) e (subst (λ z. Below h x z) f b)
+      places : (k : ℕ) (u v : Ty) → slice_get (x ∷ xs) k ≡ Some u → slice_get (y ∷ ys) k ≡ Some v
+          → Below h u v
+      places zero u v p q =
+          let e : x ≡ u = cc in let f : y ≡ v = cc
+          in subst (λ z. Below h z v) e (subst (λ z. Below h x z) f b)
       places (suc k) u v p q = r.1 k u v p q
 
   none_below : (xs ys : List Ty) → length xs ≡ 0 → length ys ≡ 0 → AllBelow h xs ys
-  none_below xs ys l m = (let n = l in omega arith, λ k x y e f. let n = slice_get_within xs k x e in absurd (omega arith))
+  none_below xs ys l m = (
+    let n = l in omega arith,
+    λ k x y e f. let n = slice_get_within xs k x e
+        in absurd (omega arith),
+  )
 
   -- lists, from their places
-  lists_or : (xs ys : List Ty) → ((k : ℕ) (x : Ty) → slice_get xs k ≡ Some x → (y : Ty) → Or (Below h x y)) → Or (AllBelow h xs ys)
+  lists_or : (xs ys : List Ty)
+      → ((k : ℕ) (x : Ty) → slice_get xs k ≡ Some x → (y : Ty) → Or (Below h x y))
+      → Or (AllBelow h xs ys)
   lists_or [] [] d = inl (none_below [] [] refl refl)
   lists_or [] (y ∷ ys) d = inr (λ p. let n = p.0 in omega arith)
   lists_or (x ∷ xs) [] d = inr (λ p. let n = p.0 in omega arith)
   lists_or (x ∷ xs) (y ∷ ys) d = elim (d 0 x refl y) as (λ _. Or (AllBelow h (x ∷ xs) (y ∷ ys))) [
-    | inl b ↦ elim (lists_or xs ys (λ k t e. d (suc k) t e)) as (λ _. Or (AllBelow h (x ∷ xs) (y ∷ ys))) [
-      | inl r ↦ inl (more x y xs ys b r)
-      | inr n ↦ inr (λ p. n (let l = p.0 in omega arith, λ k u v. p.1 (suc k) u v))
-    ]
+    | inl b ↦
+        elim (lists_or xs ys (λ k t e. d (suc k) t e)) as (λ _. Or (AllBelow h (x ∷ xs) (y ∷ ys))) [
+          | inl r ↦ inl (more x y xs ys b r)
+          | inr n ↦ inr (λ p. n (let l = p.0 in omega arith, λ k u v. p.1 (suc k) u v))
+        ]
     | inr n ↦ inr (λ p. n (p.1 0 x y refl refl))
   ]
 
@@ -83,18 +95,21 @@ module _ (h : DeclaredTypes) (table : TypeTable) (sound : Sound h) (rows : HasRo
   parts_down [] [] d = inl (none_below [] [] refl refl)
   parts_down [] (y ∷ ys) d = inr (λ p. let n = p.0 in omega arith)
   parts_down (x ∷ xs) [] d = inr (λ p. let n = p.0 in omega arith)
-  parts_down (x ∷ xs) (y ∷ ys) d = elim ((d 0 x refl y).1) as (λ _. Or (AllBelow h (y ∷ ys) (x ∷ xs))) [
-    | inl b ↦ elim (parts_down xs ys (λ k t e. d (suc k) t e)) as (λ _. Or (AllBelow h (y ∷ ys) (x ∷ xs))) [
-      | inl r ↦ inl (more y x ys xs b r)
-      | inr n ↦ inr (λ p. n (let l = p.0 in omega arith, λ k u v. p.1 (suc k) u v))
-    ]
-    | inr n ↦ inr (λ p. n (p.1 0 y x refl refl))
-  ]
+  parts_down (x ∷ xs) (y ∷ ys) d =
+      elim ((d 0 x refl y).1) as (λ _. Or (AllBelow h (y ∷ ys) (x ∷ xs))) [
+        | inl b ↦
+            elim (parts_down xs ys (λ k t e. d (suc k) t e)) as (λ _. Or (AllBelow h (y ∷ ys) (x ∷ xs))) [
+              | inl r ↦ inl (more y x ys xs b r)
+              | inr n ↦ inr (λ p. n (let l = p.0 in omega arith, λ k u v. p.1 (suc k) u v))
+            ]
+        | inr n ↦ inr (λ p. n (p.1 0 y x refl refl))
+      ]
 
   equal_or : (x y : Ty) → Decided x → Or (x ≡ y)
   equal_or x y d = elim (both_or (d y).0 (d y).1) as (λ _. Or (x ≡ y)) [
     | inl w ↦ inl (same h sound x y w.0 w.1)
-    | inr n ↦ inr (λ e. n (subst (λ z. Below h x z) e (itself h x), subst (λ z. Below h z x) e (itself h x)))
+    | inr n ↦
+        inr (λ e. n (subst (λ z. Below h x z) e (itself h x), subst (λ z. Below h z x) e (itself h x)))
   ]
 
   turn_or : (x y : Ty) → Or (x ≡ y) → Or (y ≡ x)
@@ -132,7 +147,12 @@ module _ (h : DeclaredTypes) (table : TypeTable) (sound : Sound h) (rows : HasRo
   lift a b (inr n) = inr (λ r. n (layers_of_below h r))
 
   pub decide : (a b : Ty) → Or (Below h a b)
-  decide a b = (by_parts Decided (λ a d b. (lift a b (up (out-Ty a) (out-Ty b) d), lift b a (down (out-Ty a) (out-Ty b) d))) a b).0
+  decide a b =
+      (by_parts Decided
+      (λ a d b. (
+        lift a b (up (out-Ty a) (out-Ty b) d),
+        lift b a (down (out-Ty a) (out-Ty b) d),
+      )) a b).0
 
   pub decide_all : (xs ys : List Ty) → Or (AllBelow h xs ys)
   decide_all xs ys = lists_or xs ys (λ k x e y. decide x y)

@@ -20,16 +20,21 @@ module _ (h : DeclaredTypes) (table : TypeTable) (sound : Sound h) (rows : HasRo
   near j n b = grind arith
 
   climb_by : (i j k : ℕ) → Path h k i → Path h k j → (to : ℕ) → Climbed i j k to
-  climb_by i j k p q zero = record { at = k; left = p; right = q; above = stop; top = λ n b. absurd (omega arith) }
+  climb_by i j k p q zero =
+      record { at = k; left = p; right = q; above = stop; top = λ n b. absurd (omega arith) }
   climb_by i j k p q (suc t) = let c = climb_by i j k p q t in
-      elim (both_or (paths h table rows t i) (both_or (paths h table rows t j) (paths h table rows c.at t))) as (λ _. Climbed i j k (suc t)) [
+      elim (both_or (paths h table rows t i)
+      (both_or (paths h table rows t j) (paths h table rows c.at t))) as
+      (λ _. Climbed i j k (suc t)) [
         | inl w ↦ record {
           at = t;
           left = w.0;
           right = w.1.0;
           above = joined h c.above w.1.1;
           top = λ n b u v m. elim (near n t b) as (λ _. n ≡ t) [
-            | inl l ↦ (let e : n ≡ c.at = c.top n l u v (joined h w.1.1 m) in sym (both_ways h sound t n m (subst (λ z. Path h z t) (sym e) w.1.1)))
+            | inl l ↦
+                (let e : n ≡ c.at = c.top n l u v (joined h w.1.1 m)
+                in sym (both_ways h sound t n m (subst (λ z. Path h z t) (sym e) w.1.1)))
             | inr e ↦ e
           ];
         }
@@ -40,14 +45,22 @@ module _ (h : DeclaredTypes) (table : TypeTable) (sound : Sound h) (rows : HasRo
           above = c.above;
           top = λ n b u v m. elim (near n t b) as (λ _. n ≡ c.at) [
             | inl l ↦ c.top n l u v m
-            | inr e ↦ absurd (f (subst (λ z. Path h z i) e u, (subst (λ z. Path h z j) e v, subst (λ z. Path h c.at z) e m)))
+            | inr e ↦
+                absurd (f (
+                  subst (λ z. Path h z i) e u,
+                  (subst (λ z. Path h z j) e v, subst (λ z. Path h c.at z) e m),
+                ))
           ];
         }
       ]
 
-  pub climb : (i j k : ℕ) → k < length h → Path h k i → Path h k j → (m : ℕ) × IsMeet h i j m × Path h k m
+  pub climb : (i j k : ℕ) → k < length h → Path h k i → Path h k j
+      → (m : ℕ) × IsMeet h i j m × Path h k m
   climb i j k l p q = let c = climb_by i j k p q (length h) in (
     c.at,
-    record { common = (end_inside h k c.at c.above l, c.left, c.right); highest = λ n w m. c.top n w.0 w.1 w.2 m },
+    record {
+      common = (end_inside h k c.at c.above l, c.left, c.right);
+      highest = λ n w m. c.top n w.0 w.1 w.2 m;
+    },
     c.above,
   )

@@ -12,7 +12,11 @@ module _ (texts : List (List ℕ)) (is : List Initial) (sets : List MemberSet) w
   no_fields t l (o ∷ os) = refl
 
   -- all types are made
-  pub no_more_fields : (t l i : ℕ) (os : List Bool) (fss : List (List Field)) (made : List CoreShape) {whole : List CoreShape} → length fss ≤ i
+  pub no_more_fields : (t l i : ℕ) (os : List Bool) (fss : List (List Field))
+      (made : List CoreShape) {whole : List CoreShape} → length fss ≤ i
       → made ++ own_shapes texts is sets t l (drop i os) (drop i fss) ≡ whole → made ≡ whole
   no_more_fields t l i os fss made le h = sym (append-nil made)
-      ∙ ap (λ (us : List CoreShape). made ++ us) (sym (ap (λ (us : List (List Field)). own_shapes texts is sets t l (drop i os) us) (drop_all i fss le) ∙ no_fields t l (drop i os))) ∙ h
+      ∙ ap (λ (us : List CoreShape). made ++ us)
+      (sym (ap (λ
+      (us : List (List Field)). own_shapes texts is sets t l (drop i os) us) (drop_all i fss le)
+      ∙ no_fields t l (drop i os))) ∙ h

@@ -12,13 +12,19 @@ use Rattle.fort_turns.specs.declared.sweep.Sweep.{Sweep}
 use Rattle.fort_turns.specs.Idles.{AreAsleep, IsAtForm}
 
 -- a sweep begins at the left end
-pub sweep_begins : (p : Program) (g : Going) (w : Sweep) → IsGoing p g → IsWhole g.state → w.stuck ≡ false → AreAsleep g.course w (rebuilt g.course.clock (frames g.state.place.stack) (term_at g.state.«at»))
+pub sweep_begins : (p : Program) (g : Going) (w : Sweep) → IsGoing p g → IsWhole g.state
+    → w.stuck ≡ false
+    → AreAsleep g.course w
+    (rebuilt g.course.clock (frames g.state.place.stack) (term_at g.state.«at»))
     → IsAtForm p g.course w g.state.place (term_at g.state.«at») (λ met. SweptTo met g.state)
 sweep_begins p g w going whole none asleep = record {
   stands = going;
   idles = λ e. record {
     met = [];
-    swept = record { swept = subst (Swept []) (sym whole.0) tt; is_left = subst (IsLeftAt []) (sym whole.2) tt };
+    swept = record {
+      swept = subst (Swept []) (sym whole.0) tt;
+      is_left = subst (IsLeftAt []) (sym whole.2) tt;
+    };
     idle = λ a h. absurd h;
     awake = λ z. let q : true ≡ false = sym z ∙ none in absurd cc;
   };

@@ -11,7 +11,8 @@ use Rattle.fort_deal.specs.declared.deal.Makes.{Makes}
 use Rattle.fort_acting.specs.Only.{IsDealt}
 use Rattle.fort_turns.specs.Idles.{TouchesStore}
 
-pub touches_store : (p : Program) (a : Term) (d : Deal) → IsDealt p a d → (d ≡ deal.Stuck → ⊥) → ((t : Term) (output : List ℕ) (cost : ℕ) → d ≡ deal.Turns t output cost → ⊥)
+pub touches_store : (p : Program) (a : Term) (d : Deal) → IsDealt p a d → (d ≡ deal.Stuck → ⊥)
+    → ((t : Term) (output : List ℕ) (cost : ℕ) → d ≡ deal.Turns t output cost → ⊥)
     → ((body t : Term) → d ≡ deal.Enters body t → ⊥) → TouchesStore d
 touches_store p a deal.Stuck h s t e = absurd (s refl)
 touches_store p a (deal.Turns next output cost) h s t e = absurd (t next output cost refl)
@@ -22,7 +23,8 @@ touches_store p a (deal.Sets l v) h s t e = tt
 touches_store p a (deal.Makes makes) h s t e = tt
 touches_store p a deal.Ends h s t e = tt
 
-pub no_other : (d : Deal) → TouchesStore d → ((l : Loc) (g : Goes) → d ≡ deal.Asks l g → ⊥) → ((l : Loc) (v : Value) → d ≡ deal.Sets l v → ⊥) → ((m : Makes) → d ≡ deal.Makes m → ⊥)
+pub no_other : (d : Deal) → TouchesStore d → ((l : Loc) (g : Goes) → d ≡ deal.Asks l g → ⊥)
+    → ((l : Loc) (v : Value) → d ≡ deal.Sets l v → ⊥) → ((m : Makes) → d ≡ deal.Makes m → ⊥)
     → (d ≡ deal.Ends → ⊥) → ⊥
 no_other deal.Stuck h a s m e = h
 no_other (deal.Turns next output cost) h a s m e = h

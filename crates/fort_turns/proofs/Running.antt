@@ -17,9 +17,12 @@ use Rattle.fort_turns.specs.Defined.{AlwaysOne}
 use Rattle.fort_turns.specs.Idles.{IsAtThread}
 use Rattle.fort_turns.proofs.Giving.{come_reached, stands_come}
 
-pub thread_runs : (p : Program) (c : Course) (w : Sweep) (place : Place) (a : Term) → AlwaysOne p → IsAtThread p c w place a → CallsRun p a
+pub thread_runs : (p : Program) (c : Course) (w : Sweep) (place : Place) (a : Term) → AlwaysOne p
+    → IsAtThread p c w place a → CallsRun p a
 thread_runs p c w place a one h =
     let fs = frames place.stack in
     let t = rebuilt c.clock fs a in
     let reached = come_reached p c t (stands_come p c place a t h.0.stands refl) in
-    one_runs p (outward c.clock fs) a t (one (is_inner (around c)) (seen (levels_of c.layers)) t reached) (same_term c.clock fs a) (ready_open a h.1)
+    one_runs p (outward c.clock fs) a t
+    (one (is_inner (around c)) (seen (levels_of c.layers)) t reached) (same_term c.clock fs a)
+    (ready_open a h.1)

@@ -23,29 +23,35 @@ use Rattle.fort_carry.proofs.Around.{around_some}
 use Rattle.fort_turns.specs.declared.sweep.Sweep.{Sweep}
 use Rattle.fort_turns.specs.Idles.{IsAtPlace, IsAtThread, Rests}
 
-pub form_thread : (p : Program) (c : Course) (w : Sweep) (place : Place) (a : Term) (m : Mode) (body : Term) → IsAtPlace p c w place a → Form a m body → IsAtThread p c w place a
+pub form_thread : (p : Program) (c : Course) (w : Sweep) (place : Place) (a : Term) (m : Mode)
+    (body : Term) → IsAtPlace p c w place a → Form a m body → IsAtThread p c w place a
 form_thread p c w place a m body h f = (h, form_ready a m body f)
 
 -- a form that doesn't sleep may be tried, and so may one where nobody is awake
-try_awake : (p : Program) (c : Course) (w : Sweep) (place : Place) (a : Term) → IsAtPlace p c w place a → (w.wakes ≡ true) ⊎ (Sleeps (seen (levels_of c.layers)) a → ⊥)
+try_awake : (p : Program) (c : Course) (w : Sweep) (place : Place) (a : Term)
+    → IsAtPlace p c w place a → (w.wakes ≡ true) ⊎ (Sleeps (seen (levels_of c.layers)) a → ⊥)
     → MayBeTried (seen (levels_of c.layers)) (rebuilt c.clock (frames place.stack) a) a
 try_awake p c w place a h (inl e) = inr (h.asleep e)
 try_awake p c w place a h (inr n) = inl n
 
-pub may_try : (p : Program) (c : Course) (w : Sweep) (place : Place) (a : Term) (m : Mode) (body : Term) → WrittenProgram p → IsAtPlace p c w place a → Form a m body → (w.wakes ≡ true) ⊎ (Sleeps (seen (levels_of c.layers)) a → ⊥)
+pub may_try : (p : Program) (c : Course) (w : Sweep) (place : Place) (a : Term) (m : Mode)
+    (body : Term) → WrittenProgram p → IsAtPlace p c w place a → Form a m body
+    → (w.wakes ≡ true) ⊎ (Sleeps (seen (levels_of c.layers)) a → ⊥)
     → MayTry p c place m body
 may_try p c w place a m body written h f may = record {
   form = a;
   stands = h.stands;
   is_form = f;
-  bare = (bare_here p written c.fuel (levels_of c.layers) c.picks (around c) c.clock c.fresh place a h.stands.course).1 m body f;
+  bare = (bare_here p written c.fuel (levels_of c.layers) c.picks (around c) c.clock c.fresh place a
+      h.stands.course).1 m body f;
   may = try_awake p c w place a h may;
 }
 
 first_inner : (hs : List Held) (g : Held) (gs : List Held) → hs ≡ g ∷ gs → is_inner hs ≡ true
 first_inner hs g gs e = ap is_inner e
 
-pub may_abort : (p : Program) (c : Course) (place : Place) (a : Term) → StandsAt p c place a → Acts p a ends → c.outer ≢ [] → MayAbort p c place
+pub may_abort : (p : Program) (c : Course) (place : Place) (a : Term) → StandsAt p c place a
+    → Acts p a ends → c.outer ≢ [] → MayAbort p c place
 may_abort p c place a s h some =
     let one = around_some c.outer some in
     record { form = a; stands = s; acts = h; inside = first_inner (around c) one.0 one.1 one.2 }
@@ -54,11 +60,14 @@ may_abort p c place a s h some =
 pub rests_tried : (wakes : Bool) (S : Type 0) → wakes ≡ true → Rests false wakes S
 rests_tried wakes S e = inl e
 
-pub rests_by : (sleeps wakes : Bool) (S : Type 0) → IsTrue sleeps ↔ S → wakes ≡ false → Rests sleeps wakes S
+pub rests_by : (sleeps wakes : Bool) (S : Type 0) → IsTrue sleeps ↔ S → wakes ≡ false
+    → Rests sleeps wakes S
 rests_by true wakes S h e = (e, h.0 refl)
 rests_by false wakes S h e = inr (λ s. let z : false ≡ true = h.1 s in absurd cc)
 
 -- an atomic form is fresh or asleep
-pub is_atomic : (a : Term) (m : Mode) (body : Term) → Form a m body → ((k : Mode) (b : Term) → a ≡ Atomic k b → ⊥) → ((ms : Marks) (b : Term) → a ≡ Asleep ms b → ⊥) → ⊥
+pub is_atomic : (a : Term) (m : Mode) (body : Term) → Form a m body
+    → ((k : Mode) (b : Term) → a ≡ Atomic k b → ⊥) → ((ms : Marks) (b : Term) → a ≡ Asleep ms b → ⊥)
+    → ⊥
 is_atomic a m body (fresh e) f g = f m body e
 is_atomic a m body (slept ms q e) f g = g ms body e

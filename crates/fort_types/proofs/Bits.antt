@@ -39,14 +39,19 @@ past (suc n) x d zero h = absurd (omega arith)
 past (suc n) x d (suc i) h = past n x d i (omega arith)
 
 blank_bits : (n i j : ℕ) → bit (replicate n (blank_row n)) i j ≡ false
-blank_bits n i j = elim (cases_lt i n) as (λ _. get_or (get_or (replicate n (blank_row n)) i []) j false ≡ false) [
-  | inl h ↦ ap (λ l. get_or l j false) (get_or-same n (blank_row n) [] i h) ∙ get_or-default n false j
-  | inr h ↦ ap (λ l. get_or l j false) (past n (blank_row n) [] i h)
-]
+blank_bits n i j =
+    elim (cases_lt i n) as (λ _. get_or (get_or (replicate n (blank_row n)) i []) j false ≡ false) [
+      | inl h ↦
+          ap (λ l. get_or l j false) (get_or-same n (blank_row n) [] i h) ∙ get_or-default n false j
+      | inr h ↦ ap (λ l. get_or l j false) (past n (blank_row n) [] i h)
+    ]
 
 pub blank_square : (n : ℕ) → IsBlank n (replicate n (blank_row n))
 blank_square n = record {
-  sized = record { high = length-same n (blank_row n); wide = λ i h. ap length (get_or-same n (blank_row n) [] i h) ∙ length-same n false };
+  sized = record {
+    high = length-same n (blank_row n);
+    wide = λ i h. ap length (get_or-same n (blank_row n) [] i h) ∙ length-same n false;
+  };
   unmarked = blank_bits n;
 }
 
@@ -57,25 +62,39 @@ bit_inside (row ∷ rows) zero j e = omega arith
 bit_inside (row ∷ rows) (suc i) j e = let l = bit_inside rows i j e in omega arith
 
 -- a square of the right size whose bits are the relation
-pub exact : (R : ℕ → ℕ → Type 0) (n : ℕ) (rows : Bits) → Sized n rows → ((i j : ℕ) → i < n → j < n → Bit rows i j ↔ R i j) → IsExact R n rows
+pub exact : (R : ℕ → ℕ → Type 0) (n : ℕ) (rows : Bits) → Sized n rows
+    → ((i j : ℕ) → i < n → j < n → Bit rows i j ↔ R i j) → IsExact R n rows
 exact R n rows s w = record {
   high = s.high;
-  wide = λ i row e. let l = slice_get_within rows i row e in let m = s.high in let f : get_or rows i [] ≡ row = get_or_from_slice_get rows i row [] e in
+  wide = λ i row e. let l = slice_get_within rows i row e in let m = s.high
+      in let f : get_or rows i [] ≡ row = get_or_from_slice_get rows i row [] e in
       sym (ap length f) ∙ s.wide i (omega arith);
-  sets = λ i j k l. (λ e. (w i j k l).0 (sym (bit_is_set rows i j) ∙ e), λ r. bit_is_set rows i j ∙ (w i j k l).1 r);
+  sets = λ i j k l. (
+    λ e. (w i j k l).0 (sym (bit_is_set rows i j) ∙ e),
+    λ r. bit_is_set rows i j
+        ∙ (w i j k l).1 r,
+  );
 }
 
 -- out of a square no bit is set
-pub set_inside : (rows : Bits) (i j n : ℕ) → ((k : ℕ) (row : List Bool) → slice_get rows k ≡ Some row → length row ≡ n) → IsTrue (is_set rows i j)
+pub set_inside : (rows : Bits) (i j n : ℕ)
+    → ((k : ℕ) (row : List Bool) → slice_get rows k ≡ Some row → length row ≡ n)
+    → IsTrue (is_set rows i j)
     → (i < length rows) × (j < n)
-set_inside rows i j n w e = let f : bit rows i j ≡ true = sym (bit_is_set rows i j) ∙ e in let l = bit_inside rows i j f in (l, within rows i j n w e)
+set_inside rows i j n w e =
+    let f : bit rows i j ≡ true = sym (bit_is_set rows i j) ∙ e in let l = bit_inside rows i j f
+    in (l, within rows i j n w e)
   where
     row_inside : (row : List Bool) (j : ℕ) → get_or row j false ≡ true → j < length row
     row_inside [] j e = absurd (let f : false ≡ true = e in cc)
     row_inside (b ∷ row) zero e = omega arith
     row_inside (b ∷ row) (suc j) e = let l = row_inside row j e in omega arith
 
-    within : (rows : Bits) (i j n : ℕ) → ((k : ℕ) (row : List Bool) → slice_get rows k ≡ Some row → length row ≡ n) → IsTrue (is_set rows i j) → j < n
+    within : (rows : Bits) (i j n : ℕ)
+        → ((k : ℕ) (row : List Bool) → slice_get rows k ≡ Some row → length row ≡ n)
+        → IsTrue (is_set rows i j) → j < n
     within [] i j n w e = absurd (let f : false ≡ true = e in cc)
-    within (row ∷ rows) zero j n w e = let l = row_inside row j (sym (unwrap_or-slice_get row j false) ∙ e) in let m : length row ≡ n = w 0 row refl in omega arith
+    within (row ∷ rows) zero j n w e =
+        let l = row_inside row j (sym (unwrap_or-slice_get row j false) ∙ e)
+        in let m : length row ≡ n = w 0 row refl in omega arith
     within (row ∷ rows) (suc i) j n w e = within rows i j n (λ k r f. w (suc k) r f) e

@@ -34,7 +34,9 @@ module _ (P : Ty → Type 0) where
   parts (Ty-F.Named i) = tt
 
   pub by_parts : ((t : Ty) → Parts P (out-Ty t) → P t) → (t : Ty) → P t
-  by_parts k = ind-Ty P (λ x y e. k (roll-Ty x) (subst (Parts P) (sym (out-roll-Ty x)) (subst (Parts P) e (parts y))))
+  by_parts k =
+      ind-Ty P (λ x y e. k (roll-Ty x)
+      (subst (Parts P) (sym (out-roll-Ty x)) (subst (Parts P) e (parts y))))
 
   pub part_of : (t : Ty) (xs : List Ty) → Parts P (out-Ty t) → out-Ty t ≡ Ty-F.Tuple xs → Each P xs
   part_of t xs h e = subst (Parts P) e h

@@ -15,7 +15,8 @@ use Rattle.fort_judge.specs.Parts.{Judge, Clause, State, said, ask, ask_with, ta
 use Rattle.fort_typing_rules.specs.Typing.{with_clause}
 use Rattle.fort_typing_tasks.specs.Tasks.{on_otherwise}
 
-kept_lost : (slot : Slot) (node_ : Option TypedForm) (w : Frame) → (kept_if slot node_ w).lost ≡ w.lost
+kept_lost : (slot : Slot) (node_ : Option TypedForm) (w : Frame)
+    → (kept_if slot node_ w).lost ≡ w.lost
 kept_lost slot None w = refl
 kept_lost a_slot.Head (Some t) w = refl
 kept_lost a_slot.First (Some t) w = refl
@@ -23,23 +24,31 @@ kept_lost a_slot.Second (Some t) w = refl
 kept_lost a_slot.Last (Some t) w = refl
 
 module _ (k : Facts) (name : Option (Place × NameId)) where
-  with_lost : (ty : Ty) (slot : Slot) (j : Judge) (s : State) → (ask_with k name ty slot j s).frame.lost ≡ s.frame.lost
+  with_lost : (ty : Ty) (slot : Slot) (j : Judge) (s : State)
+      → (ask_with k name ty slot j s).frame.lost ≡ s.frame.lost
   unfolding ask_with ask take_part said
-  with_lost ty slot j s = let u = said j (with_bindings (with_clause s.bindings name ty) s) in kept_lost slot (taken k a_want.Value j.place u.seen u.found).node s.frame
+  with_lost ty slot j s =
+      let u = said j (with_bindings (with_clause s.bindings name ty) s)
+      in kept_lost slot (taken k a_want.Value j.place u.seen u.found).node s.frame
 
   cases_lost : (cs : List Clause) (s : State) → (cases k name cs s).frame.lost ≡ s.frame.lost
   unfolding cases
   cases_lost [] s = refl
-  cases_lost (c ∷ cs) s = cases_lost cs (ask_with k name c.ty a_slot.Second c.value s) ∙ with_lost c.ty a_slot.Second c.value s
+  cases_lost (c ∷ cs) s =
+      cases_lost cs (ask_with k name c.ty a_slot.Second c.value s)
+      ∙ with_lost c.ty a_slot.Second c.value s
 
   -- where the first of two wasn't kept from being asked, the second isn't
-  second_known : (f g : State → State) (s : State) (lost : Bool) → s.frame.lost ≡ lost → ((t : State) → (f t).frame.lost ≡ t.frame.lost)
+  second_known : (f g : State → State) (s : State) (lost : Bool) → s.frame.lost ≡ lost
+      → ((t : State) → (f t).frame.lost ≡ t.frame.lost)
       → unless_lost g (unless_lost f s) ≡ unless_lost (λ t. g (f t)) s
   second_known f g s true e h = search e
   second_known f g s false e h = let l : (f s).frame.lost ≡ false = h s ∙ e in search (e, l)
 
   -- clauses and then an `else`
   pub both_known : (cs : List Clause) (other : Option Judge) (s : State)
-      → on_otherwise k name other (unless_lost (cases k name cs) s) ≡ unless_lost (λ t. else_with k name other (cases k name cs t)) s
+      → on_otherwise k name other (unless_lost (cases k name cs) s)
+      ≡ unless_lost (λ t. else_with k name other (cases k name cs t)) s
   both_known cs None s = refl
-  both_known cs (Some j) s = second_known (cases k name cs) (else_with k name (Some j)) s s.frame.lost refl (cases_lost cs)
+  both_known cs (Some j) s =
+      second_known (cases k name cs) (else_with k name (Some j)) s s.frame.lost refl (cases_lost cs)

@@ -16,7 +16,8 @@ unfolding sources
 single_source k g s = either_way (on_source k g s).frame.lost (on_source k g s)
 
 -- an assigned value is asked whatever was asked before it
-pub assigned_forgets : (k : Facts) (op : Option Op) (j : Judge) (s : State) → assigned_part k op j (forgotten s) ≡ assigned_part k op j s
+pub assigned_forgets : (k : Facts) (op : Option Op) (j : Judge) (s : State)
+    → assigned_part k op j (forgotten s) ≡ assigned_part k op j s
 unfolding ask said take_part
 assigned_forgets k None j s = refl
 assigned_forgets k (Some op) j s = refl

@@ -14,21 +14,35 @@ use Rattle.fort_typing_tasks.specs.declared.task.Task.TheVariants as a_task
 use Rattle.fort_typing_tasks.specs.Tasks.{closing, run}
 
 module _ (k : Facts) (s : State) where
-  layer_closes : (f : Form-F Judge Piece Arm Giving Clause) → closing k f s.frame (length s.bindings) (inside k f (begin s.bindings s.found)) ≡ said (judge_form k f) s
+  layer_closes : (f : Form-F Judge Piece Arm Giving Clause)
+      → closing k f s.frame (length s.bindings) (inside k f (begin s.bindings s.found))
+      ≡ said (judge_form k f) s
   unfolding closing said
   layer_closes f =
       let w = inside k f (begin s.bindings s.found) in
       let kept = keeps_inside k s.bindings f (begin s.bindings s.found) (take_whole s.bindings) in
-      let at : List Binding → State = λ us. record { seen = (closed k f us w).seen; frame = s.frame; bindings = us; found = (closed k f us w).found } in
+      let at : List Binding
+      → State =
+      λ us. record {
+        seen = (closed k f us w).seen;
+        frame = s.frame;
+        bindings = us;
+        found = (closed k f us w).found;
+      } in
       ap at kept
 
-  pub closes : (f : Form) → closing k (level k f) s.frame (length s.bindings) (inside k (level k f) (begin s.bindings s.found)) ≡ said (judged k f) s
+  pub closes : (f : Form)
+      → closing k (level k f) s.frame (length s.bindings)
+      (inside k (level k f) (begin s.bindings s.found)) ≡ said (judged k f) s
   closes f = layer_closes (level k f) ∙ ap (λ (j : Judge). said j s) (sym (judged_level k f))
 
 -- what is said by the tasks that a form is opened with
-pub sees : (k : Facts) (s opened : State) (outer : Frame) (mark : ℕ) (f : Bor Form) (old pushed new : List Task) {A E : Type 0} (r : Result A E)
-    → pushed ≡ a_task.Close f outer mark ∷ old → outer ≡ s.frame → mark ≡ length s.bindings → opened ≡ begin s.bindings s.found
-    → OnOk r ((l : Facts) (t : State) → run l new t ≡ run l pushed (inside l (level l f.now) t)) → OnOk r (run k new opened ≡ run k old (said (judged k f.now) s))
+pub sees : (k : Facts) (s opened : State) (outer : Frame) (mark : ℕ) (f : Bor Form)
+    (old pushed new : List Task) {A E : Type 0} (r : Result A E)
+    → pushed ≡ a_task.Close f outer mark ∷ old → outer ≡ s.frame → mark ≡ length s.bindings
+    → opened ≡ begin s.bindings s.found
+    → OnOk r ((l : Facts) (t : State) → run l new t ≡ run l pushed (inside l (level l f.now) t))
+    → OnOk r (run k new opened ≡ run k old (said (judged k f.now) s))
 sees k s opened outer mark f old pushed new (Err e) p q m o h = tt
 sees k s opened outer mark f old pushed new (Ok a) p q m o h =
     let i = inside k (level k f.now) in

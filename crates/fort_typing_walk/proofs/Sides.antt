@@ -8,7 +8,8 @@ use Rattle.fort_known.specs.Known.{Facts}
 use Rattle.fort_judge.specs.Parts.{State, compared, after_side, side_of, side_type, side_place}
 use Rattle.fort_typing_walk.specs.Walks.{compared_types, behind_side}
 
-pub compared_by_type : (k : Facts) (op : Op) (at place : Place) (t : Option Ty) (u : Option TypedForm) (s : State)
+pub compared_by_type : (k : Facts) (op : Op) (at place : Place) (t : Option Ty)
+    (u : Option TypedForm) (s : State)
     → compared_types k op at t (side_type (side_of place u)) s ≡ compared k op at t u s
 compared_by_type k op at place None None s = refl
 compared_by_type k op at place None (Some u) s = refl
@@ -18,6 +19,7 @@ compared_by_type k op at place (Some t) (Some u) s = refl
 pub after_by_type : (k : Facts) (op : Option Op) (place : Place) (u : Option TypedForm) (s : State)
     → behind_side k op place (side_type (side_of place u)) s ≡ after_side k op place u s
 after_by_type k None place u s = refl
-after_by_type k (Some op) place u s = compared_by_type k op (side_place place s.frame.side) place (side_type s.frame.side) u s
+after_by_type k (Some op) place u s =
+    compared_by_type k op (side_place place s.frame.side) place (side_type s.frame.side) u s
 
 pub ruleset sides = (compared_by_type, after_by_type)

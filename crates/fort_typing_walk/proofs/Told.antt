@@ -14,10 +14,14 @@ use Rattle.fort_judge.specs.Judging.{judged, judged_item, judged_branch, judged_
 use Rattle.fort_judge.proofs.Levels.{judged_level}
 
 module _ (k : Facts) where
-  abbrev mapped : Form-F Form Item Branch Generator TypeBranch → Form-F Judge Piece Arm Giving Clause
-  mapped = map-Form Form Item Branch Generator TypeBranch Judge Piece Arm Giving Clause (judged k) (judged_item k) (judged_branch k) (judged_generator k) (judged_clause k)
+  abbrev mapped : Form-F Form Item Branch Generator TypeBranch
+      → Form-F Judge Piece Arm Giving Clause
+  mapped = map-Form Form Item Branch Generator TypeBranch Judge Piece Arm Giving Clause (judged k)
+      (judged_item k) (judged_branch k) (judged_generator k) (judged_clause k)
 
-  flags : (x : Form-F Form Item Branch Generator TypeBranch) → (place_at (mapped x) ≡ place_at x) × (parens_at (mapped x) ≡ parens_at x) × (listed_at (mapped x) ≡ listed_at x)
+  flags : (x : Form-F Form Item Branch Generator TypeBranch)
+      → (place_at (mapped x) ≡ place_at x) × (parens_at (mapped x) ≡ parens_at x)
+      × (listed_at (mapped x) ≡ listed_at x)
       × (postfix_at (mapped x) ≡ postfix_at x) × (target_at (mapped x) ≡ target_at x)
   flags (Form-F.Number v0 v1) = (refl, refl, refl, refl, refl)
   flags (Form-F.Text v0 v1) = (refl, refl, refl, refl, refl)

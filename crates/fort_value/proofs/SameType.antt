@@ -24,9 +24,12 @@ abbrev flat : Ty-F Ty → Ty-F Ty → Bool
 flat x y = same_type_at (map-Ty Ty (Ty → Bool) same_type x) y
 
 flatly : (a b : Ty) → same_type a b ≡ flat (out-Ty a) (out-Ty b)
-flatly a b = ap (λ (r : Ty → Bool). r b) (fold_out-Ty (Ty → Bool) (λ layer c. same_type_at layer (out-Ty c)) a)
+flatly a b =
+    ap (λ (r : Ty → Bool). r b) (fold_out-Ty (Ty
+    → Bool) (λ layer c. same_type_at layer (out-Ty c)) a)
 
-each_is : (ts us : List Ty) → Each Told ts → IsTrue (each_same (λ (f : Ty → Bool) b. f b) (map same_type ts) us) ↔ (ts ≡ us)
+each_is : (ts us : List Ty) → Each Told ts
+    → IsTrue (each_same (λ (f : Ty → Bool) b. f b) (map same_type ts) us) ↔ (ts ≡ us)
 each_is [] [] h = (λ e. refl, λ e. refl)
 each_is [] (u ∷ us) h = (λ e. absurd cc, λ e. absurd cc)
 each_is (t ∷ ts) [] h = (λ e. absurd cc, λ e. absurd cc)
@@ -52,14 +55,21 @@ flat_is Ty-F.Any (Ty-F.Arrow c d) h = (λ e. absurd cc, λ e. absurd cc)
 flat_is Ty-F.Any (Ty-F.Array c) h = (λ e. absurd cc, λ e. absurd cc)
 flat_is (Ty-F.Named i) Ty-F.Nothing h = (λ e. absurd cc, λ e. absurd cc)
 flat_is (Ty-F.Named i) Ty-F.Any h = (λ e. absurd cc, λ e. absurd cc)
-flat_is (Ty-F.Named i) (Ty-F.Named j) h = let k = Decides-eqb i.0 j.0 in (λ e. ap (λ (n : ℕ). let m : TypeId = record { 0 = n } in Ty-F.Named m) (k.0 e), λ e. k.1 (let q : i ≡ j = cc in ap (λ (m : TypeId). m.0) q))
+flat_is (Ty-F.Named i) (Ty-F.Named j) h =
+    let k = Decides-eqb i.0 j.0
+    in (
+      λ e. ap (λ (n : ℕ). let m : TypeId = record { 0 = n } in Ty-F.Named m) (k.0 e),
+      λ e. k.1
+          (let q : i ≡ j = cc in ap (λ (m : TypeId). m.0) q),
+    )
 flat_is (Ty-F.Named i) (Ty-F.Tuple us) h = (λ e. absurd cc, λ e. absurd cc)
 flat_is (Ty-F.Named i) (Ty-F.Arrow c d) h = (λ e. absurd cc, λ e. absurd cc)
 flat_is (Ty-F.Named i) (Ty-F.Array c) h = (λ e. absurd cc, λ e. absurd cc)
 flat_is (Ty-F.Tuple ts) Ty-F.Nothing h = (λ e. absurd cc, λ e. absurd cc)
 flat_is (Ty-F.Tuple ts) Ty-F.Any h = (λ e. absurd cc, λ e. absurd cc)
 flat_is (Ty-F.Tuple ts) (Ty-F.Named j) h = (λ e. absurd cc, λ e. absurd cc)
-flat_is (Ty-F.Tuple ts) (Ty-F.Tuple us) h = let k = each_is ts us h in (λ e. ap Ty-F.Tuple (k.0 e), λ e. k.1 (let q : ts ≡ us = cc in q))
+flat_is (Ty-F.Tuple ts) (Ty-F.Tuple us) h =
+    let k = each_is ts us h in (λ e. ap Ty-F.Tuple (k.0 e), λ e. k.1 (let q : ts ≡ us = cc in q))
 flat_is (Ty-F.Tuple ts) (Ty-F.Arrow c d) h = (λ e. absurd cc, λ e. absurd cc)
 flat_is (Ty-F.Tuple ts) (Ty-F.Array c) h = (λ e. absurd cc, λ e. absurd cc)
 flat_is (Ty-F.Arrow a b) Ty-F.Nothing h = (λ e. absurd cc, λ e. absurd cc)
@@ -78,7 +88,8 @@ flat_is (Ty-F.Array a) Ty-F.Any h = (λ e. absurd cc, λ e. absurd cc)
 flat_is (Ty-F.Array a) (Ty-F.Named j) h = (λ e. absurd cc, λ e. absurd cc)
 flat_is (Ty-F.Array a) (Ty-F.Tuple us) h = (λ e. absurd cc, λ e. absurd cc)
 flat_is (Ty-F.Array a) (Ty-F.Arrow c d) h = (λ e. absurd cc, λ e. absurd cc)
-flat_is (Ty-F.Array a) (Ty-F.Array c) h = let k = h c in (λ e. ap Ty-F.Array (k.0 e), λ e. k.1 (let q : a ≡ c = cc in q))
+flat_is (Ty-F.Array a) (Ty-F.Array c) h =
+    let k = h c in (λ e. ap Ty-F.Array (k.0 e), λ e. k.1 (let q : a ≡ c = cc in q))
 
 same_is : (a b : Ty) → IsTrue (same_type a b) ↔ (a ≡ b)
 same_is =

@@ -27,13 +27,15 @@ abbrev pub decreases-term::Term::drop-turns : goal.decreases-term::Term::drop-tu
 decreases-term::Term::drop-turns l = term_work l.hand l.waiting
 
 abbrev pub invariant-release::drop_values-loop-value : goal.invariant-release::drop_values-loop-value
-invariant-release::drop_values-loop-value l = each value_weight l.values ≤ each value_weight l.initial.values
+invariant-release::drop_values-loop-value l =
+    each value_weight l.values ≤ each value_weight l.initial.values
 
 abbrev pub decreases-release::drop_values-loop-value : goal.decreases-release::drop_values-loop-value
 decreases-release::drop_values-loop-value l = length l.values
 
 abbrev pub invariant-release::drop_held-loop-variable : goal.invariant-release::drop_held-loop-variable
-invariant-release::drop_held-loop-variable l = each (λ h. value_weight h.1) l.held ≤ each (λ h. value_weight h.1) l.initial.held
+invariant-release::drop_held-loop-variable l =
+    each (λ h. value_weight h.1) l.held ≤ each (λ h. value_weight h.1) l.initial.held
 
 abbrev pub decreases-release::drop_held-loop-variable : goal.decreases-release::drop_held-loop-variable
 decreases-release::drop_held-loop-variable l = length l.held

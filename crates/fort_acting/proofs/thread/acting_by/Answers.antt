@@ -10,10 +10,19 @@ pub called_by-requires-clause-runs : goal.called_by-requires-clause-runs
 called_by-requires-clause-runs c =
     let p = c.args.tables.now.program.now in
     let a = ready_term c.args.ready.now in
-    c.requires.runs c.in-Calls.set c.in-Calls.values (sym (subst (λ d. act_of d ≡ act p a) c.in-Calls.is c.in_ok-other.ensures))
+    c.requires.runs c.in-Calls.set c.in-Calls.values
+    (sym (subst (λ d. act_of d ≡ act p a) c.in-Calls.is c.in_ok-other.ensures))
 
 pub returns-in-Calls : goal.returns-in-Calls
-returns-in-Calls c = IfOk-weaker c.called_by.result _ _ (λ d h. dealt_called c.args.tables.now.program.now (ready_term c.args.ready.now) c.in-Calls.set c.in-Calls.values d (subst (λ x. act_of x ≡ act c.args.tables.now.program.now (ready_term c.args.ready.now)) c.in-Calls.is c.in_ok-other.ensures) h) c.called_by.ensures
+returns-in-Calls c =
+    IfOk-weaker c.called_by.result _ _
+    (λ d h. dealt_called c.args.tables.now.program.now (ready_term c.args.ready.now) c.in-Calls.set
+    c.in-Calls.values d
+    (subst (λ x. act_of x
+    ≡ act c.args.tables.now.program.now (ready_term c.args.ready.now)) c.in-Calls.is
+    c.in_ok-other.ensures) h) c.called_by.ensures
 
 pub returns-in_default : goal.returns-in_default
-returns-in_default c = dealt_other c.args.tables.now.program.now (ready_term c.args.ready.now) _ c.in_ok-other.ensures c.in_default.not-Calls
+returns-in_default c =
+    dealt_other c.args.tables.now.program.now (ready_term c.args.ready.now) _ c.in_ok-other.ensures
+    c.in_default.not-Calls

@@ -9,4 +9,14 @@ next x y e f = cc
 
 pub returns : goal.returns
 unfolding shapes_from types
-returns c = λ first. next (first) (first + 0) (omega arith) (next (first + 1) (first + 1) (omega arith) (next (first + 1 + 1) (first + 2) (omega arith) (next (first + 1 + 1 + 1) (first + 3) (omega arith) (next (first + 1 + 1 + 1 + 1) (first + 4) (omega arith) (next (first + 1 + 1 + 1 + 1 + 1) (first + 5) (omega arith) (next (first + 1 + 1 + 1 + 1 + 1 + 1) (first + 6) (omega arith) (next (first + 1 + 1 + 1 + 1 + 1 + 1 + 1) (first + 7) (omega arith) (next (first + 1 + 1 + 1 + 1 + 1 + 1 + 1 + 1) (first + 8) (omega arith) (next (first + 1 + 1 + 1 + 1 + 1 + 1 + 1 + 1 + 1) (first + 9) (omega arith) refl)))))))))
+returns c =
+    λ first. next (first) (first + 0) (omega arith)
+    (next (first + 1) (first + 1) (omega arith)
+    (next (first + 1 + 1) (first + 2) (omega arith)
+    (next (first + 1 + 1 + 1) (first + 3) (omega arith)
+    (next (first + 1 + 1 + 1 + 1) (first + 4) (omega arith)
+    (next (first + 1 + 1 + 1 + 1 + 1) (first + 5) (omega arith)
+    (next (first + 1 + 1 + 1 + 1 + 1 + 1) (first + 6) (omega arith)
+    (next (first + 1 + 1 + 1 + 1 + 1 + 1 + 1) (first + 7) (omega arith)
+    (next (first + 1 + 1 + 1 + 1 + 1 + 1 + 1 + 1) (first + 8) (omega arith)
+    (next (first + 1 + 1 + 1 + 1 + 1 + 1 + 1 + 1 + 1) (first + 9) (omega arith) refl)))))))))

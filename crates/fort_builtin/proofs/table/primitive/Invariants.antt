@@ -4,4 +4,9 @@ use Rattle.fort_builtin.specs.Declarations.{declaration_of, has, primitive_of}
 use Rattle.fort_builtin.proofs.table.primitive.Given as goal
 
 abbrev pub invariant-loop-row : goal.invariant-loop-row
-invariant-loop-row l = slice_get (map primitive_of (filter (has l.name l.width) (map declaration_of (drop l.row-index l.row-items)))) l.left ≡ slice_get (map primitive_of (filter (has l.name l.width) (map declaration_of l.row-items))) l.at
+invariant-loop-row l =
+    slice_get
+    (map primitive_of
+    (filter (has l.name l.width) (map declaration_of (drop l.row-index l.row-items)))) l.left
+    ≡ slice_get (map primitive_of (filter (has l.name l.width) (map declaration_of l.row-items)))
+    l.at

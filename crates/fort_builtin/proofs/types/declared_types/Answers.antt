@@ -4,4 +4,6 @@ use Rattle.fort_builtin.proofs.types.declared_types.Goals as goal
 
 pub returns : goal.returns
 unfolding built_in_declared
-returns c = whole declared_by_row c.table-row-items.result.now c.loop-row.row-index _ c.loop-row-test.false c.table-row-items.ensures.rows c.loop-row.invariant
+returns c =
+    whole declared_by_row c.table-row-items.result.now c.loop-row.row-index _ c.loop-row-test.false
+    c.table-row-items.ensures.rows c.loop-row.invariant

@@ -4,4 +4,6 @@ use Rattle.fort_builtin.proofs.types.names.Goals as goal
 
 pub returns : goal.returns
 unfolding declared_spellings
-returns c = whole type_name_of c.table-row-items.result.now c.loop-row.row-index _ c.loop-row-test.false c.table-row-items.ensures.rows c.loop-row.invariant
+returns c =
+    whole type_name_of c.table-row-items.result.now c.loop-row.row-index _ c.loop-row-test.false
+    c.table-row-items.ensures.rows c.loop-row.invariant

@@ -7,9 +7,11 @@ use Rattle.fort_closed.proofs.depths.+shallow.Given as goal
 abbrev pub invariant-are_shallow-loop-part : goal.invariant-are_shallow-loop-part
 invariant-are_shallow-loop-part l =
     (0 < l.most)
-    × (nat_le (1 + greatest (map depth l.part-items)) l.most ≡ nat_le (1 + greatest (map depth (drop l.part-index l.part-items))) l.most)
+    × (nat_le (1 + greatest (map depth l.part-items)) l.most
+    ≡ nat_le (1 + greatest (map depth (drop l.part-index l.part-items))) l.most)
 
 abbrev pub invariant-holds_shallow-loop-pair : goal.invariant-holds_shallow-loop-pair
 invariant-holds_shallow-loop-pair l =
     (0 < l.most)
-    × (nat_le (1 + greatest (map depth_of_held l.pair-items)) l.most ≡ nat_le (1 + greatest (map depth_of_held (drop l.pair-index l.pair-items))) l.most)
+    × (nat_le (1 + greatest (map depth_of_held l.pair-items)) l.most
+    ≡ nat_le (1 + greatest (map depth_of_held (drop l.pair-index l.pair-items))) l.most)

@@ -6,5 +6,6 @@ pub returns-clause-ok : goal.returns-clause-ok
 returns-clause-ok c = λ behind r. record {
   behind = behind;
   words_are = refl;
-  asks = files_are behind _ c.in_ok-file.file c.in_ok-kept.kept r c.in_ok-file.ensures.ok c.in_ok-kept.ensures.ok;
+  asks = files_are behind _ c.in_ok-file.file c.in_ok-kept.kept r c.in_ok-file.ensures.ok
+      c.in_ok-kept.ensures.ok;
 }

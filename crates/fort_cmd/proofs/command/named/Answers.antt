@@ -9,25 +9,33 @@ pub returns-then-eq-clause-cause : goal.returns-then-eq-clause-cause
 returns-then-eq-clause-cause c = λ kind behind is r.
     let e : c.args.name.now ≡ codes "run" = search rules in
     explained c.run_of.result (c.args.name.now ∷ behind)
-    (c.run_of.ensures.cause behind (subst (λ k. Reads k behind (rows_of (found_of c.args.given.now))) (kind_of_run kind c.args.name.now is e) r))
+    (c.run_of.ensures.cause behind
+    (subst (λ k. Reads k behind (rows_of (found_of c.args.given.now)))
+    (kind_of_run kind c.args.name.now is e) r))
 
 pub returns-then-eq-2-clause-cause : goal.returns-then-eq-2-clause-cause
 returns-then-eq-2-clause-cause c = λ kind behind is r.
     let e : c.args.name.now ≡ codes "check" = search rules in
     explained c.check_of.result (c.args.name.now ∷ behind)
-    (c.check_of.ensures.cause behind (subst (λ k. Reads k behind (rows_of (found_of c.args.given.now))) (kind_of_check kind c.args.name.now is e) r))
+    (c.check_of.ensures.cause behind
+    (subst (λ k. Reads k behind (rows_of (found_of c.args.given.now)))
+    (kind_of_check kind c.args.name.now is e) r))
 
 pub returns-then-eq-3-clause-cause : goal.returns-then-eq-3-clause-cause
 returns-then-eq-3-clause-cause c = λ kind behind is r.
     let e : c.args.name.now ≡ codes "show" = search rules in
     explained c.show_of.result (c.args.name.now ∷ behind)
-    (c.show_of.ensures.cause behind (subst (λ k. Reads k behind (rows_of (found_of c.args.given.now))) (kind_of_show kind c.args.name.now is e) r))
+    (c.show_of.ensures.cause behind
+    (subst (λ k. Reads k behind (rows_of (found_of c.args.given.now)))
+    (kind_of_show kind c.args.name.now is e) r))
 
 pub returns-then-eq-5-clause-cause : goal.returns-then-eq-5-clause-cause
 returns-then-eq-5-clause-cause c = λ kind behind is r.
     let e : c.args.name.now ≡ codes "record" = search rules in
     explained c.record_of.result (c.args.name.now ∷ behind)
-    (c.record_of.ensures.cause behind (subst (λ k. Reads k behind (rows_of (found_of c.args.given.now))) (kind_of_record kind c.args.name.now is e) r))
+    (c.record_of.ensures.cause behind
+    (subst (λ k. Reads k behind (rows_of (found_of c.args.given.now)))
+    (kind_of_record kind c.args.name.now is e) r))
 
 pub returns-clause-cause : goal.returns-clause-cause
 returns-clause-cause c = λ kind behind is r.
@@ -38,4 +46,5 @@ returns-clause-cause c = λ kind behind is r.
     let no_record : c.args.name.now ≡ codes "record" → ⊥ = λ e. search rules in
     let last = kind_of_last kind c.args.name.now is no_run no_check no_show no_bench no_record in
     explained c.audit_of.result (c.args.name.now ∷ behind)
-    (c.audit_of.ensures.cause behind (subst (λ k. Reads k behind (rows_of (found_of c.args.given.now))) last.0 r))
+    (c.audit_of.ensures.cause behind
+    (subst (λ k. Reads k behind (rows_of (found_of c.args.given.now))) last.0 r))

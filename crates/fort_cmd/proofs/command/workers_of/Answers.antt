@@ -8,6 +8,9 @@ use Rattle.fort_cmd.proofs.command.workers_of.Goals as goal
 
 pub returns : goal.returns
 returns c = λ n f.
-    let read = option_read _ (λ bs r. ParsesUnsigned 32 10 bs r × ExplainsUnsignedError 10 bs r × HasUnsignedDigitsIfOk bs r) 32 (λ word r g. g.0)
-    (found_of c.args.given.now) c.get_one.result Workers (omega arith) c.get_one.ensures.none c.get_one.ensures.value n f in
+    let read =
+    option_read _ (λ bs r. ParsesUnsigned 32 10 bs r × ExplainsUnsignedError 10 bs r
+    × HasUnsignedDigitsIfOk bs r) 32 (λ word r g. g.0)
+    (found_of c.args.given.now) c.get_one.result Workers (omega arith) c.get_one.ensures.none
+    c.get_one.ensures.value n f in
     c.unwrap_or.ensures ∙ ap (λ o. unwrap_or o default_workers) read

@@ -16,7 +16,10 @@ loop-number-preserved c =
     let row = c.loop-number.row.items in
     let z : DeclId = record { 0 = 0 } in
     let d : DeclId = get_or ms i z in
-    let f = subst (λ r. HoldsNowhere (goes_before p d) r 0 k) c.as_slice.ensures.value c.place-at.ensures.passed in
-    let g = subst (λ r. HoldsThere (goes_before p d) r k) c.as_slice.ensures.value c.place-at.ensures.stands in
+    let f = subst (λ r. HoldsNowhere (goes_before p d) r 0 k) c.as_slice.ensures.value
+    c.place-at.ensures.passed in
+    let g = subst (λ r. HoldsThere (goes_before p d) r k) c.as_slice.ensures.value
+    c.place-at.ensures.stands in
     subst (IsRow p (take (i + 1) ms)) (sym c.in_ok-insert.ensures.items)
-    (subst (λ x. IsRow p x (insert row k d)) (sym (take_more ms i z c.loop-number-test.true)) (next_row p (take i ms) row d k c.loop-number.invariant f g))
+    (subst (λ x. IsRow p x (insert row k d)) (sym (take_more ms i z c.loop-number-test.true))
+    (next_row p (take i ms) row d k c.loop-number.invariant f g))

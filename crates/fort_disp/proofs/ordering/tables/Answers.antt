@@ -15,4 +15,6 @@ loop-set-preserved c =
     let e : s ≡ get_or p.sets i s = c.set-item.is ∙ ap (λ xs. get_or xs i s) v in
     let r = subst (λ ms. IsRow p ms row) c.as_slice.ensures c.in_ok-row_of.ensures in
     subst (AreRows p (take (i + 1) p.sets)) (sym c.in_ok-push.ensures.ok)
-    (subst (λ x. AreRows p x (c.loop-set.rows ++ row ∷ [])) (ap (λ y. take i p.sets ++ y ∷ []) e ∙ sym (take_more p.sets i s l)) (rows_last p (take i p.sets) c.loop-set.rows s row c.loop-set.invariant r))
+    (subst (λ x. AreRows p x (c.loop-set.rows ++ row ∷ [])) (ap (λ y. take i p.sets ++ y ∷ []) e
+    ∙ sym (take_more p.sets i s l))
+    (rows_last p (take i p.sets) c.loop-set.rows s row c.loop-set.invariant r))

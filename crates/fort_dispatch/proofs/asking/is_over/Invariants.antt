@@ -7,4 +7,5 @@ use Rattle.fort_dispatch.proofs.asking.is_over.Given as goal
 abbrev pub invariant-loop-other : goal.invariant-loop-other
 invariant-loop-other l =
     list_all (gives_way l.program (map (type_of l.program) l.values) l.decl l.number) l.members
-    ≡ list_all (gives_way l.program (map (type_of l.program) l.values) l.decl l.number) (drop l.other-index l.members)
+    ≡ list_all (gives_way l.program (map (type_of l.program) l.values) l.decl l.number)
+    (drop l.other-index l.members)

@@ -7,4 +7,5 @@ use Rattle.fort_dispatch.proofs.finding.is_sole.Given as goal
 abbrev pub invariant-loop-other : goal.invariant-loop-other
 invariant-loop-other l =
     list_all (is_other l.program l.members (map (type_of l.program) l.values) l.number) l.members
-    ≡ list_all (is_other l.program l.members (map (type_of l.program) l.values) l.number) (drop l.other-index l.members)
+    ≡ list_all (is_other l.program l.members (map (type_of l.program) l.values) l.number)
+    (drop l.other-index l.members)

@@ -7,4 +7,5 @@ use Rattle.fort_dispatch.proofs.finding.winner.Given as goal
 abbrev pub invariant-loop-number : goal.invariant-loop-number
 invariant-loop-number l =
     find (wins l.program l.members (map (type_of l.program) l.values)) l.members
-    ≡ find (wins l.program l.members (map (type_of l.program) l.values)) (drop l.number-index l.members)
+    ≡ find (wins l.program l.members (map (type_of l.program) l.values))
+    (drop l.number-index l.members)

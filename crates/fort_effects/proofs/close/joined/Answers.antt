@@ -5,5 +5,7 @@ use Rattle.fort_effects.proofs.close.joined.Goals as goal
 
 pub returns : goal.returns
 returns c =
-    let none : index_map_len c.loop-at.cells ≡ 0 = omega (arith, c.loop-at.invariant.3, c.loop-at-test.false, c.len-count.ensures.len) in
-    joined_all c.args.closing c.args.parent c.loop-at.whole c.args.cells c.loop-at.cells none c.loop-at.invariant.0 c.loop-at.invariant.1 c.loop-at.invariant.2
+    let none : index_map_len c.loop-at.cells ≡ 0 =
+    omega (arith, c.loop-at.invariant.3, c.loop-at-test.false, c.len-count.ensures.len) in
+    joined_all c.args.closing c.args.parent c.loop-at.whole c.args.cells c.loop-at.cells none
+    c.loop-at.invariant.0 c.loop-at.invariant.1 c.loop-at.invariant.2

@@ -5,5 +5,7 @@ use Rattle.fort_effects.proofs.close.settled.Goals as goal
 
 pub returns : goal.returns
 returns c =
-    let none : index_map_len c.loop-at.cells ≡ 0 = omega (arith, c.loop-at.invariant.2, c.loop-at-test.false, c.len-count.ensures.len) in
-    settled_all c.args.closing c.args.store c.loop-at.store c.args.cells c.loop-at.cells none c.loop-at.invariant.0
+    let none : index_map_len c.loop-at.cells ≡ 0 =
+    omega (arith, c.loop-at.invariant.2, c.loop-at-test.false, c.len-count.ensures.len) in
+    settled_all c.args.closing c.args.store c.loop-at.store c.args.cells c.loop-at.cells none
+    c.loop-at.invariant.0

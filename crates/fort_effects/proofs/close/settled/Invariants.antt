@@ -7,5 +7,7 @@ use Rattle.fort_effects.proofs.close.settled.Given as goal
 
 abbrev pub invariant-loop-at : goal.invariant-loop-at
 invariant-loop-at l =
-    ((k : ℕ) → left_at (closed_at l.closing l.cells k) (held l.store k) ≡ left_at (closed_at l.closing l.initial.cells k) (held l.initial.store k))
-    × SuitsAll l.closing l.store l.cells × (index_map_len l.cells + l.«at» ≡ index_map_len l.initial.cells)
+    ((k : ℕ) → left_at (closed_at l.closing l.cells k) (held l.store k)
+    ≡ left_at (closed_at l.closing l.initial.cells k) (held l.initial.store k))
+    × SuitsAll l.closing l.store l.cells
+    × (index_map_len l.cells + l.«at» ≡ index_map_len l.initial.cells)

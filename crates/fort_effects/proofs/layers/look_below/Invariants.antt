@@ -4,4 +4,6 @@ use Rattle.fort_effects.specs.Levels.{through, inward}
 use Rattle.fort_effects.proofs.layers.look_below.Given as goal
 
 abbrev pub invariant-loop-i : goal.invariant-loop-i
-invariant-loop-i l = through (held l.store) (inward l.below []) l.loc.0 ≡ through (held l.store) (inward (take l.i l.below) []) l.loc.0
+invariant-loop-i l =
+    through (held l.store) (inward l.below []) l.loc.0
+    ≡ through (held l.store) (inward (take l.i l.below) []) l.loc.0

@@ -5,4 +5,5 @@ use Rattle.fort_store.specs.Held.{held}
 use Rattle.fort_effects.proofs.make.make_in_store.Given as goal
 
 abbrev pub invariant-loop-i : goal.invariant-loop-i
-invariant-loop-i l = (k : ℕ) → held l.store k ≡ left_at (made_from l.«at» (take l.i l.values) k) (held l.initial.store k)
+invariant-loop-i l = (k : ℕ)
+    → held l.store k ≡ left_at (made_from l.«at» (take l.i l.values) k) (held l.initial.store k)

@@ -5,5 +5,7 @@ use Rattle.fort_effects.proofs.make.make_value.Goals as goal
 
 pub returns-in_ok-join-in-Some-clause-cells : goal.returns-in_ok-join-in-Some-clause-cells
 returns-in_ok-join-in-Some-clause-cells c =
-    make_something (c.args.«at» + c.args.i) (slice_get c.args.values.now c.args.i) c.in-Some.value.now c.in_ok-value-in-Some.value (cells_of c.args.layer.now) (cells_of c.join.new.self) (sym c.in-Some.ensures.value) c.in_ok-value-in-Some.ensures
+    make_something (c.args.«at» + c.args.i) (slice_get c.args.values.now c.args.i)
+    c.in-Some.value.now c.in_ok-value-in-Some.value (cells_of c.args.layer.now)
+    (cells_of c.join.new.self) (sym c.in-Some.ensures.value) c.in_ok-value-in-Some.ensures
     c.in_ok-join-in-Some.ensures.ok

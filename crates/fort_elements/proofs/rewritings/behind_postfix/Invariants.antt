@@ -4,4 +4,8 @@ use Rattle.fort_judge.specs.Juxtaposing.{first_place}
 use Rattle.fort_elements.proofs.rewritings.behind_postfix.Given as goal
 
 abbrev pub invariant-loop-at : goal.invariant-loop-at
-invariant-loop-at l = record { found : first_place takes 0 l.elements ≡ first_place takes l.at l.rest; left : drop l.at l.elements ≡ l.rest }
+invariant-loop-at l =
+    record {
+      found : first_place takes 0 l.elements ≡ first_place takes l.at l.rest;
+      left : drop l.at l.elements ≡ l.rest;
+    }

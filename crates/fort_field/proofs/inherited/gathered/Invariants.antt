@@ -4,4 +4,5 @@ use Rattle.fort_field.specs.Walks.{KnowsNames, Gathers, fields_of}
 use Rattle.fort_field.proofs.inherited.gathered.Given as goal
 
 abbrev pub invariant-loop-b : goal.invariant-loop-b
-invariant-loop-b l = KnowsNames l.gathering × Gathers l.own (flat_map (fields_of l.all) (take l.b-index l.b-items)) l.gathering.fields
+invariant-loop-b l = KnowsNames l.gathering
+    × Gathers l.own (flat_map (fields_of l.all) (take l.b-index l.b-items)) l.gathering.fields

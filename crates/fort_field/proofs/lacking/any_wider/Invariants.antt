@@ -6,4 +6,5 @@ use Rattle.fort_field.proofs.Searches.{NoneTo}
 use Rattle.fort_field.proofs.lacking.any_wider.Given as goal
 
 abbrev pub invariant-loop-other : goal.invariant-loop-other
-invariant-loop-other l = (h : List DeclaredType) → HasRows h l.table → NoneTo (IsWiderThan h l.field) l.own l.other-index
+invariant-loop-other l = (h : List DeclaredType) → HasRows h l.table
+    → NoneTo (IsWiderThan h l.field) l.own l.other-index

@@ -6,4 +6,6 @@ use Rattle.fort_field.specs.Rules.{LacksField}
 use Rattle.fort_field.proofs.lacking.first_lacking.Given as goal
 
 abbrev pub invariant-loop-number : goal.invariant-loop-number
-invariant-loop-number l = IsFirst (Among (λ k place. (slice_get l.places k ≡ Some place) × LacksField l.types l.own (l.built_in + k)) l.number) l.best
+invariant-loop-number l =
+    IsFirst (Among (λ k place. (slice_get l.places k ≡ Some place)
+    × LacksField l.types l.own (l.built_in + k)) l.number) l.best

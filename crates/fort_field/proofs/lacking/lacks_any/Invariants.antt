@@ -6,4 +6,5 @@ use Rattle.fort_field.proofs.Searches.{NoneTo}
 use Rattle.fort_field.proofs.lacking.lacks_any.Given as goal
 
 abbrev pub invariant-loop-field : goal.invariant-loop-field
-invariant-loop-field l = (h : List DeclaredType) → HasRows h l.table → NoneTo (Lacks h l.must l.own) l.fields l.field-index
+invariant-loop-field l = (h : List DeclaredType) → HasRows h l.table
+    → NoneTo (Lacks h l.must l.own) l.fields l.field-index

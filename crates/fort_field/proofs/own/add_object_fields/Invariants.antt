@@ -6,4 +6,6 @@ use Rattle.fort_field.specs.Own.{object_field}
 use Rattle.fort_field.proofs.own.add_object_fields.Given as goal
 
 abbrev pub invariant-loop-entry : goal.invariant-loop-entry
-invariant-loop-entry l = (list : List Spelling) → HoldsNumbers list l.numbers → length list ≡ l.size → l.fields ≡ l.initial.fields ++ flat_map (object_field list l.names) (take l.entry-index l.members)
+invariant-loop-entry l = (list : List Spelling) → HoldsNumbers list l.numbers → length list ≡ l.size
+    → l.fields
+    ≡ l.initial.fields ++ flat_map (object_field list l.names) (take l.entry-index l.members)

@@ -3,5 +3,8 @@ use Rattle.fort_field.proofs.Walking.{flat_more}
 use Rattle.fort_field.proofs.own.add_trait_fields.Goals as goal
 
 pub loop-entry-preserved : goal.loop-entry-preserved
-loop-entry-preserved c = λ list h e. flat_more (trait_field list c.args.names.now) c.args.members.now c.loop-entry.entry-index c.entry-item.result c.args.fields.now _ _ c.loop-entry-test.true c.entry-item.is (c.loop-entry.invariant list h e)
+loop-entry-preserved c =
+    λ list h e. flat_more (trait_field list c.args.names.now) c.args.members.now
+    c.loop-entry.entry-index c.entry-item.result c.args.fields.now _ _ c.loop-entry-test.true
+    c.entry-item.is (c.loop-entry.invariant list h e)
     (c.in_ok-add_trait_member.ensures list h e)

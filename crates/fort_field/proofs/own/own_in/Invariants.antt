@@ -8,4 +8,7 @@ use Rattle.fort_field.specs.Own.{declared_own}
 use Rattle.fort_field.proofs.own.own_in.Given as goal
 
 abbrev pub invariant-loop-declared : goal.invariant-loop-declared
-invariant-loop-declared l = (list : List Spelling) → HoldsNumbers list l.numbers → length list ≡ l.size → l.own ≡ replicate TYPE_COUNT [] ++ flat_map (declared_own list l.names) (take l.declared-index l.declarations)
+invariant-loop-declared l = (list : List Spelling) → HoldsNumbers list l.numbers
+    → length list ≡ l.size
+    → l.own ≡ replicate TYPE_COUNT []
+    ++ flat_map (declared_own list l.names) (take l.declared-index l.declarations)

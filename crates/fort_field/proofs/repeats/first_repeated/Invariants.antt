@@ -6,4 +6,5 @@ use Rattle.fort_field.proofs.RepeatLaws.{RepeatedAt}
 use Rattle.fort_field.proofs.repeats.first_repeated.Given as goal
 
 abbrev pub invariant-loop-field : goal.invariant-loop-field
-invariant-loop-field l = HoldsNames (take l.field-index l.fields) l.seen × IsFirst (Among (RepeatedAt l.fields) l.field-index) l.best
+invariant-loop-field l = HoldsNames (take l.field-index l.fields) l.seen
+    × IsFirst (Among (RepeatedAt l.fields) l.field-index) l.best

@@ -5,4 +5,6 @@ use Rattle.fort_field.specs.Written.{written_next}
 use Rattle.fort_field.proofs.written.+written.Given as goal
 
 abbrev pub invariant-add_next_types-loop-next : goal.invariant-add_next_types-loop-next
-invariant-add_next_types-loop-next l = (list : List Spelling) → HoldsNumbers list l.numbers → length list ≡ l.size → l.types ≡ l.fn.types ++ map (written_next list l.names) (take l.next-index l.others)
+invariant-add_next_types-loop-next l = (list : List Spelling) → HoldsNumbers list l.numbers
+    → length list ≡ l.size
+    → l.types ≡ l.fn.types ++ map (written_next list l.names) (take l.next-index l.others)

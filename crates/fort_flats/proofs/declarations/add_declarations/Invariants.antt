@@ -6,4 +6,7 @@ use Rattle.fort_tree.specs.Measured.{all_flats}
 use Rattle.fort_flats.proofs.declarations.add_declarations.Given as goal
 
 abbrev pub invariant-loop-declared : goal.invariant-loop-declared
-invariant-loop-declared l = l.rows ≡ l.fn.rows ++ all_flats (map (λ (e : Declared). measured_declaration e.declaration) (take l.declared-index l.declarations))
+invariant-loop-declared l =
+    l.rows ≡ l.fn.rows
+    ++ all_flats (map (λ
+    (e : Declared). measured_declaration e.declaration) (take l.declared-index l.declarations))

@@ -8,4 +8,7 @@ use Rattle.fort_flats.proofs.Steps.{one_added}
 use Rattle.fort_flats.proofs.declarations.add_maybe_body.Goals as goal
 
 pub returns-in_ok-add_expr : goal.returns-in_ok-add_expr
-returns-in_ok-add_expr c = one_added _ c.in_ok-add_expr.ensures (ap (λ (o : Option MethodBody). all_flats (measured_body o)) c.in-Some.is ∙ last (measured_expr c.in-Some.body.body))
+returns-in_ok-add_expr c =
+    one_added _ c.in_ok-add_expr.ensures (ap (λ
+    (o : Option MethodBody). all_flats (measured_body o)) c.in-Some.is
+    ∙ last (measured_expr c.in-Some.body.body))

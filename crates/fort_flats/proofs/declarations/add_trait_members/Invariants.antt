@@ -6,4 +6,7 @@ use Rattle.fort_tree.specs.Measured.{all_flats}
 use Rattle.fort_flats.proofs.declarations.add_trait_members.Given as goal
 
 abbrev pub invariant-loop-entry : goal.invariant-loop-entry
-invariant-loop-entry l = l.rows ≡ l.fn.rows ++ all_flats (map (λ (e : TraitEntry). measured_trait_member e.member) (take l.entry-index l.members))
+invariant-loop-entry l =
+    l.rows ≡ l.fn.rows
+    ++ all_flats (map (λ
+    (e : TraitEntry). measured_trait_member e.member) (take l.entry-index l.members))

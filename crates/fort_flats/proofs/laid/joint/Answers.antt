@@ -8,9 +8,12 @@ use Rattle.fort_tree.proofs.MeasuresFlats.{measures-Run, measures-Infix}
 use Rattle.fort_flats.proofs.laid.joint.Goals as goal
 
 pub returns-in-Run : goal.returns-in-Run
-returns-in-Run c = sym (ap (λ (p : FlatPart). (measured_flat_part p).joint) c.in-Run.is ∙ ap (λ (j : Joined). j.joint) (measures-Run _))
+returns-in-Run c =
+    sym (ap (λ (p : FlatPart). (measured_flat_part p).joint) c.in-Run.is ∙ ap (λ
+    (j : Joined). j.joint) (measures-Run _))
 
 pub returns-in-Infix : goal.returns-in-Infix
 returns-in-Infix c =
     ap (λ (s : Spot). Behind c.in-Infix.sign s.gap) c.unit_spot.ensures
-    ∙ sym (ap (λ (p : FlatPart). (measured_flat_part p).joint) c.in-Infix.is ∙ ap (λ (j : Joined). j.joint) (measures-Infix c.in-Infix.sign c.in-Infix.unit))
+    ∙ sym (ap (λ (p : FlatPart). (measured_flat_part p).joint) c.in-Infix.is ∙ ap (λ
+    (j : Joined). j.joint) (measures-Infix c.in-Infix.sign c.in-Infix.unit))

@@ -5,4 +5,6 @@ use Rattle.fort_tree.specs.Measuring.{measured_flat_part}
 use Rattle.fort_flats.proofs.laid.joints.Given as goal
 
 abbrev pub invariant-loop-part : goal.invariant-loop-part
-invariant-loop-part l = l.joints ≡ map (λ (part : Joined). part.joint) (map measured_flat_part (take l.part-index l.parts))
+invariant-loop-part l =
+    l.joints ≡ map (λ
+    (part : Joined). part.joint) (map measured_flat_part (take l.part-index l.parts))

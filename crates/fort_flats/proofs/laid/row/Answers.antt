@@ -8,4 +8,6 @@ use Rattle.fort_flats.proofs.laid.row.Goals as goal
 
 pub returns : goal.returns
 returns c = laid c.args.flat.now _ _ (ap (λ (s : Spot). s.place) c.unit_spot.ensures)
-    (c.in_ok-joints.ensures ∙ ap (λ parts. map (λ (part : Joined). part.joint) (map measured_flat_part parts)) c.as_slice.ensures)
+    (c.in_ok-joints.ensures
+    ∙ ap (λ parts. map (λ
+    (part : Joined). part.joint) (map measured_flat_part parts)) c.as_slice.ensures)

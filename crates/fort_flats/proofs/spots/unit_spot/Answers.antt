@@ -8,8 +8,15 @@ use Rattle.fort_tree.proofs.MeasuresFlats.{operand_measures}
 use Rattle.fort_flats.proofs.spots.unit_spot.Goals as goal
 
 pub returns-in-None : goal.returns-in-None
-returns-in-None c = c.run_spot.ensures ∙ sym (ap (λ (m : Measured). m.spot) (operand_measures c.args.unit.now) ∙ ap (λ (p : Option Prefix). prefix_spot p (measured_run (out-Operand c.args.unit.now).run).spot) c.in-None.is)
+returns-in-None c =
+    c.run_spot.ensures
+    ∙ sym (ap (λ (m : Measured). m.spot) (operand_measures c.args.unit.now) ∙ ap (λ
+    (p : Option Prefix). prefix_spot p (measured_run (out-Operand c.args.unit.now).run).spot)
+    c.in-None.is)
 
 pub returns-in-Some : goal.returns-in-Some
 returns-in-Some c =
-    sym (ap (λ (m : Measured). m.spot) (operand_measures c.args.unit.now) ∙ ap (λ (p : Option Prefix). prefix_spot p (measured_run (out-Operand c.args.unit.now).run).spot) c.in-Some.is ∙ c.prefix_spot.ensures (measured_run (out-Operand c.args.unit.now).run).spot)
+    sym (ap (λ (m : Measured). m.spot) (operand_measures c.args.unit.now) ∙ ap (λ
+    (p : Option Prefix). prefix_spot p
+    (measured_run (out-Operand c.args.unit.now).run).spot) c.in-Some.is
+    ∙ c.prefix_spot.ensures (measured_run (out-Operand c.args.unit.now).run).spot)

@@ -9,7 +9,11 @@ use Rattle.fort_form_built.specs.Taking.{binder_of}
 use Rattle.fort_form_built.proofs.blocks.binder.Goals as goal
 
 pub returns-in-None : goal.returns-in-None
-returns-in-None c = λ k. sym (ap (λ (o : Option Catch). binder_of (option_map (formed_catch k) o)) c.in-None.is)
+returns-in-None c =
+    λ k. sym (ap (λ (o : Option Catch). binder_of (option_map (formed_catch k) o)) c.in-None.is)
 
 pub returns-in-Some : goal.returns-in-Some
-returns-in-Some c = λ k. ap Some c.named.ensures ∙ sym (ap (λ (o : Option Catch). binder_of (option_map (formed_catch k) o)) c.in-Some.is ∙ ap (λ (x : Catching). Some x.binder) (catch_forms k c.in-Some.catch))
+returns-in-Some c =
+    λ k. ap Some c.named.ensures
+    ∙ sym (ap (λ (o : Option Catch). binder_of (option_map (formed_catch k) o)) c.in-Some.is ∙ ap (λ
+    (x : Catching). Some x.binder) (catch_forms k c.in-Some.catch))

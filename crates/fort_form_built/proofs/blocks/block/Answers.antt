@@ -11,9 +11,12 @@ use Rattle.fort_form_built.proofs.blocks.block.Goals as goal
 pub returns-in-None : goal.returns-in-None
 returns-in-None g c =
     let k = g.L.Lookup.source c.args.lookup.now in
-    by (map (item_value k)) (formed_block k c.args.word) (sym (no_items c.args.entries.now c.in-None.ensures.cases)) (nothing (ap (a_form.Block c.args.word.place) c.new.ensures))
+    by (map (item_value k)) (formed_block k c.args.word)
+    (sym (no_items c.args.entries.now c.in-None.ensures.cases))
+    (nothing (ap (a_form.Block c.args.word.place) c.new.ensures))
 
 pub returns-in_ok-filled-in-Some : goal.returns-in_ok-filled-in-Some
 returns-in_ok-filled-in-Some g c =
     let k = g.L.Lookup.source c.args.lookup.now in
-    by (map (item_value k)) (formed_block k c.args.word) (sym c.in-Some.ensures.cases.0) (c.in_ok-filled-in-Some.ensures c.args.word)
+    by (map (item_value k)) (formed_block k c.args.word) (sym c.in-Some.ensures.cases.0)
+    (c.in_ok-filled-in-Some.ensures c.args.word)

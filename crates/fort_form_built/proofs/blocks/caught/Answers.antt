@@ -14,10 +14,16 @@ use Rattle.fort_form_built.proofs.blocks.caught.Goals as goal
 pub returns-in-None : goal.returns-in-None
 returns-in-None g c =
     let k = g.L.Lookup.source c.args.lookup.now in
-    by (inside_catch k) (λ (o : Option Catch). caught (option_map (formed_catch k) o)) (sym c.in-None.is) (nothing c.new.ensures)
+    by (inside_catch k) (λ
+    (o : Option Catch). caught (option_map (formed_catch k) o)) (sym c.in-None.is)
+    (nothing c.new.ensures)
 
 pub returns-in_ok-made-in-Some : goal.returns-in_ok-made-in-Some
 returns-in_ok-made-in-Some g c =
     let k = g.L.Lookup.source c.args.lookup.now in
-    by (inside_catch k) (λ (o : Option Catch). caught (option_map (formed_catch k) o)) (sym c.in-Some.is)
-    (named_as (by (map (type_clause_value k)) (map (formed_type_clause k)) c.as_slice.ensures c.in_ok-made-in-Some.ensures) refl (ap (λ (x : Catching). x.clauses) (catch_forms k c.in-Some.catch)))
+    by (inside_catch k) (λ
+    (o : Option Catch). caught (option_map (formed_catch k) o)) (sym c.in-Some.is)
+    (named_as
+    (by (map (type_clause_value k)) (map (formed_type_clause k)) c.as_slice.ensures
+    c.in_ok-made-in-Some.ensures) refl (ap (λ
+    (x : Catching). x.clauses) (catch_forms k c.in-Some.catch)))

@@ -11,6 +11,11 @@ use Rattle.fort_form_built.proofs.blocks.filled.Goals as goal
 
 pub returns : goal.returns
 returns g c = let k = g.L.Lookup.source c.args.lookup.now in
-    λ word. remade (ap (a_form.Block _) (begun c.new-items.ensures c.in_ok-push.ensures.ok c.in_ok-append.ensures.ok))
-    (of_two (λ (first : Placed) (others : List Item). a_form.Block first.place (first.item ∷ others)) c.in_ok-begun.ensures c.in_ok-further.ensures refl
-    (ap (λ (items : List Item). a_form.Block (formed_block_item k c.args.first.now).place ((formed_block_item k c.args.first.now).item ∷ items)) (items_of k c.args.others.now)))
+    λ word. remade
+    (ap (a_form.Block _)
+    (begun c.new-items.ensures c.in_ok-push.ensures.ok c.in_ok-append.ensures.ok))
+    (of_two (λ
+    (first : Placed) (others : List Item). a_form.Block first.place (first.item ∷ others))
+    c.in_ok-begun.ensures c.in_ok-further.ensures refl
+    (ap (λ (items : List Item). a_form.Block (formed_block_item k c.args.first.now).place
+    ((formed_block_item k c.args.first.now).item ∷ items)) (items_of k c.args.others.now)))

@@ -9,8 +9,11 @@ loop-entry-init g c = let k = g.L.Lookup.source c.args.lookup.now in
 
 pub loop-entry-preserved : goal.loop-entry-preserved
 loop-entry-preserved g c = let k = g.L.Lookup.source c.args.lookup.now in
-    one_more (item_value k) (entry_item k) c.args.entries.now c.loop-entry.entry-index c.entry-item.result c.loop-entry-test.true c.entry-item.is c.loop-entry.invariant c.in_ok-next_item.ensures c.in_ok-push.ensures.ok
+    one_more (item_value k) (entry_item k) c.args.entries.now c.loop-entry.entry-index
+    c.entry-item.result c.loop-entry-test.true c.entry-item.is c.loop-entry.invariant
+    c.in_ok-next_item.ensures c.in_ok-push.ensures.ok
 
 pub returns : goal.returns
 returns g c = let k = g.L.Lookup.source c.args.lookup.now in
-    all_made (item_value k) (entry_item k) c.args.entries.now c.loop-entry.entry-index c.loop-entry-test.false c.loop-entry.invariant
+    all_made (item_value k) (entry_item k) c.args.entries.now c.loop-entry.entry-index
+    c.loop-entry-test.false c.loop-entry.invariant

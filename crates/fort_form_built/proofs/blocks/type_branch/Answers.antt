@@ -14,6 +14,21 @@ use Rattle.fort_form_built.proofs.blocks.type_branch.Goals as goal
 pub returns : goal.returns
 returns g c =
     let k = g.L.Lookup.source c.args.lookup.now in
-    of_one (λ (v : Form). roll-TypeBranch (record { place = c.type_place.result; ty = c.in_ok-ty.ty; value = v })) (one (formed_expr k (out-TypeClause c.args.clause.now).value) c.in_ok-value.ensures) refl
-    (type_clause_forms k c.args.clause.now ∙ ap (λ (p : Place). roll-TypeBranch (record { place = p; ty = k.written (out-TypeClause c.args.clause.now).ty; value = formed_expr k (out-TypeClause c.args.clause.now).value })) (sym c.type_place.ensures)
-    ∙ ap (λ (t : Ty). roll-TypeBranch (record { place = c.type_place.result; ty = t; value = formed_expr k (out-TypeClause c.args.clause.now).value })) (sym c.in_ok-ty.ensures))
+    of_one (λ
+    (v : Form). roll-TypeBranch
+    (record { place = c.type_place.result; ty = c.in_ok-ty.ty; value = v }))
+    (one (formed_expr k (out-TypeClause c.args.clause.now).value) c.in_ok-value.ensures) refl
+    (type_clause_forms k c.args.clause.now ∙ ap (λ
+    (p : Place). roll-TypeBranch
+    (record {
+      place = p;
+      ty = k.written (out-TypeClause c.args.clause.now).ty;
+      value = formed_expr k (out-TypeClause c.args.clause.now).value;
+    }))
+    (sym c.type_place.ensures)
+    ∙ ap (λ (t : Ty). roll-TypeBranch
+    (record {
+      place = c.type_place.result;
+      ty = t;
+      value = formed_expr k (out-TypeClause c.args.clause.now).value;
+    })) (sym c.in_ok-ty.ensures))

@@ -9,8 +9,11 @@ loop-clause-init g c = let k = g.L.Lookup.source c.args.lookup.now in
 
 pub loop-clause-preserved : goal.loop-clause-preserved
 loop-clause-preserved g c = let k = g.L.Lookup.source c.args.lookup.now in
-    one_more (type_clause_value k) (formed_type_clause k) c.args.clauses.now c.loop-clause.clause-index c.clause-item.result c.loop-clause-test.true c.clause-item.is c.loop-clause.invariant c.in_ok-type_branch.ensures c.in_ok-push.ensures.ok
+    one_more (type_clause_value k) (formed_type_clause k) c.args.clauses.now
+    c.loop-clause.clause-index c.clause-item.result c.loop-clause-test.true c.clause-item.is
+    c.loop-clause.invariant c.in_ok-type_branch.ensures c.in_ok-push.ensures.ok
 
 pub returns : goal.returns
 returns g c = let k = g.L.Lookup.source c.args.lookup.now in
-    all_made (type_clause_value k) (formed_type_clause k) c.args.clauses.now c.loop-clause.clause-index c.loop-clause-test.false c.loop-clause.invariant
+    all_made (type_clause_value k) (formed_type_clause k) c.args.clauses.now
+    c.loop-clause.clause-index c.loop-clause-test.false c.loop-clause.invariant

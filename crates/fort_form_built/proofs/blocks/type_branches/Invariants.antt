@@ -4,4 +4,7 @@ use Rattle.fort_form_built.proofs.Giving.{Made}
 use Rattle.fort_form_built.proofs.blocks.type_branches.Given as goal
 
 abbrev pub invariant-loop-clause : goal.invariant-loop-clause
-invariant-loop-clause g l = Made (type_clause_value (g.L.Lookup.source l.lookup)) (formed_type_clause (g.L.Lookup.source l.lookup)) l.clauses l.clause-index l.initial.forms l.forms l.made
+invariant-loop-clause g l =
+    Made (type_clause_value (g.L.Lookup.source l.lookup))
+    (formed_type_clause (g.L.Lookup.source l.lookup)) l.clauses l.clause-index l.initial.forms
+    l.forms l.made

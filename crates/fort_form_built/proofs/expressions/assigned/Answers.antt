@@ -9,5 +9,7 @@ use Rattle.fort_form_built.proofs.expressions.assigned.Goals as goal
 pub returns : goal.returns
 returns g c =
     let k = g.L.Lookup.source c.args.lookup.now in
-    λ target value. remade c.in_ok-form.ensures (of_two (λ (t v : Form). assignment t c.args.sign v) (one target c.in_ok-target.ensures)
-    (then_by (opened (option_map (formed_head k) c.args.head.now)) (one value c.in_ok-value.ensures) c.in_ok-whole.ensures refl refl) refl refl)
+    λ target value. remade c.in_ok-form.ensures (of_two (λ
+    (t v : Form). assignment t c.args.sign v) (one target c.in_ok-target.ensures)
+    (then_by (opened (option_map (formed_head k) c.args.head.now)) (one value c.in_ok-value.ensures)
+    c.in_ok-whole.ensures refl refl) refl refl)

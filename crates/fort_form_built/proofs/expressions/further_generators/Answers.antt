@@ -7,10 +7,17 @@ use Rattle.fort_form_built.proofs.Giving.{none_yet, one_more, all_made, named_as
 use Rattle.fort_form_built.proofs.expressions.further_generators.Goals as goal
 
 pub loop-next-init : goal.loop-next-init
-loop-next-init c = λ k. none_yet (next_source k) (formed_next_generator k) c.args.others.now _ c.new-made.ensures
+loop-next-init c =
+    λ k. none_yet (next_source k) (formed_next_generator k) c.args.others.now _ c.new-made.ensures
 
 pub loop-next-preserved : goal.loop-next-preserved
-loop-next-preserved c = λ k. one_more (next_source k) (formed_next_generator k) c.args.others.now c.loop-next.next-index c.next-item.result c.loop-next-test.true c.next-item.is (c.loop-next.invariant k) (named_as (c.in_ok-generator.ensures k) refl (next_generator_forms k c.next-item.result)) c.in_ok-push.ensures.ok
+loop-next-preserved c =
+    λ k. one_more (next_source k) (formed_next_generator k) c.args.others.now c.loop-next.next-index
+    c.next-item.result c.loop-next-test.true c.next-item.is (c.loop-next.invariant k)
+    (named_as (c.in_ok-generator.ensures k) refl (next_generator_forms k c.next-item.result))
+    c.in_ok-push.ensures.ok
 
 pub returns : goal.returns
-returns c = λ k. all_made (next_source k) (formed_next_generator k) c.args.others.now c.loop-next.next-index c.loop-next-test.false (c.loop-next.invariant k)
+returns c =
+    λ k. all_made (next_source k) (formed_next_generator k) c.args.others.now c.loop-next.next-index
+    c.loop-next-test.false (c.loop-next.invariant k)

@@ -5,4 +5,6 @@ use Rattle.fort_form_built.proofs.Giving.{Made}
 use Rattle.fort_form_built.proofs.expressions.further_generators.Given as goal
 
 abbrev pub invariant-loop-next : goal.invariant-loop-next
-invariant-loop-next l = (k : Source) → Made (next_source k) (formed_next_generator k) l.others l.next-index l.initial.forms l.forms l.made
+invariant-loop-next l = (k : Source)
+    → Made (next_source k) (formed_next_generator k) l.others l.next-index l.initial.forms l.forms
+    l.made

@@ -11,9 +11,29 @@ use Rattle.fort_form_built.proofs.Giving.{of_one, one}
 use Rattle.fort_form_built.proofs.expressions.generator.Goals as goal
 
 pub returns-in-Parallel : goal.returns-in-Parallel
-returns-in-Parallel c = λ k. of_one (λ (s : Form). roll-Generator (record { place = c.in-Parallel.name.spot.place; name = c.in-Parallel.name.id; sequential = false; source = s })) (one (formed_flat k _) c.in_ok-source.ensures)
-    (ap (λ (x : Generator). source_at k (out-Generator x) ∷ []) c.in-Parallel.is ∙ ap (λ x. x ∷ []) (in-Parallel k _ _ _)) (ap (formed_generator k) c.in-Parallel.is ∙ forms-Parallel k _ _ _)
+returns-in-Parallel c =
+    λ k. of_one (λ
+    (s : Form). roll-Generator
+    (record {
+      place = c.in-Parallel.name.spot.place;
+      name = c.in-Parallel.name.id;
+      sequential = false;
+      source = s;
+    })) (one (formed_flat k _) c.in_ok-source.ensures)
+    (ap (λ (x : Generator). source_at k (out-Generator x) ∷ []) c.in-Parallel.is
+    ∙ ap (λ x. x ∷ []) (in-Parallel k _ _ _)) (ap (formed_generator k) c.in-Parallel.is
+    ∙ forms-Parallel k _ _ _)
 
 pub returns-in-Sequential : goal.returns-in-Sequential
-returns-in-Sequential c = λ k. of_one (λ (s : Form). roll-Generator (record { place = c.in-Sequential.name.spot.place; name = c.in-Sequential.name.id; sequential = true; source = s })) (one (formed_flat k _) c.in_ok-source.ensures)
-    (ap (λ (x : Generator). source_at k (out-Generator x) ∷ []) c.in-Sequential.is ∙ ap (λ x. x ∷ []) (in-Sequential k _ _ _ _ _ _)) (ap (formed_generator k) c.in-Sequential.is ∙ forms-Sequential k _ _ _ _ _ _)
+returns-in-Sequential c =
+    λ k. of_one (λ
+    (s : Form). roll-Generator
+    (record {
+      place = c.in-Sequential.name.spot.place;
+      name = c.in-Sequential.name.id;
+      sequential = true;
+      source = s;
+    })) (one (formed_flat k _) c.in_ok-source.ensures)
+    (ap (λ (x : Generator). source_at k (out-Generator x) ∷ []) c.in-Sequential.is
+    ∙ ap (λ x. x ∷ []) (in-Sequential k _ _ _ _ _ _))
+    (ap (formed_generator k) c.in-Sequential.is ∙ forms-Sequential k _ _ _ _ _ _)

@@ -5,4 +5,8 @@ use Rattle.fort_form_built.proofs.Giving.{begun, of_two, remade}
 use Rattle.fort_form_built.proofs.expressions.generators.Goals as goal
 
 pub returns : goal.returns
-returns c = λ k. remade (begun c.new-made.ensures c.in_ok-push.ensures.ok c.in_ok-append.ensures.ok) (of_two (λ (x : FormGenerator) (xs : List FormGenerator). x ∷ xs) (c.in_ok-begun.ensures k) (c.in_ok-further.ensures k) refl refl)
+returns c =
+    λ k. remade (begun c.new-made.ensures c.in_ok-push.ensures.ok c.in_ok-append.ensures.ok)
+    (of_two (λ
+    (x : FormGenerator) (xs : List FormGenerator). x ∷ xs) (c.in_ok-begun.ensures k)
+    (c.in_ok-further.ensures k) refl refl)

@@ -10,10 +10,14 @@ use Rattle.fort_form_built.proofs.expressions.maybe_headed.Goals as goal
 pub returns-in-None : goal.returns-in-None
 returns-in-None g c =
     let k = g.L.Lookup.source c.args.lookup.now in
-    by (inside_maybe_head k) (λ (h : Option Head). opened (option_map (formed_head k) h) c.args.body) (sym c.in-None.is) (nothing refl)
+    by (inside_maybe_head k) (λ
+    (h : Option Head). opened (option_map (formed_head k) h) c.args.body) (sym c.in-None.is)
+    (nothing refl)
 
 pub returns-in_ok-headed-in-Some : goal.returns-in_ok-headed-in-Some
 returns-in_ok-headed-in-Some g c =
     let k = g.L.Lookup.source c.args.lookup.now in
-    by (inside_maybe_head k) (λ (h : Option Head). opened (option_map (formed_head k) h) c.args.body) (sym c.in-Some.is)
-    (by (inside_head k) (λ (h : Head). formed_head k h c.args.body) c.get.ensures c.in_ok-headed-in-Some.ensures)
+    by (inside_maybe_head k) (λ
+    (h : Option Head). opened (option_map (formed_head k) h) c.args.body) (sym c.in-Some.is)
+    (by (inside_head k) (λ
+    (h : Head). formed_head k h c.args.body) c.get.ensures c.in_ok-headed-in-Some.ensures)

@@ -16,48 +16,68 @@ use Rattle.fort_form_built.proofs.flats.atom.Goals as goal
 pub returns-in-Name : goal.returns-in-Name
 returns-in-Name g c =
     let k = g.L.Lookup.source c.args.lookup.now in
-    named_as (nothing refl) (ap (λ (x : Atom). atom_at k (out-Atom x)) c.in-Name.is ∙ in-Name k _) (ap (formed_atom k) c.in-Name.is ∙ forms-Name k _)
+    named_as (nothing refl) (ap (λ
+    (x : Atom). atom_at k (out-Atom x)) c.in-Name.is
+    ∙ in-Name k _) (ap (formed_atom k) c.in-Name.is ∙ forms-Name k _)
 
 pub returns-in-Number : goal.returns-in-Number
 returns-in-Number g c =
     let k = g.L.Lookup.source c.args.lookup.now in
-    named_as (nothing refl) (ap (λ (x : Atom). atom_at k (out-Atom x)) c.in-Number.is ∙ in-Number k _ _) (ap (formed_atom k) c.in-Number.is ∙ forms-Number k _ _)
+    named_as (nothing refl) (ap (λ
+    (x : Atom). atom_at k (out-Atom x)) c.in-Number.is
+    ∙ in-Number k _ _) (ap (formed_atom k) c.in-Number.is ∙ forms-Number k _ _)
 
 pub returns-in-Text : goal.returns-in-Text
 returns-in-Text g c =
     let k = g.L.Lookup.source c.args.lookup.now in
-    named_as (nothing refl) (ap (λ (x : Atom). atom_at k (out-Atom x)) c.in-Text.is ∙ in-Text k _ _) (ap (formed_atom k) c.in-Text.is ∙ forms-Text k _ _)
+    named_as (nothing refl) (ap (λ
+    (x : Atom). atom_at k (out-Atom x)) c.in-Text.is
+    ∙ in-Text k _ _) (ap (formed_atom k) c.in-Text.is ∙ forms-Text k _ _)
 
 pub returns-in-True : goal.returns-in-True
 returns-in-True g c =
     let k = g.L.Lookup.source c.args.lookup.now in
-    named_as (nothing refl) (ap (λ (x : Atom). atom_at k (out-Atom x)) c.in-True.is ∙ in-True k _) (ap (formed_atom k) c.in-True.is ∙ forms-True k _)
+    named_as (nothing refl) (ap (λ
+    (x : Atom). atom_at k (out-Atom x)) c.in-True.is
+    ∙ in-True k _) (ap (formed_atom k) c.in-True.is ∙ forms-True k _)
 
 pub returns-in-False : goal.returns-in-False
 returns-in-False g c =
     let k = g.L.Lookup.source c.args.lookup.now in
-    named_as (nothing refl) (ap (λ (x : Atom). atom_at k (out-Atom x)) c.in-False.is ∙ in-False k _) (ap (formed_atom k) c.in-False.is ∙ forms-False k _)
+    named_as (nothing refl) (ap (λ
+    (x : Atom). atom_at k (out-Atom x)) c.in-False.is
+    ∙ in-False k _) (ap (formed_atom k) c.in-False.is ∙ forms-False k _)
 
 pub returns-in-Self_ : goal.returns-in-Self_
 returns-in-Self_ g c =
     let k = g.L.Lookup.source c.args.lookup.now in
-    named_as (nothing refl) (ap (λ (x : Atom). atom_at k (out-Atom x)) c.in-Self_.is ∙ in-Self_ k _) (ap (formed_atom k) c.in-Self_.is ∙ forms-Self_ k _)
+    named_as (nothing refl) (ap (λ
+    (x : Atom). atom_at k (out-Atom x)) c.in-Self_.is
+    ∙ in-Self_ k _) (ap (formed_atom k) c.in-Self_.is ∙ forms-Self_ k _)
 
 pub returns-in_ok-between-in-Parens : goal.returns-in_ok-between-in-Parens
 returns-in_ok-between-in-Parens g c =
     let k = g.L.Lookup.source c.args.lookup.now in
-    named_as (c.in_ok-between-in-Parens.ensures k) (ap (λ (x : Atom). atom_at k (out-Atom x)) c.in-Parens.is ∙ in-Parens k _ _ _) (ap (formed_atom k) c.in-Parens.is ∙ forms-Parens k _ _ _)
+    named_as (c.in_ok-between-in-Parens.ensures k) (ap (λ
+    (x : Atom). atom_at k (out-Atom x)) c.in-Parens.is
+    ∙ in-Parens k _ _ _) (ap (formed_atom k) c.in-Parens.is ∙ forms-Parens k _ _ _)
 
 pub returns-in_ok-take-in-Delimited : goal.returns-in_ok-take-in-Delimited
 returns-in_ok-take-in-Delimited g c =
     let k = g.L.Lookup.source c.args.lookup.now in
-    named_as (one (formed_delimited k _) c.in_ok-take-in-Delimited.ensures) (ap (λ (x : Atom). atom_at k (out-Atom x)) c.in-Delimited.is ∙ in-Delimited k _) (ap (formed_atom k) c.in-Delimited.is ∙ forms-Delimited k _)
+    named_as (one (formed_delimited k _) c.in_ok-take-in-Delimited.ensures) (ap (λ
+    (x : Atom). atom_at k (out-Atom x)) c.in-Delimited.is
+    ∙ in-Delimited k _) (ap (formed_atom k) c.in-Delimited.is ∙ forms-Delimited k _)
 
 pub returns-in_ok-fill-in-ArrayFill : goal.returns-in_ok-fill-in-ArrayFill
 returns-in_ok-fill-in-ArrayFill g c =
     let k = g.L.Lookup.source c.args.lookup.now in
     let size = formed_expr k c.in-ArrayFill.size in
     let value = formed_expr k c.in-ArrayFill.value in
-    named_as (c.in_ok-fill-in-ArrayFill.ensures size value) (ap (λ (x : Atom). atom_at k (out-Atom x)) c.in-ArrayFill.is ∙ in-ArrayFill k _ _ _ _)
-    (ap (formed_atom k) c.in-ArrayFill.is ∙ forms-ArrayFill k _ _ _ _ ∙ ap (λ (s : FillSpots). a_form.Fill s.array.place (k.written c.in-ArrayFill.element) size value) (sym c.get.ensures)
-    ∙ ap (λ (t : TypeTree). a_form.Fill c.get.result.now.array.place (k.written t) size value) (sym c.get-in-ArrayFill.ensures))
+    named_as (c.in_ok-fill-in-ArrayFill.ensures size value) (ap (λ
+    (x : Atom). atom_at k (out-Atom x)) c.in-ArrayFill.is ∙ in-ArrayFill k _ _ _ _)
+    (ap (formed_atom k) c.in-ArrayFill.is ∙ forms-ArrayFill k _ _ _ _ ∙ ap (λ
+    (s : FillSpots). a_form.Fill s.array.place (k.written c.in-ArrayFill.element) size
+    value) (sym c.get.ensures)
+    ∙ ap (λ (t : TypeTree). a_form.Fill c.get.result.now.array.place (k.written t) size value)
+    (sym c.get-in-ArrayFill.ensures))

@@ -10,4 +10,7 @@ use Rattle.fort_form_built.proofs.flats.beside.Goals as goal
 
 pub returns : goal.returns
 returns c = λ units e. remade (ap (λ p. a_form.Beside p c.in_ok-units.units) c.first_place.ensures)
-    (of_one (λ (xs : List Form). a_form.Beside (begins xs) xs) (as_many units c.in_ok-units.ensures.taken (c.in_ok-units.ensures.count ∙ sym e)) refl refl)
+    (of_one (λ
+    (xs : List Form). a_form.Beside (begins xs) xs)
+    (as_many units c.in_ok-units.ensures.taken (c.in_ok-units.ensures.count ∙ sym e)) refl
+    refl)

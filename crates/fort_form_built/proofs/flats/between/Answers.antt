@@ -13,7 +13,13 @@ use Rattle.fort_form_built.proofs.Giving.{by, named_as, nothing}
 use Rattle.fort_form_built.proofs.flats.between.Goals as goal
 
 pub returns-in-None : goal.returns-in-None
-returns-in-None c = λ k. by (inside_list k) (λ (o : Option ExprList). between c.args.place (option_map (formed_expr_list k) o)) (sym c.in-None.is) (nothing (ap (a_form.Tuple c.args.place) c.new.ensures))
+returns-in-None c =
+    λ k. by (inside_list k) (λ
+    (o : Option ExprList). between c.args.place (option_map (formed_expr_list k) o))
+    (sym c.in-None.is) (nothing (ap (a_form.Tuple c.args.place) c.new.ensures))
 
 pub returns-in_ok-parenthesized-in-Some : goal.returns-in_ok-parenthesized-in-Some
-returns-in_ok-parenthesized-in-Some c = λ k. by (inside_list k) (λ (o : Option ExprList). between c.args.place (option_map (formed_expr_list k) o)) (sym c.in-Some.is) (c.in_ok-parenthesized-in-Some.ensures k)
+returns-in_ok-parenthesized-in-Some c =
+    λ k. by (inside_list k) (λ
+    (o : Option ExprList). between c.args.place (option_map (formed_expr_list k) o))
+    (sym c.in-Some.is) (c.in_ok-parenthesized-in-Some.ensures k)

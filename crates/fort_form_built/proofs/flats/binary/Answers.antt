@@ -9,5 +9,10 @@ use Rattle.fort_form_built.proofs.Splitting.{as_many}
 use Rattle.fort_form_built.proofs.flats.binary.Goals as goal
 
 pub returns : goal.returns
-returns c = λ left right. remade (ap (λ p. a_form.Operator p c.args.op c.in_ok-sides.sides) c.first_place.ensures)
-    (of_one (λ (xs : List Form). a_form.Operator (begins xs) c.args.op xs) (as_many (left ∷ right ∷ []) c.in_ok-sides.ensures.taken c.in_ok-sides.ensures.count) refl refl)
+returns c =
+    λ left right. remade
+    (ap (λ p. a_form.Operator p c.args.op c.in_ok-sides.sides) c.first_place.ensures)
+    (of_one (λ
+    (xs : List Form). a_form.Operator (begins xs) c.args.op xs)
+    (as_many (left ∷ right ∷ []) c.in_ok-sides.ensures.taken c.in_ok-sides.ensures.count)
+    refl refl)

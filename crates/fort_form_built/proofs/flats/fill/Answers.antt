@@ -8,5 +8,8 @@ use Rattle.fort_form_built.proofs.Giving.{of_two, one}
 use Rattle.fort_form_built.proofs.flats.fill.Goals as goal
 
 pub returns : goal.returns
-returns g c = λ size value. of_two (λ (s v : Form). a_form.Fill c.args.place c.in_ok-ty.ty s v) (one size c.in_ok-size.ensures) (one value c.in_ok-value.ensures) refl
+returns g c =
+    λ size value. of_two (λ
+    (s v : Form). a_form.Fill c.args.place c.in_ok-ty.ty s v) (one size c.in_ok-size.ensures)
+    (one value c.in_ok-value.ensures) refl
     (ap (λ (t : Ty). a_form.Fill c.args.place t size value) (sym c.in_ok-ty.ensures))

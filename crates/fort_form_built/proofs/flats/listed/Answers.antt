@@ -14,10 +14,20 @@ use Rattle.fort_form_built.proofs.Splitting.{as_many}
 use Rattle.fort_form_built.proofs.flats.listed.Goals as goal
 
 pub returns-in-None : goal.returns-in-None
-returns-in-None c = λ k. by (inside_list k) (λ (o : Option ExprList). arguments_of (option_map (formed_expr_list k) o)) (sym c.in-None.is) (nothing c.new.ensures)
+returns-in-None c =
+    λ k. by (inside_list k) (λ
+    (o : Option ExprList). arguments_of (option_map (formed_expr_list k) o)) (sym c.in-None.is)
+    (nothing c.new.ensures)
 
 pub returns-in_ok-take_forms-in-Some : goal.returns-in_ok-take_forms-in-Some
-returns-in_ok-take_forms-in-Some c = λ k. by (inside_list k) (λ (o : Option ExprList). arguments_of (option_map (formed_expr_list k) o)) (sym c.in-Some.is)
-    (named_as (as_many (formed_expr k (out-ExprList c.in-Some.list).first ∷ map (formed_next_expr k) (out-ExprList c.in-Some.list).others) c.in_ok-take_forms-in-Some.ensures.taken
-    (let l = length-map (out-ExprList c.in-Some.list).others (formed_next_expr k) in let n = c.in_ok-take_forms-in-Some.ensures.count in let s = ap length c.as_slice.ensures in omega arith))
+returns-in_ok-take_forms-in-Some c =
+    λ k. by (inside_list k) (λ
+    (o : Option ExprList). arguments_of (option_map (formed_expr_list k) o)) (sym c.in-Some.is)
+    (named_as
+    (as_many (formed_expr k (out-ExprList c.in-Some.list).first
+    ∷ map (formed_next_expr k) (out-ExprList c.in-Some.list).others)
+    c.in_ok-take_forms-in-Some.ensures.taken
+    (let l = length-map (out-ExprList c.in-Some.list).others (formed_next_expr k)
+    in let n = c.in_ok-take_forms-in-Some.ensures.count
+    in let s = ap length c.as_slice.ensures in omega arith))
     refl (expr_list_forms k _))

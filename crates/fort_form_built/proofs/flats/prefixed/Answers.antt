@@ -9,4 +9,7 @@ use Rattle.fort_form_built.proofs.Splitting.{as_many}
 use Rattle.fort_form_built.proofs.flats.prefixed.Goals as goal
 
 pub returns : goal.returns
-returns c = λ run. of_one (λ (xs : List Form). a_form.Operator c.args.place c.args.op xs) (as_many (run ∷ []) c.in_ok-operand.ensures.taken c.in_ok-operand.ensures.count) refl refl
+returns c =
+    λ run. of_one (λ
+    (xs : List Form). a_form.Operator c.args.place c.args.op xs)
+    (as_many (run ∷ []) c.in_ok-operand.ensures.taken c.in_ok-operand.ensures.count) refl refl

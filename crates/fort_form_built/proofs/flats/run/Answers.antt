@@ -17,14 +17,22 @@ use Rattle.fort_form_built.proofs.flats.run.Goals as goal
 pub returns-then-is_empty : goal.returns-then-is_empty
 returns-then-is_empty c = λ k.
     let none : (out-Run c.args.run.now).rest ≡ [] = c.is_empty.ensures.0 c.if-is_empty.true in
-    named_as (one (formed_atom k (out-Run c.args.run.now).first) c.in_ok-take.ensures) (ap (λ (xs : List RunPart). formed_atom k (out-Run c.args.run.now).first ∷ map (formed_run_part k) xs) none)
-    (run_forms k _ ∙ ap (λ (xs : List RunPart). run_of (formed_atom k (out-Run c.args.run.now).first) (map (formed_run_part k) xs)) none)
+    named_as (one (formed_atom k (out-Run c.args.run.now).first) c.in_ok-take.ensures) (ap (λ
+    (xs : List RunPart). formed_atom k (out-Run c.args.run.now).first
+    ∷ map (formed_run_part k) xs) none)
+    (run_forms k _ ∙ ap (λ
+    (xs : List RunPart). run_of (formed_atom k (out-Run c.args.run.now).first)
+    (map (formed_run_part k) xs)) none)
 
 pub returns : goal.returns
 returns c = λ k.
-    let some : ((out-Run c.args.run.now).rest ≡ [] → ⊥) = λ e. let h = c.is_empty.ensures.1 e in let f = c.if-is_empty.false in cc in
+    let some : ((out-Run c.args.run.now).rest ≡ [] → ⊥) = λ e. let h = c.is_empty.ensures.1 e
+    in let f = c.if-is_empty.false in cc in
     remade (ap (λ p. a_form.Run p c.in_ok-elements.elements) c.first_place.ensures)
     (of_one (λ (xs : List Form). a_form.Run (begins xs) xs)
-    (as_many (formed_atom k (out-Run c.args.run.now).first ∷ map (formed_run_part k) (out-Run c.args.run.now).rest) c.in_ok-elements.ensures.taken
-    (let l = length-map (out-Run c.args.run.now).rest (formed_run_part k) in let n = c.in_ok-elements.ensures.count in let s = ap length c.as_slice.ensures in omega arith))
+    (as_many (formed_atom k (out-Run c.args.run.now).first
+    ∷ map (formed_run_part k) (out-Run c.args.run.now).rest) c.in_ok-elements.ensures.taken
+    (let l = length-map (out-Run c.args.run.now).rest (formed_run_part k)
+    in let n = c.in_ok-elements.ensures.count in let s = ap length c.as_slice.ensures
+    in omega arith))
     refl (run_forms k _ ∙ run_of_many _ (formed_run_part k) (out-Run c.args.run.now).rest some))

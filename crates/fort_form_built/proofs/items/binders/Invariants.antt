@@ -5,4 +5,6 @@ use Rattle.fort_formed.specs.Forming.{binder}
 use Rattle.fort_form_built.proofs.items.binders.Given as goal
 
 abbrev pub invariant-loop-next : goal.invariant-loop-next
-invariant-loop-next l = l.names ≡ binder l.first ∷ map (λ (next : NextName). binder next.name) (take l.next-index l.others)
+invariant-loop-next l =
+    l.names ≡ binder l.first ∷ map (λ
+    (next : NextName). binder next.name) (take l.next-index l.others)

@@ -14,8 +14,13 @@ pub returns : goal.returns
 returns g c =
     let k = g.L.Lookup.source c.args.lookup.now in
     let v = out-Variable c.args.variable.now in
-    λ e. ap (λ (p : Place). local_at p v.name c.is_mutable-mutable.result c.in_ok-ty.ty c.args.value) c.variable_place.ensures
-    ∙ ap (λ (m : Bool). local_at (var_spot v.var v.name.spot).place v.name m c.in_ok-ty.ty c.args.value) c.is_mutable-mutable.ensures
-    ∙ ap (λ (t : Ty). local_at (var_spot v.var v.name.spot).place v.name (is_some v.var || becomes v.sign) t c.args.value) c.in_ok-ty.ensures
-    ∙ ap (λ (x : Form). local_at (var_spot v.var v.name.spot).place v.name (is_some v.var || becomes v.sign) (k.written v.ty) x) e
+    λ e. ap (λ
+    (p : Place). local_at p v.name c.is_mutable-mutable.result c.in_ok-ty.ty c.args.value)
+    c.variable_place.ensures
+    ∙ ap (λ (m : Bool). local_at (var_spot v.var v.name.spot).place v.name m c.in_ok-ty.ty
+    c.args.value) c.is_mutable-mutable.ensures
+    ∙ ap (λ (t : Ty). local_at (var_spot v.var v.name.spot).place v.name (is_some v.var
+    || becomes v.sign) t c.args.value) c.in_ok-ty.ensures
+    ∙ ap (λ (x : Form). local_at (var_spot v.var v.name.spot).place v.name (is_some v.var
+    || becomes v.sign) (k.written v.ty) x) e
     ∙ sym (variable_forms k c.args.variable.now)

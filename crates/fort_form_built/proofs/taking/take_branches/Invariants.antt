@@ -4,4 +4,5 @@ use Rattle.fort_form_built.specs.Taking.{branch_forms}
 use Rattle.fort_form_built.proofs.taking.take_branches.Given as goal
 
 abbrev pub invariant-loop-at : goal.invariant-loop-at
-invariant-loop-at l = (l.fn.forms ≡ flat_map branch_forms l.taken ++ l.forms) × (length l.taken ≡ l.at)
+invariant-loop-at l = (l.fn.forms ≡ flat_map branch_forms l.taken ++ l.forms)
+    × (length l.taken ≡ l.at)

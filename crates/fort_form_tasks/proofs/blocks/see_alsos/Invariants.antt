@@ -6,4 +6,5 @@ use Rattle.fort_form_tasks.specs.Tasks.{Sees}
 use Rattle.fort_form_tasks.proofs.blocks.see_alsos.Given as goal
 
 abbrev pub invariant-loop-also : goal.invariant-loop-also
-invariant-loop-also l = (k : Source) → Sees k (map (formed_also k) (take l.also-index l.others)) l.initial.tasks l.tasks
+invariant-loop-also l = (k : Source)
+    → Sees k (map (formed_also k) (take l.also-index l.others)) l.initial.tasks l.tasks

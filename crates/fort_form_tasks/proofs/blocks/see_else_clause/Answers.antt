@@ -6,4 +6,8 @@ use Rattle.fort_form_tasks.proofs.Steps.{by, one_seen}
 use Rattle.fort_form_tasks.proofs.blocks.see_else_clause.Goals as goal
 
 pub returns-in_ok-see : goal.returns-in_ok-see
-returns-in_ok-see c = λ k. one_seen k (by k (λ (x : ElseClause). formed_expr k (out-ElseClause x).value ∷ []) c.get.ensures (c.in_ok-see.ensures k)) (ap (λ (o : Option ElseClause). inside_else_clause k o) c.in-Some.is)
+returns-in_ok-see c =
+    λ k. one_seen k (by k (λ
+    (x : ElseClause). formed_expr k (out-ElseClause x).value ∷ []) c.get.ensures
+    (c.in_ok-see.ensures k)) (ap (λ
+    (o : Option ElseClause). inside_else_clause k o) c.in-Some.is)

@@ -7,4 +7,8 @@ use Rattle.fort_form_tasks.proofs.Steps.{by, one_seen}
 use Rattle.fort_form_tasks.proofs.blocks.see_in_catch.Goals as goal
 
 pub returns-in_ok-see_type_clauses : goal.returns-in_ok-see_type_clauses
-returns-in_ok-see_type_clauses c = λ k. one_seen k (by k (λ (l : List TypeClause). map (type_clause_value k) l) c.as_slice.ensures (c.in_ok-see_type_clauses.ensures k)) (ap (λ (o : Option Catch). inside_catch k o) c.in-Some.is)
+returns-in_ok-see_type_clauses c =
+    λ k. one_seen k (by k (λ
+    (l : List TypeClause). map (type_clause_value k) l) c.as_slice.ensures
+    (c.in_ok-see_type_clauses.ensures k)) (ap (λ
+    (o : Option Catch). inside_catch k o) c.in-Some.is)

@@ -6,16 +6,23 @@ use Rattle.fort_form_tasks.proofs.Steps.{none_seen, one_seen}
 use Rattle.fort_form_tasks.proofs.expressions.see_in_head.Goals as goal
 
 pub returns-in-Atomic : goal.returns-in-Atomic
-returns-in-Atomic c = λ k. none_seen k (ap (λ (x : Head). head_at k (out-Head x)) c.in-Atomic.is ∙ in-Atomic k _)
+returns-in-Atomic c =
+    λ k. none_seen k (ap (λ (x : Head). head_at k (out-Head x)) c.in-Atomic.is ∙ in-Atomic k _)
 
 pub returns-in-Tryatomic : goal.returns-in-Tryatomic
-returns-in-Tryatomic c = λ k. none_seen k (ap (λ (x : Head). head_at k (out-Head x)) c.in-Tryatomic.is ∙ in-Tryatomic k _)
+returns-in-Tryatomic c =
+    λ k. none_seen k (ap (λ
+    (x : Head). head_at k (out-Head x)) c.in-Tryatomic.is ∙ in-Tryatomic k _)
 
 pub returns-in-Throw : goal.returns-in-Throw
-returns-in-Throw c = λ k. none_seen k (ap (λ (x : Head). head_at k (out-Head x)) c.in-Throw.is ∙ in-Throw k _)
+returns-in-Throw c =
+    λ k. none_seen k (ap (λ (x : Head). head_at k (out-Head x)) c.in-Throw.is ∙ in-Throw k _)
 
 pub returns-in-Fn : goal.returns-in-Fn
-returns-in-Fn c = λ k. none_seen k (ap (λ (x : Head). head_at k (out-Head x)) c.in-Fn.is ∙ in-Fn k _ _ _ _ _)
+returns-in-Fn c =
+    λ k. none_seen k (ap (λ (x : Head). head_at k (out-Head x)) c.in-Fn.is ∙ in-Fn k _ _ _ _ _)
 
 pub returns-in_ok-see_source-in-Big : goal.returns-in_ok-see_source-in-Big
-returns-in_ok-see_source-in-Big c = λ k. one_seen k (c.in_ok-see_source-in-Big.ensures k) (ap (λ (x : Head). head_at k (out-Head x)) c.in-Big.is ∙ in-Big k _ _ _ _)
+returns-in_ok-see_source-in-Big c =
+    λ k. one_seen k (c.in_ok-see_source-in-Big.ensures k) (ap (λ
+    (x : Head). head_at k (out-Head x)) c.in-Big.is ∙ in-Big k _ _ _ _)

@@ -5,4 +5,5 @@ use Rattle.fort_form_tasks.specs.Tasks.{Sees, formed_group}
 use Rattle.fort_form_tasks.proofs.units.see_groups.Given as goal
 
 abbrev pub invariant-loop-part : goal.invariant-loop-part
-invariant-loop-part l = (k : Source) → Sees k (map (formed_group k l.flat) (take l.part-index l.parts)) l.initial.tasks l.tasks
+invariant-loop-part l = (k : Source)
+    → Sees k (map (formed_group k l.flat) (take l.part-index l.parts)) l.initial.tasks l.tasks

@@ -6,4 +6,5 @@ use Rattle.fort_form_tasks.specs.Tasks.{Sees}
 use Rattle.fort_form_tasks.proofs.units.see_run_parts.Given as goal
 
 abbrev pub invariant-loop-part : goal.invariant-loop-part
-invariant-loop-part l = (k : Source) → Sees k (map (formed_run_part k) (take l.part-index l.parts)) l.initial.tasks l.tasks
+invariant-loop-part l = (k : Source)
+    → Sees k (map (formed_run_part k) (take l.part-index l.parts)) l.initial.tasks l.tasks

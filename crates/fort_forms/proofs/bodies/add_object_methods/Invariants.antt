@@ -5,4 +5,6 @@ use Rattle.fort_forms.specs.Reading.{tables}
 use Rattle.fort_forms.proofs.bodies.add_object_methods.Given as goal
 
 abbrev pub invariant-loop-entry : goal.invariant-loop-entry
-invariant-loop-entry l = l.made ≡ l.fn.made ++ flat_map (object_body (tables l.lookup) l.id) (take l.entry-index l.members)
+invariant-loop-entry l =
+    l.made ≡ l.fn.made
+    ++ flat_map (object_body (tables l.lookup) l.id) (take l.entry-index l.members)

@@ -6,7 +6,10 @@ pub loop-at-init : goal.loop-at-init
 loop-at-init c = none_asked _
 
 pub loop-at-preserved : goal.loop-at-preserved
-loop-at-preserved c = one_further c.args.groups.now c.loop-at.at c.loop-at.invariant (c.if-not-goes_before.ensures refl)
+loop-at-preserved c =
+    one_further c.args.groups.now c.loop-at.at c.loop-at.invariant
+    (c.if-not-goes_before.ensures refl)
 
 pub returns : goal.returns
-returns c = λ t. all_in_order c.args.groups.now c.loop-at.at c.loop-at.invariant c.loop-at-test.false
+returns c =
+    λ t. all_in_order c.args.groups.now c.loop-at.at c.loop-at.invariant c.loop-at-test.false

@@ -5,4 +5,6 @@ use Rattle.fort_forms.specs.Reading.{tables}
 use Rattle.fort_forms.proofs.initials.add_fields.Given as goal
 
 abbrev pub invariant-loop-entry : goal.invariant-loop-entry
-invariant-loop-entry l = l.made ≡ l.fn.made ++ flat_map (entry_initial (tables l.lookup) l.id) (take l.entry-index l.members)
+invariant-loop-entry l =
+    l.made ≡ l.fn.made
+    ++ flat_map (entry_initial (tables l.lookup) l.id) (take l.entry-index l.members)

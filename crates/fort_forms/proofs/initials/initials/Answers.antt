@@ -5,4 +5,7 @@ use Rattle.fort_forms.specs.Reading.{tables}
 use Rattle.fort_forms.proofs.initials.initials.Goals as goal
 
 pub loop-declared-preserved : goal.loop-declared-preserved
-loop-declared-preserved c = flat_more (declared_initials (tables c.args.lookup.now)) c.args.declarations.now c.loop-declared.declared-index c.declared-item.result [] _ _ c.loop-declared-test.true c.declared-item.is c.loop-declared.invariant c.in_ok-add_initials.ensures
+loop-declared-preserved c =
+    flat_more (declared_initials (tables c.args.lookup.now)) c.args.declarations.now
+    c.loop-declared.declared-index c.declared-item.result [] _ _ c.loop-declared-test.true
+    c.declared-item.is c.loop-declared.invariant c.in_ok-add_initials.ensures

@@ -5,4 +5,5 @@ use Rattle.fort_forms.specs.Reading.{tables}
 use Rattle.fort_forms.proofs.initials.initials.Given as goal
 
 abbrev pub invariant-loop-declared : goal.invariant-loop-declared
-invariant-loop-declared l = l.made ≡ flat_map (declared_initials (tables l.lookup)) (take l.declared-index l.declarations)
+invariant-loop-declared l =
+    l.made ≡ flat_map (declared_initials (tables l.lookup)) (take l.declared-index l.declarations)

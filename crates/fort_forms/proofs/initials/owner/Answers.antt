@@ -6,4 +6,6 @@ use Rattle.fort_forms.proofs.initials.owner.Goals as goal
 pub returns : goal.returns
 returns c =
     let list = all_types c.args.lookup.now.names.now c.args.lookup.now.heads.now in
-    c.in_ok-id.ensures ∙ ap type_id (c.number-found.ensures list c.args.lookup.now.holds c.args.lookup.now.sized ∙ ap (number_of list) c.spelled-spelling.ensures)
+    c.in_ok-id.ensures
+    ∙ ap type_id (c.number-found.ensures list c.args.lookup.now.holds c.args.lookup.now.sized
+    ∙ ap (number_of list) c.spelled-spelling.ensures)

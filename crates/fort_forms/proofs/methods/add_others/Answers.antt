@@ -4,4 +4,7 @@ use Rattle.fort_forms.specs.Reading.{tables}
 use Rattle.fort_forms.proofs.methods.add_others.Goals as goal
 
 pub loop-next-preserved : goal.loop-next-preserved
-loop-next-preserved c = flat_more (next_named_parameter (tables c.args.lookup.now)) c.args.others.now c.loop-next.next-index c.next-item.result c.args.made.now _ _ c.loop-next-test.true c.next-item.is c.loop-next.invariant c.in_ok-add_named.ensures
+loop-next-preserved c =
+    flat_more (next_named_parameter (tables c.args.lookup.now)) c.args.others.now
+    c.loop-next.next-index c.next-item.result c.args.made.now _ _ c.loop-next-test.true
+    c.next-item.is c.loop-next.invariant c.in_ok-add_named.ensures

@@ -5,4 +5,6 @@ use Rattle.fort_forms.specs.Reading.{tables}
 use Rattle.fort_forms.proofs.methods.add_others.Given as goal
 
 abbrev pub invariant-loop-next : goal.invariant-loop-next
-invariant-loop-next l = l.made ≡ l.fn.made ++ flat_map (next_named_parameter (tables l.lookup)) (take l.next-index l.others)
+invariant-loop-next l =
+    l.made ≡ l.fn.made
+    ++ flat_map (next_named_parameter (tables l.lookup)) (take l.next-index l.others)

@@ -13,7 +13,9 @@ loop-turn-init g c =
 pub loop-turn-preserved : goal.loop-turn-preserved
 loop-turn-preserved g c =
     let k = g.L.Lookup.source c.args.lookup.now in
-    c.in_ok-step-in-Some.ensures (formed_expr k c.args.expr.now ∷ []) (subst (λ (tasks : List Task). Leads k tasks c.loop-turn.forms (formed_expr k c.args.expr.now ∷ [])) c.in-Some.ensures c.loop-turn.invariant)
+    c.in_ok-step-in-Some.ensures (formed_expr k c.args.expr.now ∷ []) (subst (λ
+    (tasks : List Task). Leads k tasks c.loop-turn.forms
+    (formed_expr k c.args.expr.now ∷ [])) c.in-Some.ensures c.loop-turn.invariant)
 
 pub returns-in-None : goal.returns-in-None
 returns-in-None g c =

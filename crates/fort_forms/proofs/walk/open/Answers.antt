@@ -2,4 +2,6 @@ use Rattle.fort_forms.proofs.Walking.{opened}
 use Rattle.fort_forms.proofs.walk.open.Goals as goal
 
 pub returns : goal.returns
-returns g c = opened (g.L.Lookup.source c.args.lookup.now) c.args.part c.in_ok-push.ensures c.in_ok-see_in.ensures
+returns g c =
+    opened (g.L.Lookup.source c.args.lookup.now) c.args.part c.in_ok-push.ensures
+    c.in_ok-see_in.ensures

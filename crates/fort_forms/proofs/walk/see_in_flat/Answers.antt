@@ -6,9 +6,15 @@ use Rattle.fort_forms.proofs.walk.see_in_flat.Goals as goal
 pub returns-in_ok-see-in-Some : goal.returns-in_ok-see-in-Some
 returns-in_ok-see-in-Some g c =
     let k = g.L.Lookup.source c.args.lookup.now in
-    one_seen k (c.in_ok-see-in-Some.ensures k) (ap (λ u. u ∷ []) (flat_grouped k c.args.flat.now c.unit_place.result c.in-Some.grouped.now (c.unit_place.ensures k) (sym c.in-Some.ensures)))
+    one_seen k (c.in_ok-see-in-Some.ensures k)
+    (ap (λ u. u ∷ [])
+    (flat_grouped k c.args.flat.now c.unit_place.result c.in-Some.grouped.now
+    (c.unit_place.ensures k) (sym c.in-Some.ensures)))
 
 pub returns-in_ok-see-in-None : goal.returns-in_ok-see-in-None
 returns-in_ok-see-in-None g c =
     let k = g.L.Lookup.source c.args.lookup.now in
-    one_seen k (c.in_ok-see-in-None.ensures k) (ap (λ u. u ∷ []) (flat_alone k c.args.flat.now c.unit_place.result (c.unit_place.ensures k) (sym c.in-None.ensures)))
+    one_seen k (c.in_ok-see-in-None.ensures k)
+    (ap (λ u. u ∷ [])
+    (flat_alone k c.args.flat.now c.unit_place.result (c.unit_place.ensures k)
+    (sym c.in-None.ensures)))

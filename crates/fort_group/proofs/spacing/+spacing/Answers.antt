@@ -12,10 +12,18 @@ of_chain-loop-part-preserved t c =
     let p = c.spacing_of-next.result in
     let b = c.is_loose_before-is_loose.result in
     record {
-      all_good = all_good_on _ f _ l.part-index _ p l.good (omega arith) c.part-item.is c.spacing_of-next.ensures v.all_good;
-      loose_parts = loose_parts_on _ f _ l.part-index _ p l.loose_part (omega arith) c.part-item.is c.spacing_of-next.ensures v.loose_parts;
-      loose_ones = loose_on _ f _ l.part-index _ p l.loose b (omega arith) c.part-item.is c.spacing_of-next.ensures c.is_loose_before-is_loose.ensures v.loose_ones;
-      tight_ones = tight_on _ f _ l.part-index _ p l.tight b (omega arith) c.part-item.is c.spacing_of-next.ensures c.is_loose_before-is_loose.ensures v.tight_ones;
+      all_good =
+          all_good_on _ f _ l.part-index _ p l.good (omega arith) c.part-item.is
+          c.spacing_of-next.ensures v.all_good;
+      loose_parts =
+          loose_parts_on _ f _ l.part-index _ p l.loose_part (omega arith) c.part-item.is
+          c.spacing_of-next.ensures v.loose_parts;
+      loose_ones =
+          loose_on _ f _ l.part-index _ p l.loose b (omega arith) c.part-item.is
+          c.spacing_of-next.ensures c.is_loose_before-is_loose.ensures v.loose_ones;
+      tight_ones =
+          tight_on _ f _ l.part-index _ p l.tight b (omega arith) c.part-item.is
+          c.spacing_of-next.ensures c.is_loose_before-is_loose.ensures v.tight_ones;
     }
 
 pub spacing_of-returns-in-Chain : goal.spacing_of-returns-in-Chain

@@ -6,4 +6,7 @@ use Rattle.fort_hier.specs.Seen.{HoldsSeen}
 use Rattle.fort_hier.proofs.duplicates.add_functions.Given as goal
 
 abbrev pub invariant-loop-number : goal.invariant-loop-number
-invariant-loop-number l = HoldsSeen (map type_called type_spellings ++ map function_called (take l.number function_spellings)) l.seen
+invariant-loop-number l =
+    HoldsSeen
+    (map type_called type_spellings ++ map function_called (take l.number function_spellings))
+    l.seen

@@ -4,7 +4,10 @@ use Rattle.fort_hier.proofs.LowestLaws.{found, passed}
 use Rattle.fort_hier.proofs.lowest.lowest_broken.Goals as goal
 
 pub returns-in-Some : goal.returns-in-Some
-returns-in-Some c = found c.args.types.now c.args.places.now 403 sentence.Cyclic _ refl c.in-Some.ensures
+returns-in-Some c =
+    found c.args.types.now c.args.places.now 403 sentence.Cyclic _ refl c.in-Some.ensures
 
 pub returns-in-None : goal.returns-in-None
-returns-in-None c = passed c.args.types.now c.args.places.now 403 sentence.Cyclic c.from_404.result refl c.in-None.ensures c.from_404.ensures
+returns-in-None c =
+    passed c.args.types.now c.args.places.now 403 sentence.Cyclic c.from_404.result refl
+    c.in-None.ensures c.from_404.ensures

@@ -5,4 +5,5 @@ use Rattle.fort_hier.specs.Numbers.{HoldsNumbers, declared_by}
 use Rattle.fort_hier.proofs.types.types_in.Given as goal
 
 abbrev pub invariant-loop-i : goal.invariant-loop-i
-invariant-loop-i l = (list : List Spelling) → HoldsNumbers list l.numbers → length list ≡ l.size → l.types ≡ built_in_declared ++ map (declared_by list l.names) (take l.i l.heads)
+invariant-loop-i l = (list : List Spelling) → HoldsNumbers list l.numbers → length list ≡ l.size
+    → l.types ≡ built_in_declared ++ map (declared_by list l.names) (take l.i l.heads)

@@ -7,4 +7,5 @@ use Rattle.fort_hier.proofs.NumberLaws.{UnknownAt}
 use Rattle.fort_hier.proofs.unknown.first_unknown.Given as goal
 
 abbrev pub invariant-loop-name : goal.invariant-loop-name
-invariant-loop-name l = (list : List Spelling) → HoldsNumbers list l.numbers → IsFirst (Among (UnknownAt list l.names l.mentioned) l.name-index) l.best
+invariant-loop-name l = (list : List Spelling) → HoldsNumbers list l.numbers
+    → IsFirst (Among (UnknownAt list l.names l.mentioned) l.name-index) l.best

@@ -6,4 +6,5 @@ use Rattle.fort_hier.specs.Walks.{ExcludesAbove}
 use Rattle.fort_hier.proofs.walks.any_excluding.Given as goal
 
 abbrev pub invariant-loop-t : goal.invariant-loop-t
-invariant-loop-t l = (k : ℕ) (d : DeclaredType) → k < l.t → slice_get l.types k ≡ Some d → IsTrue (is_set l.rows l.a k) × ExcludesAbove l.rows d.excludes l.a (length l.types) → ⊥
+invariant-loop-t l = (k : ℕ) (d : DeclaredType) → k < l.t → slice_get l.types k ≡ Some d
+    → IsTrue (is_set l.rows l.a k) × ExcludesAbove l.rows d.excludes l.a (length l.types) → ⊥

@@ -11,5 +11,9 @@ unfolding run
 returns-in-Ends c =
     let k = facts c.args.known.now in
     let before = c.loop-count in
-    let t = subst (λ (turned : Turned). IsTurn k before.rest before.first turned) c.in-Ends.is c.in_ok-outcome.ensures in
-    sym (before.invariant ∙ ended_there k (length c.args.parts) before.count before.first before.rest c.in-Ends.outcome (omega arith) t)
+    let t = subst (λ
+    (turned : Turned). IsTurn k before.rest before.first turned) c.in-Ends.is
+    c.in_ok-outcome.ensures in
+    sym (before.invariant
+    ∙ ended_there k (length c.args.parts) before.count before.first before.rest
+    c.in-Ends.outcome (omega arith) t)

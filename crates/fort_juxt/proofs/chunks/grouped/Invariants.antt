@@ -7,7 +7,8 @@ use Rattle.fort_juxt.proofs.chunks.grouped.Given as goal
 abbrev pub invariant-loop-at : goal.invariant-loop-at
 invariant-loop-at l = record {
   within : l.at ≤ length l.elements;
-  joins : joined_left (groups_from l.elements 0) ≡ joined_left (l.grouping ∷ groups_from l.elements l.at);
+  joins : joined_left (groups_from l.elements 0)
+      ≡ joined_left (l.grouping ∷ groups_from l.elements l.at);
 }
 
 abbrev pub decreases-loop-at : goal.decreases-loop-at

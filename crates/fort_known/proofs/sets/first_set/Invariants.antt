@@ -5,7 +5,10 @@ use Rattle.fort_known.proofs.Searched.{IsPlace, first_from, left_from}
 use Rattle.fort_known.proofs.sets.first_set.Given as goal
 
 abbrev pub invariant-loop-next : goal.invariant-loop-next
-invariant-loop-next l = (first_set (is_set_of l.name l.dotted l.width) l.sets ≡ first_from (is_set_of l.name l.dotted l.width) l.sets l.next) × IsPlace l.name l.sets 0 l.next
+invariant-loop-next l =
+    (first_set (is_set_of l.name l.dotted l.width) l.sets
+    ≡ first_from (is_set_of l.name l.dotted l.width) l.sets l.next)
+    × IsPlace l.name l.sets 0 l.next
 
 abbrev pub decreases-loop-next : goal.decreases-loop-next
 decreases-loop-next l = left_from l.sets l.next

@@ -4,8 +4,14 @@ use Rattle.fort_known.proofs.Searched.{type_placed, type_apart}
 use Rattle.fort_known.proofs.standing.is_type.Goals as goal
 
 pub returns-then-is_some : goal.returns-then-is_some
-returns-then-is_some c = c.if-is_some.true ∙ type_placed c.args.index.now.types.now c.args.spelling.now _ c.type_named.ensures c.if-is_some.ensures
+returns-then-is_some c =
+    c.if-is_some.true
+    ∙ type_placed c.args.index.now.types.now c.args.spelling.now _ c.type_named.ensures
+    c.if-is_some.ensures
 
 pub returns-else-is_some : goal.returns-else-is_some
 unfolding any_spelling
-returns-else-is_some c = c.eq.ensures ∙ type_apart c.args.index.now.types.now c.args.spelling.now _ c.type_named.ensures c.if-is_some.ensures
+returns-else-is_some c =
+    c.eq.ensures
+    ∙ type_apart c.args.index.now.types.now c.args.spelling.now _ c.type_named.ensures
+    c.if-is_some.ensures

@@ -4,4 +4,6 @@ use Rattle.fort_lex.specs.Meanings.{said_behind, said}
 use Rattle.fort_lex.proofs.builder.said.Given as goal
 
 abbrev pub invariant-loop-i : goal.invariant-loop-i
-invariant-loop-i l = string_bytes l.text ++ encode_utf8_all (said_behind l.escaped (drop l.i l.word)) ≡ encode_utf8_all (said l.word)
+invariant-loop-i l =
+    string_bytes l.text ++ encode_utf8_all (said_behind l.escaped (drop l.i l.word))
+    ≡ encode_utf8_all (said l.word)

@@ -12,4 +12,5 @@ text_tokens-requires-clause-scalars c =
     (scalars-chars c.in-Ok.text.now (subst IsUtf8 (sym cases.0) cases.1))
 
 pub returns-in_ok-all-in-Ok-clause-numbers : goal.returns-in_ok-all-in-Ok-clause-numbers
-returns-in_ok-all-in-Ok-clause-numbers c = text_numbers c.deref.result.now c.text_tokens.result c.text_tokens.ensures
+returns-in_ok-all-in-Ok-clause-numbers c =
+    text_numbers c.deref.result.now c.text_tokens.result c.text_tokens.ensures

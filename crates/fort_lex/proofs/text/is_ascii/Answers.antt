@@ -8,4 +8,7 @@ other_length v w n true e = absurd (n (ap length (same_is v w e)))
 other_length v w n false e = refl
 
 pub returns-then-bytes-word : goal.returns-then-bytes-word
-returns-then-bytes-word c = other_length c.args.text.now c.args.word.now (λ e. c.if-bytes-word.true (ap length c.as_bytes-bytes.ensures.value ∙ e)) (same c.args.text.now c.args.word.now) refl
+returns-then-bytes-word c =
+    other_length c.args.text.now c.args.word.now
+    (λ e. c.if-bytes-word.true (ap length c.as_bytes-bytes.ensures.value ∙ e))
+    (same c.args.text.now c.args.word.now) refl

@@ -5,4 +5,6 @@ use Rattle.fort_limits.proofs.Least.{answers_all}
 use Rattle.fort_limits.proofs.crowded.first_crowded.Goals as goal
 
 pub returns : goal.returns
-returns c = answers_all c.args.component.now _ _ _ (ap (λ n. option_to_list n.late) c.declarations.ensures ∙ late_is _ _) (ap (λ n. option_to_list n.late) c.types.ensures ∙ late_is _ _) (cc)
+returns c =
+    answers_all c.args.component.now _ _ _ (ap (λ n. option_to_list n.late) c.declarations.ensures
+    ∙ late_is _ _) (ap (λ n. option_to_list n.late) c.types.ensures ∙ late_is _ _) (cc)

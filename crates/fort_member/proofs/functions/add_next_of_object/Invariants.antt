@@ -5,4 +5,6 @@ use Rattle.fort_member.specs.Declarations.{next_object_parameter_type}
 use Rattle.fort_member.proofs.functions.add_next_of_object.Given as goal
 
 abbrev pub invariant-loop-next : goal.invariant-loop-next
-invariant-loop-next l = (list : List Spelling) → HoldsNumbers list l.numbers → length list ≡ l.size → l.types ≡ l.initial.types ++ map (next_object_parameter_type list l.names) (take l.next-index l.others)
+invariant-loop-next l = (list : List Spelling) → HoldsNumbers list l.numbers → length list ≡ l.size
+    → l.types
+    ≡ l.initial.types ++ map (next_object_parameter_type list l.names) (take l.next-index l.others)

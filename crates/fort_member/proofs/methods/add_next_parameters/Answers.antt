@@ -4,5 +4,9 @@ use Rattle.fort_field.proofs.Walking.{map_more}
 use Rattle.fort_member.proofs.methods.add_next_parameters.Goals as goal
 
 pub loop-next-preserved : goal.loop-next-preserved
-loop-next-preserved c = λ list h e. map_more (next_method_parameter_type list c.args.names.now (a_type.Named c.args.id)) c.args.others.now c.loop-next.next-index c.next-item.result _ c.args.types.now _ _ c.loop-next-test.true c.next-item.is
-    (c.in_ok-type_of_parameter.ensures list h e) (c.loop-next.invariant list h e) c.in_ok-push.ensures.ok
+loop-next-preserved c =
+    λ list h e. map_more (next_method_parameter_type list c.args.names.now (a_type.Named c.args.id))
+    c.args.others.now c.loop-next.next-index c.next-item.result _ c.args.types.now _ _
+    c.loop-next-test.true c.next-item.is
+    (c.in_ok-type_of_parameter.ensures list h e) (c.loop-next.invariant list h e)
+    c.in_ok-push.ensures.ok

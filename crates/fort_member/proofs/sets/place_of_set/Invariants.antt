@@ -5,4 +5,5 @@ use Rattle.fort_member.specs.Sets.{same_key, key_of, set_key}
 use Rattle.fort_member.proofs.sets.place_of_set.Given as goal
 
 abbrev pub invariant-loop-at : goal.invariant-loop-at
-invariant-loop-at l = (i : ℕ) (s : MemberSet) → i < l.at → slice_get l.sets i ≡ Some s → same_key (set_key s) (key_of l.entry) ≡ true → ⊥
+invariant-loop-at l = (i : ℕ) (s : MemberSet) → i < l.at → slice_get l.sets i ≡ Some s
+    → same_key (set_key s) (key_of l.entry) ≡ true → ⊥

@@ -6,4 +6,7 @@ use Rattle.fort_field.specs.Own.{declared_variables}
 use Rattle.fort_member.proofs.variables.variables_in.Given as goal
 
 abbrev pub invariant-loop-declared : goal.invariant-loop-declared
-invariant-loop-declared l = (list : List Spelling) → HoldsNumbers list l.numbers → length list ≡ l.size → l.variables ≡ flat_map (declared_variables list l.names) (take l.declared-index l.declarations)
+invariant-loop-declared l = (list : List Spelling) → HoldsNumbers list l.numbers
+    → length list ≡ l.size
+    → l.variables
+    ≡ flat_map (declared_variables list l.names) (take l.declared-index l.declarations)

@@ -7,5 +7,6 @@ use Rattle.fort_moves.proofs.turn.moved.Given as goal
 
 abbrev pub invariant-loop-turn : goal.invariant-loop-turn
 invariant-loop-turn l =
-    Stands l.clock (rebuilt l.clock (frames l.fn.state.place.stack) (term_at l.fn.state.«at»)) l.state
+    Stands l.clock (rebuilt l.clock (frames l.fn.state.place.stack) (term_at l.fn.state.«at»))
+    l.state
     × ((met : List Term) → SweptTo met l.fn.state → SweptTo met l.state)

@@ -7,4 +7,6 @@ pub loop-set-init : goal.loop-set-init
 loop-set-init c = sets_none c.args.table.now c.args.sets.now
 
 pub loop-set-preserved : goal.loop-set-preserved
-loop-set-preserved c = sets_more _ _ _ _ _ _ _ (at_item _ _ _ _ refl c.loop-set-test.true c.set-item.is) c.in_ok-next.ensures c.sooner-best.ensures c.loop-set.invariant
+loop-set-preserved c =
+    sets_more _ _ _ _ _ _ _ (at_item _ _ _ _ refl c.loop-set-test.true c.set-item.is)
+    c.in_ok-next.ensures c.sooner-best.ensures c.loop-set.invariant

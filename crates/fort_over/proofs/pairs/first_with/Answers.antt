@@ -8,6 +8,8 @@ loop-earlier-init c = row_none c.args.table.now c.args.set.now c.args.later
 
 pub loop-earlier-preserved : goal.loop-earlier-preserved
 loop-earlier-preserved c = row_more _ _ _ _ _ _ _ _ _
-    (at_item _ _ _ _ c.as_slice-members.ensures (let e = ap length c.as_slice-members.ensures in omega arith) c.index-members-earlier.is)
-    (at_item _ _ _ _ c.as_slice-members.ensures (let e = ap length c.as_slice-members.ensures in omega arith) c.index-members-later.is)
+    (at_item _ _ _ _ c.as_slice-members.ensures (let e = ap length c.as_slice-members.ensures
+    in omega arith) c.index-members-earlier.is)
+    (at_item _ _ _ _ c.as_slice-members.ensures (let e = ap length c.as_slice-members.ensures
+    in omega arith) c.index-members-later.is)
     c.loop-earlier-test.true c.in_ok-next.ensures c.sooner-best.ensures c.loop-earlier.invariant

@@ -4,4 +4,6 @@ use Rattle.fort_over.proofs.PlaceLaws.{declaration_owned}
 use Rattle.fort_over.proofs.uncovered.first_of.Goals as goal
 
 pub returns-in-Some : goal.returns-in-Some
-returns-in-Some c = let is : c.args.member.now.kind ≡ a_kind.Abstract = search rules in declaration_owned _ _ _ _ _ _ _ is c.in-Some.is c.first_below.ensures
+returns-in-Some c =
+    let is : c.args.member.now.kind ≡ a_kind.Abstract = search rules
+    in declaration_owned _ _ _ _ _ _ _ is c.in-Some.is c.first_below.ensures

@@ -5,4 +5,8 @@ use Rattle.fort_over.specs.Standing.{standing}
 use Rattle.fort_over.proofs.uncovered.object_place.Goals as goal
 
 pub returns-in-None : goal.returns-in-None
-returns-in-None c = c.standing-in-None.ensures ∙ ap standing (ap (λ (z : Option (Option Place)). unwrap_or z None) c.in-None.ensures.value ∙ unwrap_or-slice_get c.args.members.now.places c.args.ty.0 None)
+returns-in-None c =
+    c.standing-in-None.ensures
+    ∙ ap standing (ap (λ
+    (z : Option (Option Place)). unwrap_or z None) c.in-None.ensures.value
+    ∙ unwrap_or-slice_get c.args.members.now.places c.args.ty.0 None)

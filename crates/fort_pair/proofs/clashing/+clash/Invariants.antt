@@ -4,4 +4,8 @@ use Rattle.fort_pair.proofs.Places.{NoneTo}
 use Rattle.fort_pair.proofs.clashing.+clash.Given as goal
 
 abbrev pub invariant-parts_clash-loop-i : goal.invariant-parts_clash-loop-i
-invariant-parts_clash-loop-i l = record { long : length l.left ≡ length l.right; none : NoneTo l.table ArrowsClash l.left l.right l.i }
+invariant-parts_clash-loop-i l =
+    record {
+      long : length l.left ≡ length l.right;
+      none : NoneTo l.table ArrowsClash l.left l.right l.i;
+    }

@@ -7,4 +7,6 @@ pub returns-in-len1-up : goal.returns-in-len1-up
 returns-in-len1-up c =
     c.is_some.ensures
     ∙ (ended_is (out-TypeClause c.last-item.result).semicolon
-    ∙ sym (last_of (λ (x : TypeClause). (out-TypeClause x).semicolon) c.args.clauses.now c.last-item.result c.in-len1-up.len_at_least c.last-item.is))
+    ∙ sym (last_of (λ
+    (x : TypeClause). (out-TypeClause x).semicolon) c.args.clauses.now c.last-item.result
+    c.in-len1-up.len_at_least c.last-item.is))

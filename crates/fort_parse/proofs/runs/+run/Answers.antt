@@ -7,8 +7,12 @@ deeper f n some = let e : n ≡ suc (n - 1) = omega arith in ap f e
 
 pub returns-then-depth-eq0 : goal.returns-then-depth-eq0
 unfolding run_at
-returns-then-depth-eq0 t c _ = let none : c.args.depth ≡ 0 = omega arith in ap (λ n. (run_at c.args.names.now n c.args.blocks).parser.run c.args.tokens.now) none
+returns-then-depth-eq0 t c _ =
+    let none : c.args.depth ≡ 0 = omega arith
+    in ap (λ n. (run_at c.args.names.now n c.args.blocks).parser.run c.args.tokens.now) none
 
 pub returns : goal.returns
 unfolding run_at
-returns t c = rw (deeper (λ n. (run_at c.args.names.now n c.args.blocks).parser.run c.args.tokens.now) c.args.depth (omega arith)) c.run_level.ensures
+returns t c =
+    rw (deeper (λ n. (run_at c.args.names.now n c.args.blocks).parser.run c.args.tokens.now)
+    c.args.depth (omega arith)) c.run_level.ensures

@@ -16,14 +16,20 @@ use Rattle.fort_parts.proofs.tests.suited.Goals as goal
 abbrev fitting : TypedForm → Option Fault → Valued
 fitting typed found = record { node = Some typed; found = found }
 
-is_wanted : (k : Facts) (want : Want) (place : Place) (typed : TypedForm) (found : Option Fault) (ty : Ty) (fits : Bool) (rule : Rule) (r : Valued)
-    → ty ≡ type_of typed → fits ≡ suits k want ty → rule ≡ rule_of want → r ≡ cond fits (fitting typed found) (no_node (breaks rule place found))
+is_wanted : (k : Facts) (want : Want) (place : Place) (typed : TypedForm) (found : Option Fault)
+    (ty : Ty) (fits : Bool) (rule : Rule) (r : Valued)
+    → ty ≡ type_of typed → fits ≡ suits k want ty → rule ≡ rule_of want
+    → r ≡ cond fits (fitting typed found) (no_node (breaks rule place found))
     → r ≡ as_wanted k want place (Some typed) found
 is_wanted k want place typed found ty fits rule r t s u e =
-    e ∙ (ap (λ (f : Bool). cond f (fitting typed found) (no_node (breaks rule place found))) (s ∙ ap (suits k want) t)
-    ∙ ap (λ (q : Rule). cond (suits k want (type_of typed)) (fitting typed found) (no_node (breaks q place found))) u)
+    e ∙ (ap (λ
+    (f : Bool). cond f (fitting typed found) (no_node (breaks rule place found))) (s
+    ∙ ap (suits k want) t)
+    ∙ ap (λ (q : Rule). cond (suits k want (type_of typed)) (fitting typed found)
+    (no_node (breaks q place found))) u)
 
 pub returns : goal.returns
 returns c =
-    is_wanted (facts c.args.known.now) c.args.want c.args.place c.args.typed c.args.found c.type_of.result.now c.suits-fits.result c.rule_of.result c.if_suited.result
+    is_wanted (facts c.args.known.now) c.args.want c.args.place c.args.typed c.args.found
+    c.type_of.result.now c.suits-fits.result c.rule_of.result c.if_suited.result
     c.type_of.ensures c.suits-fits.ensures c.rule_of.ensures c.if_suited.ensures

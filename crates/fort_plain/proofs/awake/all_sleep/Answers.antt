@@ -8,14 +8,22 @@ use Rattle.fort_plain.specs.Paths.{AllSleep}
 use Rattle.fort_plain.proofs.awake.all_sleep.Goals as goal
 
 pub whole_term-requires-clause-is_open : goal.whole_term-requires-clause-is_open
-whole_term-requires-clause-is_open c = subst (λ (t : Term). standing t ≡ open_yet) (sym c.in_ok-share-2.ensures) c.requires.is_open
+whole_term-requires-clause-is_open c =
+    subst (λ (t : Term). standing t ≡ open_yet) (sym c.in_ok-share-2.ensures) c.requires.is_open
 
 pub whole_term-requires-clause-reached : goal.whole_term-requires-clause-reached
 whole_term-requires-clause-reached c =
     rw c.clock.ensures
-    (subst (λ (p : Place). Reaches c.args.course.now.clock (frames p.stack) c.in_ok-share-2.field-0) (sym c.in_ok-share.ensures) (subst (λ (t : Term). Reaches c.args.course.now.clock (frames c.args.place.now.stack) t) (sym c.in_ok-share-2.ensures) c.requires.reached))
+    (subst (λ
+    (p : Place). Reaches c.args.course.now.clock (frames p.stack) c.in_ok-share-2.field-0)
+    (sym c.in_ok-share.ensures) (subst (λ
+    (t : Term). Reaches c.args.course.now.clock (frames c.args.place.now.stack) t)
+    (sym c.in_ok-share-2.ensures) c.requires.reached))
 
 pub returns : goal.returns
 returns c =
-    subst (λ (t : Term). IfOk c.sweep.result (AllSleep (seen (levels_of c.args.course.now.layers)) t))
-    ((rw c.clock.ensures at c.in_ok-term.ensures) ∙ (λ i. rebuilt c.args.course.now.clock (frames (c.in_ok-share.ensures i).stack) (c.in_ok-share-2.ensures i))) c.sweep.ensures
+    subst (λ (t : Term). IfOk c.sweep.result
+    (AllSleep (seen (levels_of c.args.course.now.layers)) t))
+    ((rw c.clock.ensures at c.in_ok-term.ensures)
+    ∙ (λ i. rebuilt c.args.course.now.clock (frames (c.in_ok-share.ensures i).stack)
+    (c.in_ok-share-2.ensures i))) c.sweep.ensures

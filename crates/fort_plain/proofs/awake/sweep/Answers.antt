@@ -9,21 +9,55 @@ use Rattle.fort_plain.proofs.awake.sweep.Goals as goal
 use Rattle.fort_plain.proofs.awake.sweep.Goals.{in-Tries+else-not-sleeps, in-Groups+in_ok-group-in-Groups+in_ok-form-in-Groups}
 
 pub loop-turn-init : goal.loop-turn-init
-loop-turn-init c = from_left (seen (levels_of c.args.course.now.layers)) c.args.course.now.clock c.args.term c.root-place.result c.root-place.ensures
+loop-turn-init c =
+    from_left (seen (levels_of c.args.course.now.layers)) c.args.course.now.clock c.args.term
+    c.root-place.result c.root-place.ensures
 
 pub returns-in-Steps : goal.returns-in-Steps
-returns-in-Steps c = thread_awake (seen (levels_of c.args.course.now.layers)) c.args.course.now.clock c.args.term c.loop-turn.state c.in-Steps._place c.in-Steps._ready c.loop-turn.invariant (subst (IsStop c.args.course.now.clock (whole c.args.course.now.clock c.loop-turn.state)) c.in-Steps.is (rw c.clock.ensures at c.in_ok-_place.ensures.stops))
+returns-in-Steps c =
+    thread_awake (seen (levels_of c.args.course.now.layers)) c.args.course.now.clock c.args.term
+    c.loop-turn.state c.in-Steps._place c.in-Steps._ready c.loop-turn.invariant
+    (subst (IsStop c.args.course.now.clock (whole c.args.course.now.clock c.loop-turn.state))
+    c.in-Steps.is (rw c.clock.ensures at c.in_ok-_place.ensures.stops))
 
 pub returns-in-Ends : goal.returns-in-Ends
-returns-in-Ends c = sweep_ends (seen (levels_of c.args.course.now.layers)) c.args.course.now.clock c.args.term c.loop-turn.state c.in-Ends.«at» c.none_awake.result c.loop-turn.invariant (subst (IsStop c.args.course.now.clock (whole c.args.course.now.clock c.loop-turn.state)) c.in-Ends.is (rw c.clock.ensures at c.in_ok-_place.ensures.stops)) (subst (MissesNone c.loop-turn.state) c.in-Ends.is c.in_ok-_place.ensures.sweeps) c.none_awake.ensures
+returns-in-Ends c =
+    sweep_ends (seen (levels_of c.args.course.now.layers)) c.args.course.now.clock c.args.term
+    c.loop-turn.state c.in-Ends.«at» c.none_awake.result c.loop-turn.invariant
+    (subst (IsStop c.args.course.now.clock (whole c.args.course.now.clock c.loop-turn.state))
+    c.in-Ends.is (rw c.clock.ensures at c.in_ok-_place.ensures.stops))
+    (subst (MissesNone c.loop-turn.state) c.in-Ends.is c.in_ok-_place.ensures.sweeps)
+    c.none_awake.ensures
 
 pub returns-then-not-sleeps : goal.returns-then-not-sleeps
-returns-then-not-sleeps c = form_awake (seen (levels_of c.args.course.now.layers)) c.args.course.now.clock c.args.term c.in-Tries.form c.loop-turn.state c.in-Tries.place c.loop-turn.invariant (subst (IsStop c.args.course.now.clock (whole c.args.course.now.clock c.loop-turn.state)) c.in-Tries.is (rw c.clock.ensures at c.in_ok-_place.ensures.stops))
-    (λ k. let z : true ≡ false = sym (c.sleeps.ensures.1 (subst (Sleeps (seen (levels_of c.args.course.now.layers))) (sym c.get.ensures) k)) ∙ c.if-not-sleeps.true in cc)
+returns-then-not-sleeps c =
+    form_awake (seen (levels_of c.args.course.now.layers)) c.args.course.now.clock c.args.term
+    c.in-Tries.form c.loop-turn.state c.in-Tries.place c.loop-turn.invariant
+    (subst (IsStop c.args.course.now.clock (whole c.args.course.now.clock c.loop-turn.state))
+    c.in-Tries.is (rw c.clock.ensures at c.in_ok-_place.ensures.stops))
+    (λ k. let z : true ≡ false =
+    sym (c.sleeps.ensures.1
+    (subst (Sleeps (seen (levels_of c.args.course.now.layers))) (sym c.get.ensures) k))
+    ∙ c.if-not-sleeps.true in cc)
 
 pub loop-turn-preserved : goal.loop-turn-preserved
 loop-turn-preserved c = elim c.match-branch-2.branch [
-  | in-Tries+else-not-sleeps w ↦ rw w.state-is (past_sleeper (seen (levels_of c.args.course.now.layers)) c.args.course.now.clock c.args.term w.in-Tries.form c.loop-turn.state w.in-Tries.place c.loop-turn.invariant (subst (IsStop c.args.course.now.clock (whole c.args.course.now.clock c.loop-turn.state)) w.in-Tries.is (rw c.clock.ensures at c.in_ok-_place.ensures.stops)) (subst (MissesNone c.loop-turn.state) w.in-Tries.is c.in_ok-_place.ensures.sweeps)
-      (subst (Sleeps (seen (levels_of c.args.course.now.layers))) w.get.ensures (w.sleeps.ensures.0 w.if-not-sleeps.false)))
-  | in-Groups+in_ok-group-in-Groups+in_ok-form-in-Groups w ↦ rw w.state-is (past_group (seen (levels_of c.args.course.now.layers)) c.args.course.now.clock c.args.term w.in_ok-form-in-Groups.form w.in-Groups.parts c.loop-turn.state w.in-Groups.place c.loop-turn.invariant (subst (IsStop c.args.course.now.clock (whole c.args.course.now.clock c.loop-turn.state)) w.in-Groups.is (rw c.clock.ensures at c.in_ok-_place.ensures.stops)) (subst (MissesNone c.loop-turn.state) w.in-Groups.is c.in_ok-_place.ensures.sweeps) (w.in_ok-form-in-Groups.ensures ∙ w.in_ok-group-in-Groups.ensures))
+  | in-Tries+else-not-sleeps w ↦
+      rw w.state-is
+      (past_sleeper (seen (levels_of c.args.course.now.layers)) c.args.course.now.clock c.args.term
+      w.in-Tries.form c.loop-turn.state w.in-Tries.place c.loop-turn.invariant
+      (subst (IsStop c.args.course.now.clock (whole c.args.course.now.clock c.loop-turn.state))
+      w.in-Tries.is (rw c.clock.ensures at c.in_ok-_place.ensures.stops))
+      (subst (MissesNone c.loop-turn.state) w.in-Tries.is c.in_ok-_place.ensures.sweeps)
+      (subst (Sleeps (seen (levels_of c.args.course.now.layers))) w.get.ensures
+      (w.sleeps.ensures.0 w.if-not-sleeps.false)))
+  | in-Groups+in_ok-group-in-Groups+in_ok-form-in-Groups w ↦
+      rw w.state-is
+      (past_group (seen (levels_of c.args.course.now.layers)) c.args.course.now.clock c.args.term
+      w.in_ok-form-in-Groups.form w.in-Groups.parts c.loop-turn.state w.in-Groups.place
+      c.loop-turn.invariant
+      (subst (IsStop c.args.course.now.clock (whole c.args.course.now.clock c.loop-turn.state))
+      w.in-Groups.is (rw c.clock.ensures at c.in_ok-_place.ensures.stops))
+      (subst (MissesNone c.loop-turn.state) w.in-Groups.is c.in_ok-_place.ensures.sweeps)
+      (w.in_ok-form-in-Groups.ensures ∙ w.in_ok-group-in-Groups.ensures))
 ]

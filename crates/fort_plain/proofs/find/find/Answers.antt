@@ -5,7 +5,13 @@ use Rattle.fort_plain.proofs.Finding.{found_on}
 use Rattle.fort_plain.proofs.find.find.Goals as goal
 
 pub loop-turn-preserved : goal.loop-turn-preserved
-loop-turn-preserved c = on_turn c.args.clock (whole c.args.clock c.args.state) c.loop-turn.state _ c.loop-turn.invariant (subst (IsSought c.args.clock (whole c.args.clock c.loop-turn.state) c.args.path.now) c.in-Moves.is c.in_ok-next.ensures)
+loop-turn-preserved c =
+    on_turn c.args.clock (whole c.args.clock c.args.state) c.loop-turn.state _ c.loop-turn.invariant
+    (subst (IsSought c.args.clock (whole c.args.clock c.loop-turn.state) c.args.path.now)
+    c.in-Moves.is c.in_ok-next.ensures)
 
 pub returns-in-Stops : goal.returns-in-Stops
-returns-in-Stops c = found_on c.args.clock _ _ c.args.path.now _ c.loop-turn.invariant.is_term (subst (IsSought c.args.clock (whole c.args.clock c.loop-turn.state) c.args.path.now) c.in-Stops.is c.in_ok-next.ensures)
+returns-in-Stops c =
+    found_on c.args.clock _ _ c.args.path.now _ c.loop-turn.invariant.is_term
+    (subst (IsSought c.args.clock (whole c.args.clock c.loop-turn.state) c.args.path.now)
+    c.in-Stops.is c.in_ok-next.ensures)

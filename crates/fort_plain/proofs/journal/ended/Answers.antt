@@ -9,4 +9,7 @@ finished-requires-clause-no_pick c = no_pick c.args.ending.now c.in_default.not-
 
 pub returns-in-OutOfFuel : goal.returns-in-OutOfFuel
 returns-in-OutOfFuel c =
-    let g = c.args.going in subst (λ e. IfOk c.out_of_fuel.result (EndsAt c.args.program.now g.course.fuel g.course.picks e c.args.count)) (sym c.in-OutOfFuel.is) c.out_of_fuel.ensures
+    let g = c.args.going
+    in subst (λ e. IfOk c.out_of_fuel.result
+    (EndsAt c.args.program.now g.course.fuel g.course.picks e c.args.count))
+    (sym c.in-OutOfFuel.is) c.out_of_fuel.ensures

@@ -9,9 +9,13 @@ abort_attempt-requires-clause-inside c = c.in-Some.ensures
 
 pub returns-in-None-single : goal.returns-in-None-single
 returns-in-None-single c =
-    abort_unthrown c.args.program.now c.args.course c.args.place (ready_term c.args.ready.now) c.args.turn c.args.loc.0 c.requires.only c.in-None.ensures (sym c.in-None-single.ensures)
+    abort_unthrown c.args.program.now c.args.course c.args.place (ready_term c.args.ready.now)
+    c.args.turn c.args.loc.0 c.requires.only c.in-None.ensures (sym c.in-None-single.ensures)
 
 pub turns-requires-clause-only : goal.turns-requires-clause-only
 turns-requires-clause-only c =
-    throws_only c.args.program.now c.args.course c.args.place (ready_term c.args.ready.now) c.in_ok-next-in-Some-single.next c.in-Some-single.value c.new-output.result c.requires.only c.in-None.ensures (sym c.in-Some-single.ensures)
-    (c.in_ok-next-in-Some-single.ensures ∙ ap (λ (v : Term). Throw v) c.in_ok-value-in-Some-single.ensures) c.new-output.ensures
+    throws_only c.args.program.now c.args.course c.args.place (ready_term c.args.ready.now)
+    c.in_ok-next-in-Some-single.next c.in-Some-single.value c.new-output.result c.requires.only
+    c.in-None.ensures (sym c.in-Some-single.ensures)
+    (c.in_ok-next-in-Some-single.ensures ∙ ap (λ
+    (v : Term). Throw v) c.in_ok-value-in-Some-single.ensures) c.new-output.ensures

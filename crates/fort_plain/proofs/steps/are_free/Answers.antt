@@ -7,10 +7,15 @@ pub loop-at-init : goal.loop-at-init
 loop-at-init c = free_none c.args.loc.0 (seen (levels_of c.args.course.now.layers))
 
 pub loop-at-preserved : goal.loop-at-preserved
-loop-at-preserved c = free_more c.args.loc.0 c.loop-at.«at» (seen (levels_of c.args.course.now.layers)) c.loop-at.invariant (c.is_free.ensures.0 c.if-not-is_free.false)
+loop-at-preserved c =
+    free_more c.args.loc.0 c.loop-at.«at» (seen (levels_of c.args.course.now.layers))
+    c.loop-at.invariant (c.is_free.ensures.0 c.if-not-is_free.false)
 
 pub returns-then-not-is_free : goal.returns-then-not-is_free
 returns-then-not-is_free c = (
   λ e. let z : false ≡ true = e in absurd cc,
-  λ h. sym c.if-not-is_free.true ∙ c.is_free.ensures.1 (free_one c.args.loc.0 c.args.count c.loop-at.«at» (seen (levels_of c.args.course.now.layers)) c.loop-at-test.true h),
+  λ h. sym c.if-not-is_free.true
+      ∙ c.is_free.ensures.1
+      (free_one c.args.loc.0 c.args.count c.loop-at.«at» (seen (levels_of c.args.course.now.layers))
+      c.loop-at-test.true h),
 )

@@ -6,16 +6,31 @@ use Rattle.fort_plain.proofs.Stepping.{dealt_turns}
 use Rattle.fort_plain.proofs.steps.touches.Goals as goal
 
 pub asks-requires-clause-only : goal.asks-requires-clause-only
-asks-requires-clause-only c = dealt_turns c.args.program.now c.args.course c.args.place (ready_term c.args.ready.now) _ c.requires.thread (subst (IsDealt c.args.program.now (ready_term c.args.ready.now)) c.in-Asks.is c.requires.dealt)
+asks-requires-clause-only c =
+    dealt_turns c.args.program.now c.args.course c.args.place (ready_term c.args.ready.now) _
+    c.requires.thread
+    (subst (IsDealt c.args.program.now (ready_term c.args.ready.now)) c.in-Asks.is c.requires.dealt)
 
 pub sets-requires-clause-only : goal.sets-requires-clause-only
-sets-requires-clause-only c = dealt_turns c.args.program.now c.args.course c.args.place (ready_term c.args.ready.now) _ c.requires.thread (subst (IsDealt c.args.program.now (ready_term c.args.ready.now)) c.in-Sets.is c.requires.dealt)
+sets-requires-clause-only c =
+    dealt_turns c.args.program.now c.args.course c.args.place (ready_term c.args.ready.now) _
+    c.requires.thread
+    (subst (IsDealt c.args.program.now (ready_term c.args.ready.now)) c.in-Sets.is c.requires.dealt)
 
 pub makes_some-requires-clause-only : goal.makes_some-requires-clause-only
-makes_some-requires-clause-only c = dealt_turns c.args.program.now c.args.course c.args.place (ready_term c.args.ready.now) _ c.requires.thread (subst (IsDealt c.args.program.now (ready_term c.args.ready.now)) c.in-Makes.is c.requires.dealt)
+makes_some-requires-clause-only c =
+    dealt_turns c.args.program.now c.args.course c.args.place (ready_term c.args.ready.now) _
+    c.requires.thread
+    (subst (IsDealt c.args.program.now (ready_term c.args.ready.now)) c.in-Makes.is
+    c.requires.dealt)
 
 pub aborts-requires-clause-only : goal.aborts-requires-clause-only
-aborts-requires-clause-only c = dealt_turns c.args.program.now c.args.course c.args.place (ready_term c.args.ready.now) _ c.requires.thread (subst (IsDealt c.args.program.now (ready_term c.args.ready.now)) c.in-Ends.is c.requires.dealt)
+aborts-requires-clause-only c =
+    dealt_turns c.args.program.now c.args.course c.args.place (ready_term c.args.ready.now) _
+    c.requires.thread
+    (subst (IsDealt c.args.program.now (ready_term c.args.ready.now)) c.in-Ends.is c.requires.dealt)
 
 pub unreachable-requires : goal.unreachable-requires
-unreachable-requires c = no_other c.args.deal c.requires.store c.in_default.not-Asks c.in_default.not-Sets c.in_default.not-Makes c.in_default.not-Ends
+unreachable-requires c =
+    no_other c.args.deal c.requires.store c.in_default.not-Asks c.in_default.not-Sets
+    c.in_default.not-Makes c.in_default.not-Ends

@@ -5,14 +5,20 @@ use Rattle.fort_plain.proofs.Taking.{close_within, last_end, open_end}
 use Rattle.fort_plain.proofs.take.end.Goals as goal
 
 pub returns-then-source : goal.returns-then-source
-returns-then-source c = rw c.spent-cost.ensures (last_end _ c.args.within c.requires.within c.requires.over c.if-source.true)
+returns-then-source c =
+    rw c.spent-cost.ensures
+    (last_end _ c.args.within c.requires.within c.requires.over c.if-source.true)
 
 pub returns-in-None : goal.returns-in-None
 returns-in-None c =
     let g = c.args.within.going in
-    open_end _ c.args.within c.requires.within c.requires.over c.if-source.false (subst (Closes c.args.program.now g.course (whole g.course.clock g.state)) c.in-None.is c.in_ok-close.ensures)
+    open_end _ c.args.within c.requires.within c.requires.over c.if-source.false
+    (subst (Closes c.args.program.now g.course (whole g.course.clock g.state)) c.in-None.is
+    c.in_ok-close.ensures)
 
 pub returns : goal.returns
 returns c =
     let g = c.args.within.going in
-    close_within _ c.args.within _ _ (subst (Closes c.args.program.now g.course (whole g.course.clock g.state)) c.in-Some.is c.in_ok-close.ensures) c.requires.over c.leave.ensures
+    close_within _ c.args.within _ _
+    (subst (Closes c.args.program.now g.course (whole g.course.clock g.state)) c.in-Some.is
+    c.in_ok-close.ensures) c.requires.over c.leave.ensures

@@ -5,44 +5,62 @@ use Rattle.fort_plain.proofs.Taking.{begun_attempt, end_is_last, illegal_within,
 use Rattle.fort_plain.proofs.take.one.Goals as goal
 
 pub act-requires-clause-turn : goal.act-requires-clause-turn
-act-requires-clause-turn c = λ e. end_is_last c.args.within.source.ajar c.args.is_last _ c.ends_all-is_end.ensures e
+act-requires-clause-turn c =
+    λ e. end_is_last c.args.within.source.ajar c.args.is_last _ c.ends_all-is_end.ensures e
 
 pub returns-in-Goes : goal.returns-in-Goes
 returns-in-Goes c =
     let g = c.args.within.going in
-    step_within _ c.args.within _ _ _ c.requires.within c.requires.here (subst (ActsOn c.args.program.now g.course (whole g.course.clock g.state) _ c.args.pick.now) c.in-Goes.is c.in_ok-going.ensures)
+    step_within _ c.args.within _ _ _ c.requires.within c.requires.here
+    (subst (ActsOn c.args.program.now g.course (whole g.course.clock g.state) _ c.args.pick.now)
+    c.in-Goes.is c.in_ok-going.ensures)
 
 pub within_of-inner-requires : goal.within_of-inner-requires
 within_of-inner-requires c =
     let g = c.args.within.going in
-    begun_attempt _ g.course _ _ (subst (ActsOn c.args.program.now g.course (whole g.course.clock g.state) _ c.args.pick.now) c.in-Opens.is c.in_ok-going.ensures)
+    begun_attempt _ g.course _ _
+    (subst (ActsOn c.args.program.now g.course (whole g.course.clock g.state) _ c.args.pick.now)
+    c.in-Opens.is c.in_ok-going.ensures)
 
 pub returns-in-Opens : goal.returns-in-Opens
 returns-in-Opens c =
     let g = c.args.within.going in
-    open_within _ c.args.within _ _ _ _ _ _ c.requires.within c.requires.here (subst (ActsOn c.args.program.now g.course (whole g.course.clock g.state) _ c.args.pick.now) c.in-Opens.is c.in_ok-going.ensures) c.within_of-inner.ensures c.ends_all-is_end.ensures c.in_ok-push-in-Opens.ensures.ok
+    open_within _ c.args.within _ _ _ _ _ _ c.requires.within c.requires.here
+    (subst (ActsOn c.args.program.now g.course (whole g.course.clock g.state) _ c.args.pick.now)
+    c.in-Opens.is c.in_ok-going.ensures) c.within_of-inner.ensures c.ends_all-is_end.ensures
+    c.in_ok-push-in-Opens.ensures.ok
 
 pub returns-in-Leaves : goal.returns-in-Leaves
 returns-in-Leaves c =
     let g = c.args.within.going in
-    leave_within _ c.args.within _ _ _ _ c.requires.here (subst (ActsOn c.args.program.now g.course (whole g.course.clock g.state) _ c.args.pick.now) c.in-Leaves.is c.in_ok-going.ensures) c.leave.ensures
+    leave_within _ c.args.within _ _ _ _ c.requires.here
+    (subst (ActsOn c.args.program.now g.course (whole g.course.clock g.state) _ c.args.pick.now)
+    c.in-Leaves.is c.in_ok-going.ensures) c.leave.ensures
 
 pub returns-in-Unclosed : goal.returns-in-Unclosed
 returns-in-Unclosed c =
     let g = c.args.within.going in
-    unclosed_within _ c.args.within _ _ c.requires.within c.requires.here c.ends_all-is_end.ensures (subst (ActsOn c.args.program.now g.course (whole g.course.clock g.state) _ c.args.pick.now) c.in-Unclosed.is c.in_ok-going.ensures)
+    unclosed_within _ c.args.within _ _ c.requires.within c.requires.here c.ends_all-is_end.ensures
+    (subst (ActsOn c.args.program.now g.course (whole g.course.clock g.state) _ c.args.pick.now)
+    c.in-Unclosed.is c.in_ok-going.ensures)
 
 pub returns-in-Illegal : goal.returns-in-Illegal
 returns-in-Illegal c =
     let g = c.args.within.going in
-    illegal_within _ c.args.within _ _ c.requires.within c.requires.here (subst (ActsOn c.args.program.now g.course (whole g.course.clock g.state) _ c.args.pick.now) c.in-Illegal.is c.in_ok-going.ensures)
+    illegal_within _ c.args.within _ _ c.requires.within c.requires.here
+    (subst (ActsOn c.args.program.now g.course (whole g.course.clock g.state) _ c.args.pick.now)
+    c.in-Illegal.is c.in_ok-going.ensures)
 
 pub returns-in-Passes : goal.returns-in-Passes
 returns-in-Passes c =
     let g = c.args.within.going in
-    passes_within _ c.args.within _ _ c.requires.within c.requires.here (subst (ActsOn c.args.program.now g.course (whole g.course.clock g.state) _ c.args.pick.now) c.in-Passes.is c.in_ok-going.ensures)
+    passes_within _ c.args.within _ _ c.requires.within c.requires.here
+    (subst (ActsOn c.args.program.now g.course (whole g.course.clock g.state) _ c.args.pick.now)
+    c.in-Passes.is c.in_ok-going.ensures)
 
 pub returns : goal.returns
 returns c =
     let g = c.args.within.going in
-    last_within _ c.args.within _ _ _ _ c.requires.within c.requires.here c.ends_all-is_end.ensures (subst (ActsOn c.args.program.now g.course (whole g.course.clock g.state) _ c.args.pick.now) c.in-Last.is c.in_ok-going.ensures)
+    last_within _ c.args.within _ _ _ _ c.requires.within c.requires.here c.ends_all-is_end.ensures
+    (subst (ActsOn c.args.program.now g.course (whole g.course.clock g.state) _ c.args.pick.now)
+    c.in-Last.is c.in_ok-going.ensures)

@@ -8,5 +8,6 @@ pub unreachable-requires : goal.unreachable-requires
 unreachable-requires c =
     let p = c.args.program.now in
     let vs = c.args.arguments.now in
-    let none : None ≡ reply (answer_of p c.args.primitive vs) = sym c.in-None.is ∙ c.in_ok-answer.ensures ∙ sym (ap reply (c.operation.ensures p vs)) in
+    let none : None ≡ reply (answer_of p c.args.primitive vs) =
+    sym c.in-None.is ∙ c.in_ok-answer.ensures ∙ sym (ap reply (c.operation.ensures p vs)) in
     c.requires (nothing_from (answer_of p c.args.primitive vs) none)

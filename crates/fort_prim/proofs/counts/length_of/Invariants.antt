@@ -7,5 +7,6 @@ abbrev pub invariant-loop-byte : goal.invariant-loop-byte
 invariant-loop-byte l =
     record {
       few : l.count ≤ l.byte-index;
-      rest : (c : ℕ) → l.count + ending l.missing c (drop l.byte-index l.text) ≡ length (chars l.text);
+      rest : (c : ℕ)
+          → l.count + ending l.missing c (drop l.byte-index l.text) ≡ length (chars l.text);
     }

@@ -7,4 +7,5 @@ use Rattle.fort_rows_bound.proofs.binding.paired.Given as goal
 abbrev pub invariant-loop-i : goal.invariant-loop-i
 invariant-loop-i l =
     (length l.left ≡ length l.right)
-    × (paired l.left l.right ≡ option_map (λ (hs : List (ℕ × Value)). l.all ++ hs) (paired (drop l.i l.left) (drop l.i l.right)))
+    × (paired l.left l.right ≡ option_map (λ
+    (hs : List (ℕ × Value)). l.all ++ hs) (paired (drop l.i l.left) (drop l.i l.right)))

@@ -6,4 +6,5 @@ use Rattle.fort_rows_calls.proofs.clauses.clause.Given as goal
 abbrev pub invariant-loop-clause : goal.invariant-loop-clause
 invariant-loop-clause l =
     (other : Term) (f : Term → Term)
-    → clause_for l.program l.value l.clause-items other f ≡ clause_for l.program l.value (drop l.clause-index l.clause-items) other f
+    → clause_for l.program l.value l.clause-items other f
+    ≡ clause_for l.program l.value (drop l.clause-index l.clause-items) other f

@@ -6,4 +6,5 @@ use Rattle.fort_rows_parts.proofs.gathering.together.Goals as goal
 pub returns : goal.returns
 returns c =
     ap standing_together (sym c.as_slice-part-items.ensures)
-    ∙ all_gathered c.as_slice-part-items.result.now c.loop-part.part-index c.loop-part.gathered c.loop-part.invariant c.loop-part-test.false
+    ∙ all_gathered c.as_slice-part-items.result.now c.loop-part.part-index c.loop-part.gathered
+    c.loop-part.invariant c.loop-part-test.false

@@ -7,9 +7,12 @@ use Rattle.fort_scan.proofs.WordLaws.{WordIs, word_is}
 use Rattle.fort_scan.proofs.Theorem.{broken_is, open_is, next_is, stuck_is}
 use Rattle.fort_scan.proofs.step.next_step.Goals as goal
 
-at_word : (text : List ℕ) (n : ℕ) (read r : Read) → read ≡ word_of (take (length text - n) (drop n text)) → n < length text → opens (drop n text) ≡ false → read ≡ r → WordIs (drop n text) r
+at_word : (text : List ℕ) (n : ℕ) (read r : Read)
+    → read ≡ word_of (take (length text - n) (drop n text)) → n < length text
+    → opens (drop n text) ≡ false → read ≡ r → WordIs (drop n text) r
 at_word text n read r e l o i =
-    subst (WordIs (drop n text)) (sym (e ∙ ap word_of (rest_is n text)) ∙ i) (word_is (drop n text) (let d = length-drop n text in omega arith) o)
+    subst (WordIs (drop n text)) (sym (e ∙ ap word_of (rest_is n text))
+    ∙ i) (word_is (drop n text) (let d = length-drop n text in omega arith) o)
 
 pub overflow_add-result : goal.overflow_add-result
 overflow_add-result c =
@@ -17,7 +20,8 @@ overflow_add-result c =
     let n = c.in-Ok.n in
     let f = c.in-Ok.ensures in
     let l = f.gap.1 in
-    let is = at_word text n c.word_of.result _ c.word_of.ensures (omega arith) f.apart c.in-Fault.is in
+    let is = at_word text n c.word_of.result _ c.word_of.ensures (omega arith) f.apart c.in-Fault.is
+    in
     let m = is.3 in let d = length-drop n text in omega arith
 
 pub returns-in-Err : goal.returns-in-Err

@@ -4,4 +4,5 @@ use Rattle.fort_scan.specs.Scan.{text_end}
 use Rattle.fort_scan.proofs.word.text_end.Given as goal
 
 abbrev pub invariant-loop-i : goal.invariant-loop-i
-invariant-loop-i l = option_map (λ n. l.i + n) (text_end l.escaped (drop l.i l.text)) ≡ text_end false l.text
+invariant-loop-i l =
+    option_map (λ n. l.i + n) (text_end l.escaped (drop l.i l.text)) ≡ text_end false l.text

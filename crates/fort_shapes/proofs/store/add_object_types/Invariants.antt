@@ -4,4 +4,6 @@ use Rattle.fort_translation.specs.Shapes.{types_by}
 use Rattle.fort_shapes.proofs.store.add_object_types.Given as goal
 
 abbrev pub invariant-loop-shape : goal.invariant-loop-shape
-invariant-loop-shape l = l.types ++ flat_map types_by (drop l.shape-index l.shapes) ≡ l.fn.types ++ flat_map types_by l.shapes
+invariant-loop-shape l =
+    l.types ++ flat_map types_by (drop l.shape-index l.shapes)
+    ≡ l.fn.types ++ flat_map types_by l.shapes

@@ -3,4 +3,6 @@ use Rattle.fort_translation.specs.Items.{parameter, typed_variables}
 use Rattle.fort_term_build.proofs.ones.variables_of.Given as goal
 
 abbrev pub invariant-loop-parameter : goal.invariant-loop-parameter
-invariant-loop-parameter l = l.list ++ typed_variables l.number (map parameter (drop l.parameter-index l.parameters)) ≡ typed_variables l.first (map parameter l.parameters)
+invariant-loop-parameter l =
+    l.list ++ typed_variables l.number (map parameter (drop l.parameter-index l.parameters))
+    ≡ typed_variables l.first (map parameter l.parameters)

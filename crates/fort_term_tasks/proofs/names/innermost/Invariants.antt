@@ -4,4 +4,6 @@ use Rattle.fort_translation.specs.Making.{number_of}
 use Rattle.fort_term_tasks.proofs.names.innermost.Given as goal
 
 abbrev pub invariant-loop-back : goal.invariant-loop-back
-invariant-loop-back l = number_of (reverse l.bound) l.name ≡ number_of (reverse (take (length l.bound - l.back) l.bound)) l.name
+invariant-loop-back l =
+    number_of (reverse l.bound) l.name
+    ≡ number_of (reverse (take (length l.bound - l.back) l.bound)) l.name

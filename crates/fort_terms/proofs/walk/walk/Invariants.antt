@@ -5,4 +5,5 @@ use Rattle.fort_term_tasks.specs.Tasks.{run}
 use Rattle.fort_terms.proofs.walk.walk.Given as goal
 
 abbrev pub invariant-tasks : goal.invariant-tasks
-invariant-tasks l = run (given_of l.known) l.tasks l.state ≡ see (given_of l.known) l.form l.fn.state
+invariant-tasks l =
+    run (given_of l.known) l.tasks l.state ≡ see (given_of l.known) l.form l.fn.state

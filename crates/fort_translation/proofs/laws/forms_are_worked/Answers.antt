@@ -6,4 +6,11 @@ use Rattle.fort_translation.proofs.laws.forms_are_worked.Goals as goal
 
 pub returns : goal.returns
 unfolding part
-returns c = λ g s x. (search (rules, the_lemmas), search (rules, the_lemmas), search (rules, the_lemmas), search (rules, the_lemmas), search (rules, the_lemmas, term_lemmas))
+returns c =
+    λ g s x. (
+      search (rules, the_lemmas),
+      search (rules, the_lemmas),
+      search (rules, the_lemmas),
+      search (rules, the_lemmas),
+      search (rules, the_lemmas, term_lemmas),
+    )

@@ -7,7 +7,8 @@ abort_attempt-requires-clause-inside c = c.in-Some.ensures
 
 pub abort_attempt-requires-clause-may : goal.abort_attempt-requires-clause-may
 abort_attempt-requires-clause-may c =
-    may_abort c.args.program.now c.args.course c.args.place (ready_term c.args.ready) c.requires.thread.0.stands c.requires.acts c.in-Some.ensures
+    may_abort c.args.program.now c.args.course c.args.place (ready_term c.args.ready)
+    c.requires.thread.0.stands c.requires.acts c.in-Some.ensures
 
 pub abort_root-requires-clause-outside : goal.abort_root-requires-clause-outside
 abort_root-requires-clause-outside c = c.in-None.ensures

@@ -4,7 +4,12 @@ use Rattle.fort_turns.proofs.Trying.{rests_by, rests_tried}
 use Rattle.fort_turns.proofs.attempts.rests.Goals as goal
 
 pub returns-then-sweep : goal.returns-then-sweep
-returns-then-sweep c = rests_tried c.args.sweep.wakes (Sleeps (seen (levels_of c.args.course.now.layers)) c.args.form.now) c.if-sweep.true
+returns-then-sweep c =
+    rests_tried c.args.sweep.wakes
+    (Sleeps (seen (levels_of c.args.course.now.layers)) c.args.form.now) c.if-sweep.true
 
 pub returns : goal.returns
-returns c = rests_by c.sleeps.result c.args.sweep.wakes (Sleeps (seen (levels_of c.args.course.now.layers)) c.args.form.now) c.sleeps.ensures c.if-sweep.false
+returns c =
+    rests_by c.sleeps.result c.args.sweep.wakes
+    (Sleeps (seen (levels_of c.args.course.now.layers)) c.args.form.now) c.sleeps.ensures
+    c.if-sweep.false

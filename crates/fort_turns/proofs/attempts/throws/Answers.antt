@@ -6,6 +6,9 @@ use Rattle.fort_turns.proofs.attempts.throws.Goals as goal
 
 pub turns-requires : goal.turns-requires
 turns-requires c = record {
-  may = subst (λ x. MayStep c.args.program.now c.args.course c.args.place 0 c.in_ok-next.next (printed x 1)) (sym c.new-text.ensures)
-      (c.requires.may c.in_ok-next.next (c.in_ok-next.ensures ∙ ap (λ (v : Term). Throw v) c.in_ok-thrown.ensures));
+  may = subst
+      (λ x. MayStep c.args.program.now c.args.course c.args.place 0 c.in_ok-next.next (printed x 1))
+      (sym c.new-text.ensures)
+      (c.requires.may c.in_ok-next.next (c.in_ok-next.ensures ∙ ap (λ
+      (v : Term). Throw v) c.in_ok-thrown.ensures));
 }

@@ -3,4 +3,7 @@ use Rattle.fort_turns.proofs.Past.{form_entered}
 use Rattle.fort_turns.proofs.next.at_form.Goals as goal
 
 pub returns : goal.returns
-returns c = (form_entered c.args.program.now c.args.course c.args.sweep c.args.place c.args.form c.requires, refl)
+returns c = (
+  form_entered c.args.program.now c.args.course c.args.sweep c.args.place c.args.form c.requires,
+  refl,
+)

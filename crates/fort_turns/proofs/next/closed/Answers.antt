@@ -3,4 +3,7 @@ use Rattle.fort_turns.proofs.Past.{picked_form}
 use Rattle.fort_turns.proofs.next.closed.Goals as goal
 
 pub returns : goal.returns
-returns c = (picked_form _ _ _ _ _ _ c.requires c.picked-sweep.ensures.idle c.picked-sweep.ensures.wakes, refl)
+returns c = (
+  picked_form _ _ _ _ _ _ c.requires c.picked-sweep.ensures.idle c.picked-sweep.ensures.wakes,
+  refl,
+)

@@ -11,14 +11,20 @@ use Rattle.fort_turns.proofs.threads.asks.Goals as goal
 
 pub left-requires : goal.left-requires
 left-requires c =
-    stuck_left c.args.program.now c.args.course c.args.sweep c.met_stuck.result c.args.place (ready_term c.args.ready) c.in_ok-term-in-None.field-0 c.requires.thread
-    (asks_none c.args.program.now (is_inner (around c.args.course)) (seen (levels_of c.args.course.layers)) c.args.ready c.args.loc.0 (λ v. next_by c.args.goes v) c.requires.made c.requires.only
+    stuck_left c.args.program.now c.args.course c.args.sweep c.met_stuck.result c.args.place
+    (ready_term c.args.ready) c.in_ok-term-in-None.field-0 c.requires.thread
+    (asks_none c.args.program.now (is_inner (around c.args.course))
+    (seen (levels_of c.args.course.layers)) c.args.ready c.args.loc.0
+    (λ v. next_by c.args.goes v) c.requires.made c.requires.only
     (sym c.in-None.ensures))
-    c.met_stuck.ensures.wakes c.met_stuck.ensures.stuck c.met_stuck.ensures.idle c.in_ok-term-in-None.ensures
+    c.met_stuck.ensures.wakes c.met_stuck.ensures.stuck c.met_stuck.ensures.idle
+    c.in_ok-term-in-None.ensures
 
 pub reads-requires-clause-may : goal.reads-requires-clause-may
 reads-requires-clause-may c = λ next is.
-    asks_on c.args.program.now c.args.course c.args.place (ready_term c.args.ready) c.args.loc.0 (λ v. next_by c.args.goes v) c.in_ok-value-in-Some.value next c.requires.thread.0.stands c.requires.acts is
+    asks_on c.args.program.now c.args.course c.args.place (ready_term c.args.ready) c.args.loc.0
+    (λ v. next_by c.args.goes v) c.in_ok-value-in-Some.value next c.requires.thread.0.stands
+    c.requires.acts is
 
 pub reads-requires-clause-there : goal.reads-requires-clause-there
 reads-requires-clause-there c = sym c.in-Some.ensures ∙ ap Some (sym c.in_ok-value-in-Some.ensures)

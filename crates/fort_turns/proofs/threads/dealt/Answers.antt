@@ -4,7 +4,10 @@ use Rattle.fort_acting.specs.Only.{IsDealt}
 use Rattle.fort_turns.proofs.threads.dealt.Goals as goal
 
 pub stays-requires-clause-stuck : goal.stays-requires-clause-stuck
-stays-requires-clause-stuck c = subst (IsDealt c.args.program.now (ready_term c.args.ready)) (c.is_stuck.ensures.0 c.if-is_stuck.true) c.requires.dealt
+stays-requires-clause-stuck c =
+    subst (IsDealt c.args.program.now (ready_term c.args.ready))
+    (c.is_stuck.ensures.0 c.if-is_stuck.true) c.requires.dealt
 
 pub goes_on-requires-clause-moves : goal.goes_on-requires-clause-moves
-goes_on-requires-clause-moves c = λ e. let z : true ≡ false = sym (c.is_stuck.ensures.1 e) ∙ c.if-is_stuck.false in absurd cc
+goes_on-requires-clause-moves c = λ e. let z : true ≡ false =
+    sym (c.is_stuck.ensures.1 e) ∙ c.if-is_stuck.false in absurd cc

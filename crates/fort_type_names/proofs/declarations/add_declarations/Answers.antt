@@ -4,5 +4,9 @@ use Rattle.fort_type_names.proofs.Steps.{one_more}
 use Rattle.fort_type_names.proofs.declarations.add_declarations.Goals as goal
 
 pub loop-declared-preserved : goal.loop-declared-preserved
-loop-declared-preserved c = one_more (λ (x : Declared). mentioned_declaration x.declaration) c.args.declarations.now c.loop-declared.declared-index c.declared-item.result c.args.names.now c.loop-declared.names _ c.loop-declared-test.true c.declared-item.is c.loop-declared.invariant
+loop-declared-preserved c =
+    one_more (λ
+    (x : Declared). mentioned_declaration x.declaration) c.args.declarations.now
+    c.loop-declared.declared-index c.declared-item.result c.args.names.now c.loop-declared.names _
+    c.loop-declared-test.true c.declared-item.is c.loop-declared.invariant
     c.in_ok-add_declaration.ensures

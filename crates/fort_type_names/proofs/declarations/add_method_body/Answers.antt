@@ -5,4 +5,6 @@ use Rattle.fort_type_names.proofs.Steps.{one_added}
 use Rattle.fort_type_names.proofs.declarations.add_method_body.Goals as goal
 
 pub returns-in_ok-add_expr : goal.returns-in_ok-add_expr
-returns-in_ok-add_expr c = one_added _ c.in_ok-add_expr.ensures (ap (λ (o : Option MethodBody). mentioned_body o) c.in-Some.is)
+returns-in_ok-add_expr c =
+    one_added _ c.in_ok-add_expr.ensures (ap (λ
+    (o : Option MethodBody). mentioned_body o) c.in-Some.is)

@@ -5,4 +5,7 @@ use Rattle.fort_type_names.specs.TypeNames.{mentioned_method_parameter}
 use Rattle.fort_type_names.proofs.declarations.add_next_method_parameters.Given as goal
 
 abbrev pub invariant-loop-next : goal.invariant-loop-next
-invariant-loop-next l = l.names ≡ l.initial.names ++ flat_map (λ (x : NextMethodParameter). mentioned_method_parameter x.parameter) (take l.next-index l.parameters)
+invariant-loop-next l =
+    l.names ≡ l.initial.names ++ flat_map (λ
+    (x : NextMethodParameter). mentioned_method_parameter x.parameter)
+    (take l.next-index l.parameters)

@@ -4,5 +4,9 @@ use Rattle.fort_type_names.proofs.Steps.{one_more}
 use Rattle.fort_type_names.proofs.declarations.add_next_object_parameters.Goals as goal
 
 pub loop-next-preserved : goal.loop-next-preserved
-loop-next-preserved c = one_more (λ (x : NextObjectParameter). mentioned_type x.parameter.ty) c.args.parameters.now c.loop-next.next-index c.next-item.result c.args.names.now c.loop-next.names _ c.loop-next-test.true c.next-item.is c.loop-next.invariant
+loop-next-preserved c =
+    one_more (λ
+    (x : NextObjectParameter). mentioned_type x.parameter.ty) c.args.parameters.now
+    c.loop-next.next-index c.next-item.result c.args.names.now c.loop-next.names _
+    c.loop-next-test.true c.next-item.is c.loop-next.invariant
     c.in_ok-add_type.ensures

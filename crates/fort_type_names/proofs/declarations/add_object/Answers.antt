@@ -6,4 +6,8 @@ use Rattle.fort_type_names.proofs.Steps.{by, three_added}
 use Rattle.fort_type_names.proofs.declarations.add_object.Goals as goal
 
 pub returns : goal.returns
-returns c = three_added _ _ _ _ c.in_ok-add_object_parameters.ensures c.in_ok-add_extends.ensures (by (λ (l : List ObjectEntry). flat_map (λ (x : ObjectEntry). mentioned_object_member x.member) l) _ c.as_slice.ensures c.in_ok-add_object_members.ensures) refl
+returns c =
+    three_added _ _ _ _ c.in_ok-add_object_parameters.ensures c.in_ok-add_extends.ensures (by (λ
+    (l : List ObjectEntry). flat_map (λ
+    (x : ObjectEntry). mentioned_object_member x.member) l) _ c.as_slice.ensures
+    c.in_ok-add_object_members.ensures) refl

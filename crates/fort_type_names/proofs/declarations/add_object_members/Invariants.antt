@@ -5,4 +5,6 @@ use Rattle.fort_type_names.specs.TypeNames.{mentioned_object_member}
 use Rattle.fort_type_names.proofs.declarations.add_object_members.Given as goal
 
 abbrev pub invariant-loop-entry : goal.invariant-loop-entry
-invariant-loop-entry l = l.names ≡ l.initial.names ++ flat_map (λ (x : ObjectEntry). mentioned_object_member x.member) (take l.entry-index l.members)
+invariant-loop-entry l =
+    l.names ≡ l.initial.names ++ flat_map (λ
+    (x : ObjectEntry). mentioned_object_member x.member) (take l.entry-index l.members)

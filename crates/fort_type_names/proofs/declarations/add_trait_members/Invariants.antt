@@ -5,4 +5,6 @@ use Rattle.fort_type_names.specs.TypeNames.{mentioned_trait_member}
 use Rattle.fort_type_names.proofs.declarations.add_trait_members.Given as goal
 
 abbrev pub invariant-loop-entry : goal.invariant-loop-entry
-invariant-loop-entry l = l.names ≡ l.initial.names ++ flat_map (λ (x : TraitEntry). mentioned_trait_member x.member) (take l.entry-index l.members)
+invariant-loop-entry l =
+    l.names ≡ l.initial.names ++ flat_map (λ
+    (x : TraitEntry). mentioned_trait_member x.member) (take l.entry-index l.members)

@@ -7,4 +7,9 @@ use Rattle.fort_type_names.proofs.Steps.{by, two_added}
 use Rattle.fort_type_names.proofs.types.add_parameters.Goals as goal
 
 pub returns-in_ok-add_next_parameters : goal.returns-in_ok-add_next_parameters
-returns-in_ok-add_next_parameters c = two_added _ _ _ c.in_ok-add_type.ensures (by (λ (l : List NextParameter). flat_map (λ (x : NextParameter). mentioned_type x.parameter.ty) l) _ c.as_slice.ensures c.in_ok-add_next_parameters.ensures) (ap (λ (o : Option Parameters). mentioned_parameters o) c.in-Some.is)
+returns-in_ok-add_next_parameters c =
+    two_added _ _ _ c.in_ok-add_type.ensures (by (λ
+    (l : List NextParameter). flat_map (λ
+    (x : NextParameter). mentioned_type x.parameter.ty) l) _ c.as_slice.ensures
+    c.in_ok-add_next_parameters.ensures) (ap (λ
+    (o : Option Parameters). mentioned_parameters o) c.in-Some.is)

@@ -8,6 +8,7 @@ returns-then-left-right c =
     each_below-apart _ _ _ (
     λ e.
     c.if-left-right.true (
-    ap length c.as_slice-left.ensures ∙ sym (length-map _ _ ∙ length-map _ _) ∙ e ∙ sym (ap length c.as_slice-right.ensures)
+    ap length c.as_slice-left.ensures ∙ sym (length-map _ _ ∙ length-map _ _) ∙ e
+    ∙ sym (ap length c.as_slice-right.ensures)
     )
     )

@@ -6,5 +6,8 @@ use Rattle.fort_value.proofs.kind.take_all.Given as goal
 abbrev pub invariant-loop-i : goal.invariant-loop-i
 invariant-loop-i l =
     (length l.left ≡ length l.right)
-    × (each_below (map (relation l.program.types.below) (map (λ (x : ℕ × Ty). x.1) l.parameters)) false l.types
-    ≡ each_below (map (relation l.program.types.below) (map (λ (x : ℕ × Ty). x.1) (drop l.i l.left))) false (drop l.i l.right))
+    × (each_below (map (relation l.program.types.below) (map (λ (x : ℕ × Ty). x.1) l.parameters))
+    false l.types
+    ≡ each_below
+    (map (relation l.program.types.below) (map (λ (x : ℕ × Ty). x.1) (drop l.i l.left))) false
+    (drop l.i l.right))

@@ -5,4 +5,5 @@ use Rattle.fort_value.proofs.order.+related.Given as goal
 abbrev pub invariant-all_related-loop-i : goal.invariant-all_related-loop-i
 invariant-all_related-loop-i l =
     (length l.left ≡ length l.right)
-    × (each_below (map (relation l.rows) l.xs) l.up l.ys ≡ each_below (map (relation l.rows) (drop l.i l.left)) l.up (drop l.i l.right))
+    × (each_below (map (relation l.rows) l.xs) l.up l.ys
+    ≡ each_below (map (relation l.rows) (drop l.i l.left)) l.up (drop l.i l.right))

@@ -5,7 +5,8 @@ use Rattle.fort_carry.proofs.execution.Execution.out_of_fuel.Given as goal
 
 abbrev pub invariant-machines : goal.invariant-machines
 invariant-machines l = record {
-  passes : StillPasses l.program l.course.fuel (levels_of l.course.layers) l.course.picks l.course.outer l.course.clock l.pick;
+  passes : StillPasses l.program l.course.fuel (levels_of l.course.layers) l.course.picks
+      l.course.outer l.course.clock l.pick;
   fuel : l.course.fuel ≡ l.fn.self.fuel;
 }
 

@@ -8,5 +8,8 @@ use Rattle.fort_declarations.proofs.syntax.Syntax.declarations.Given as goal
 
 abbrev pub invariant-loop-turn : goal.invariant-loop-turn
 invariant-loop-turn l =
-    with_front l.found (many_run begins_declared (λ ready e. is_ended e.semicolon) (λ ready. declared l.self.names.now l.self.depth) (l._turn-end - l._turn) l.ready l.tokens)
+    with_front l.found
+    (many_run begins_declared (λ ready e. is_ended e.semicolon)
+    (λ ready. declared l.self.names.now l.self.depth) (l._turn-end - l._turn) l.ready
+    l.tokens)
     ≡ (declarations l.self.names.now l.self.depth).run l.fn.tokens

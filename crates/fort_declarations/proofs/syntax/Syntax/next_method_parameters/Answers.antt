@@ -8,11 +8,18 @@ use Rattle.fort_declarations.proofs.syntax.Syntax.next_method_parameters.Goals a
 
 pub loop-turn-init : goal.loop-turn-init
 unfolding next_method_parameters
-loop-turn-init c = let k : c.args.self.now.depth - 0 ≡ c.args.self.now.depth = omega arith in rw (c.new-found.ensures, k) (no_front _)
+loop-turn-init c =
+    let k : c.args.self.now.depth - 0 ≡ c.args.self.now.depth = omega arith
+    in rw (c.new-found.ensures, k) (no_front _)
 
 pub loop-turn-preserved : goal.loop-turn-preserved
 loop-turn-preserved c =
     let l = c.loop-turn in
     let e : sees (is_mark mark.Comma) (next_of l.tokens) ≡ true = grind arith in
     let x = c.in_ok-next.next in
-    rw (c.in_ok-add.ensures.ok, c.has_self-behind.ensures) (goes_on (λ seen. sees (is_mark mark.Comma)) (λ seen next. seen || is_self next.parameter) (next_method_parameter c.args.self.now.names.now c.args.self.now.depth) l.found c.args.self.now.depth l._turn l.behind l.tokens _ x c.next_method_parameter.new.tokens (omega arith) e c.in_ok-next.ensures l.invariant)
+    rw (c.in_ok-add.ensures.ok, c.has_self-behind.ensures)
+    (goes_on (λ seen. sees (is_mark mark.Comma)) (λ seen next. seen
+    || is_self next.parameter)
+    (next_method_parameter c.args.self.now.names.now c.args.self.now.depth) l.found
+    c.args.self.now.depth l._turn l.behind l.tokens _ x c.next_method_parameter.new.tokens
+    (omega arith) e c.in_ok-next.ensures l.invariant)

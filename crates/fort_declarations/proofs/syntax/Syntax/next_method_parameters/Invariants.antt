@@ -8,5 +8,8 @@ use Rattle.fort_declarations.proofs.syntax.Syntax.next_method_parameters.Given a
 
 abbrev pub invariant-loop-turn : goal.invariant-loop-turn
 invariant-loop-turn l =
-    with_front l.found (many_run (λ seen. sees (is_mark mark.Comma)) (λ seen next. seen || is_self next.parameter) (next_method_parameter l.self.names.now l.self.depth) (l._turn-end - l._turn) l.behind l.tokens)
+    with_front l.found
+    (many_run (λ seen. sees (is_mark mark.Comma)) (λ seen next. seen
+    || is_self next.parameter) (next_method_parameter l.self.names.now l.self.depth)
+    (l._turn-end - l._turn) l.behind l.tokens)
     ≡ (next_method_parameters l.self.names.now l.self.depth l.seen).run l.fn.tokens

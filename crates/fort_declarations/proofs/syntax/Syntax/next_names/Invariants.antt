@@ -8,5 +8,8 @@ use Rattle.fort_declarations.proofs.syntax.Syntax.next_names.Given as goal
 
 abbrev pub invariant-loop-turn : goal.invariant-loop-turn
 invariant-loop-turn l =
-    with_front l.found (many_run (λ state. sees (is_mark mark.Comma)) (λ state x. state) (λ state. next_name l.self.names.now l.self.depth) (l._turn-end - l._turn) true l.tokens)
+    with_front l.found
+    (many_run (λ state. sees (is_mark mark.Comma)) (λ state x. state)
+    (λ state. next_name l.self.names.now l.self.depth) (l._turn-end - l._turn) true
+    l.tokens)
     ≡ (next_names l.self.names.now l.self.depth).run l.fn.tokens

@@ -8,5 +8,8 @@ use Rattle.fort_declarations.proofs.syntax.Syntax.object_entries.Given as goal
 
 abbrev pub invariant-loop-turn : goal.invariant-loop-turn
 invariant-loop-turn l =
-    with_front l.found (many_run begins_object_entry (λ ready e. is_ended e.semicolon) (λ ready. object_entry l.self.names.now l.self.depth) (l._turn-end - l._turn) l.ready l.tokens)
+    with_front l.found
+    (many_run begins_object_entry (λ ready e. is_ended e.semicolon)
+    (λ ready. object_entry l.self.names.now l.self.depth) (l._turn-end - l._turn) l.ready
+    l.tokens)
     ≡ (object_entries l.self.names.now l.self.depth).run l.fn.tokens

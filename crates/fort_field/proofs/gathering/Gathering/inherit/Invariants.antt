@@ -4,4 +4,6 @@ use Rattle.fort_field.specs.Walks.{KnowsNames, Gathers}
 use Rattle.fort_field.proofs.gathering.Gathering.inherit.Given as goal
 
 abbrev pub invariant-loop-field : goal.invariant-loop-field
-invariant-loop-field l = KnowsNames l.self × ((further : List Field) → Gathers l.own further l.initial.self.fields → Gathers l.own (further ++ take l.field-index l.fields) l.self.fields)
+invariant-loop-field l = KnowsNames l.self
+    × ((further : List Field) → Gathers l.own further l.initial.self.fields
+    → Gathers l.own (further ++ take l.field-index l.fields) l.self.fields)

@@ -4,8 +4,12 @@ use Rattle.fort_hier.proofs.NumberLaws.{numbers_again, numbers_new}
 use Rattle.fort_hier.proofs.numbers.Numbers.add.Goals as goal
 
 pub returns-in-Some : goal.returns-in-Some
-returns-in-Some c = λ list h e. numbers_again list c.args.self.now c.args.spelling.now _ h c.in-Some.ensures.value
+returns-in-Some c =
+    λ list h e. numbers_again list c.args.self.now c.args.spelling.now _ h c.in-Some.ensures.value
 
 pub returns-in_ok-insert-in-None : goal.returns-in_ok-insert-in-None
-returns-in_ok-insert-in-None c = λ list h e. numbers_new list c.args.self.now _ c.args.spelling.now c.args.number h e c.in-None.ensures.value
-    (λ v. hash_map_updates_str c.args.spelling.now c.args.self.now.known c.insert.new.self (Some c.args.number) c.in_ok-insert-in-None.ensures.updates v)
+returns-in_ok-insert-in-None c =
+    λ list h e. numbers_new list c.args.self.now _ c.args.spelling.now c.args.number h e
+    c.in-None.ensures.value
+    (λ v. hash_map_updates_str c.args.spelling.now c.args.self.now.known c.insert.new.self
+    (Some c.args.number) c.in_ok-insert-in-None.ensures.updates v)

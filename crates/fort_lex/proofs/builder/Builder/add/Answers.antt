@@ -13,7 +13,10 @@ returns-clause-held c = λ ps h.
     let k = c.in_ok-kind.kind in
     holds_last ps old mid _ gap c.args.word.now k h c.in_ok-kind.ensures
     (c.in_ok-push.ensures.ok
-    ∙ ap (λ (g : Gap). mid.list ++ record { kind = k; gap = g; place = c.place_after-place.result } ∷ []) c.gap_kind.ensures
-    ∙ ap (λ (q : Place). mid.list ++ record { kind = k; gap = gap_kind gap; place = q } ∷ []) c.place_after-place.ensures.value)
+    ∙ ap (λ (g : Gap). mid.list ++ record { kind = k; gap = g; place = c.place_after-place.result }
+    ∷ []) c.gap_kind.ensures
+    ∙ ap (λ (q : Place). mid.list ++ record { kind = k; gap = gap_kind gap; place = q } ∷ [])
+    c.place_after-place.ensures.value)
     refl refl
-    (c.place_after-self.ensures.value ∙ ap (λ (q : Place). place_after q c.args.word.now) c.place_after-place.ensures.value)
+    (c.place_after-self.ensures.value ∙ ap (λ
+    (q : Place). place_after q c.args.word.now) c.place_after-place.ensures.value)

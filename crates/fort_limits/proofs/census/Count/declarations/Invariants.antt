@@ -5,4 +5,6 @@ use Rattle.fort_limits.specs.Census.{counted}
 use Rattle.fort_limits.proofs.census.Count.declarations.Given as goal
 
 abbrev pub invariant-loop-declared : goal.invariant-loop-declared
-invariant-loop-declared l = l.self ≡ counted l.fn.self (flat_map declaration_places (take l.declared-index l.declared-items))
+invariant-loop-declared l =
+    l.self ≡ counted l.fn.self
+    (flat_map declaration_places (take l.declared-index l.declared-items))

@@ -7,4 +7,8 @@ pub loop-entry-init : goal.loop-entry-init
 loop-entry-init c = sym (counted_none _)
 
 pub loop-entry-preserved : goal.loop-entry-preserved
-loop-entry-preserved c = one_more_place (λ e. (measured_trait_member e.member).spot.place) c.as_slice-entry-items.result.now c.loop-entry.entry-index c.entry-item.result c.args.self.now c.loop-entry.self c.see.new.self c.loop-entry-test.true c.entry-item.is c.loop-entry.invariant (cc)
+loop-entry-preserved c =
+    one_more_place (λ e. (measured_trait_member e.member).spot.place)
+    c.as_slice-entry-items.result.now c.loop-entry.entry-index c.entry-item.result c.args.self.now
+    c.loop-entry.self c.see.new.self c.loop-entry-test.true c.entry-item.is c.loop-entry.invariant
+    (cc)

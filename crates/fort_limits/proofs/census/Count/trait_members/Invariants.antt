@@ -5,4 +5,6 @@ use Rattle.fort_limits.specs.Census.{counted}
 use Rattle.fort_limits.proofs.census.Count.trait_members.Given as goal
 
 abbrev pub invariant-loop-entry : goal.invariant-loop-entry
-invariant-loop-entry l = l.self ≡ counted l.fn.self (map (λ e. (measured_trait_member e.member).spot.place) (take l.entry-index l.entry-items))
+invariant-loop-entry l =
+    l.self ≡ counted l.fn.self
+    (map (λ e. (measured_trait_member e.member).spot.place) (take l.entry-index l.entry-items))

@@ -187,52 +187,84 @@ pub flat_parts-loop-part-init : goal.flat_parts-loop-part-init
 flat_parts-loop-part-init t c = sym (earliest_none _)
 
 pub flat_parts-loop-part-preserved : goal.flat_parts-loop-part-preserved
-flat_parts-loop-part-preserved t c = one_more (λ part. (measured_flat_part part).unit) c.as_slice-part-items.result.now c.loop-part.part-index c.part-item.result c.args.self.now.earliest c.loop-part.self.earliest c.flat_part.new.self.earliest c.loop-part-test.true c.part-item.is c.loop-part.invariant c.flat_part.ensures
+flat_parts-loop-part-preserved t c =
+    one_more (λ part. (measured_flat_part part).unit) c.as_slice-part-items.result.now
+    c.loop-part.part-index c.part-item.result c.args.self.now.earliest c.loop-part.self.earliest
+    c.flat_part.new.self.earliest c.loop-part-test.true c.part-item.is c.loop-part.invariant
+    c.flat_part.ensures
 
 pub run_parts-loop-part-init : goal.run_parts-loop-part-init
 run_parts-loop-part-init t c = sym (earliest_none _)
 
 pub run_parts-loop-part-preserved : goal.run_parts-loop-part-preserved
-run_parts-loop-part-preserved t c = one_more measured_run_part c.as_slice-part-items.result.now c.loop-part.part-index c.part-item.result c.args.self.now.earliest c.loop-part.self.earliest c.run_part.new.self.earliest c.loop-part-test.true c.part-item.is c.loop-part.invariant c.run_part.ensures
+run_parts-loop-part-preserved t c =
+    one_more measured_run_part c.as_slice-part-items.result.now c.loop-part.part-index
+    c.part-item.result c.args.self.now.earliest c.loop-part.self.earliest
+    c.run_part.new.self.earliest c.loop-part-test.true c.part-item.is c.loop-part.invariant
+    c.run_part.ensures
 
 pub next_exprs-loop-next-init : goal.next_exprs-loop-next-init
 next_exprs-loop-next-init t c = sym (earliest_none _)
 
 pub next_exprs-loop-next-preserved : goal.next_exprs-loop-next-preserved
-next_exprs-loop-next-preserved t c = one_more measured_next_expr c.as_slice-next-items.result.now c.loop-next.next-index c.next-item.result c.args.self.now.earliest c.loop-next.self.earliest c.expr.new.self.earliest c.loop-next-test.true c.next-item.is c.loop-next.invariant (rw next_expr_walks (cc))
+next_exprs-loop-next-preserved t c =
+    one_more measured_next_expr c.as_slice-next-items.result.now c.loop-next.next-index
+    c.next-item.result c.args.self.now.earliest c.loop-next.self.earliest c.expr.new.self.earliest
+    c.loop-next-test.true c.next-item.is c.loop-next.invariant (rw next_expr_walks (cc))
 
 pub items-loop-entry-init : goal.items-loop-entry-init
 items-loop-entry-init t c = sym (earliest_none _)
 
 pub items-loop-entry-preserved : goal.items-loop-entry-preserved
-items-loop-entry-preserved t c = one_more measured_block_item c.as_slice-entry-items.result.now c.loop-entry.entry-index c.entry-item.result c.args.self.now.earliest c.loop-entry.self.earliest c.item.new.self.earliest c.loop-entry-test.true c.entry-item.is c.loop-entry.invariant (rw block_item_walks (cc))
+items-loop-entry-preserved t c =
+    one_more measured_block_item c.as_slice-entry-items.result.now c.loop-entry.entry-index
+    c.entry-item.result c.args.self.now.earliest c.loop-entry.self.earliest c.item.new.self.earliest
+    c.loop-entry-test.true c.entry-item.is c.loop-entry.invariant (rw block_item_walks (cc))
 
 pub alsos-loop-also-init : goal.alsos-loop-also-init
 alsos-loop-also-init t c = sym (earliest_none _)
 
 pub alsos-loop-also-preserved : goal.alsos-loop-also-preserved
-alsos-loop-also-preserved t c = one_more measured_also c.as_slice-also-items.result.now c.loop-also.also-index c.also-item.result c.args.self.now.earliest c.loop-also.self.earliest c.block.new.self.earliest c.loop-also-test.true c.also-item.is c.loop-also.invariant (rw also_walks (cc))
+alsos-loop-also-preserved t c =
+    one_more measured_also c.as_slice-also-items.result.now c.loop-also.also-index
+    c.also-item.result c.args.self.now.earliest c.loop-also.self.earliest c.block.new.self.earliest
+    c.loop-also-test.true c.also-item.is c.loop-also.invariant (rw also_walks (cc))
 
 pub elifs-loop-elif-init : goal.elifs-loop-elif-init
 elifs-loop-elif-init t c = sym (earliest_none _)
 
 pub elifs-loop-elif-preserved : goal.elifs-loop-elif-preserved
-elifs-loop-elif-preserved t c = one_more measured_elif c.as_slice-elif-items.result.now c.loop-elif.elif-index c.elif-item.result c.args.self.now.earliest c.loop-elif.self.earliest c.elif.new.self.earliest c.loop-elif-test.true c.elif-item.is c.loop-elif.invariant c.elif.ensures
+elifs-loop-elif-preserved t c =
+    one_more measured_elif c.as_slice-elif-items.result.now c.loop-elif.elif-index
+    c.elif-item.result c.args.self.now.earliest c.loop-elif.self.earliest c.elif.new.self.earliest
+    c.loop-elif-test.true c.elif-item.is c.loop-elif.invariant c.elif.ensures
 
 pub next_generators-loop-next-init : goal.next_generators-loop-next-init
 next_generators-loop-next-init t c = sym (earliest_none _)
 
 pub next_generators-loop-next-preserved : goal.next_generators-loop-next-preserved
-next_generators-loop-next-preserved t c = one_more measured_next_generator c.as_slice-next-items.result.now c.loop-next.next-index c.next-item.result c.args.self.now.earliest c.loop-next.self.earliest c.generator.new.self.earliest c.loop-next-test.true c.next-item.is c.loop-next.invariant (rw next_generator_walks (cc))
+next_generators-loop-next-preserved t c =
+    one_more measured_next_generator c.as_slice-next-items.result.now c.loop-next.next-index
+    c.next-item.result c.args.self.now.earliest c.loop-next.self.earliest
+    c.generator.new.self.earliest c.loop-next-test.true c.next-item.is c.loop-next.invariant
+    (rw next_generator_walks (cc))
 
 pub case_clauses-loop-clause-init : goal.case_clauses-loop-clause-init
 case_clauses-loop-clause-init t c = sym (earliest_none _)
 
 pub case_clauses-loop-clause-preserved : goal.case_clauses-loop-clause-preserved
-case_clauses-loop-clause-preserved t c = one_more measured_case_clause c.as_slice-clause-items.result.now c.loop-clause.clause-index c.clause-item.result c.args.self.now.earliest c.loop-clause.self.earliest c.case_clause.new.self.earliest c.loop-clause-test.true c.clause-item.is c.loop-clause.invariant c.case_clause.ensures
+case_clauses-loop-clause-preserved t c =
+    one_more measured_case_clause c.as_slice-clause-items.result.now c.loop-clause.clause-index
+    c.clause-item.result c.args.self.now.earliest c.loop-clause.self.earliest
+    c.case_clause.new.self.earliest c.loop-clause-test.true c.clause-item.is c.loop-clause.invariant
+    c.case_clause.ensures
 
 pub type_clauses-loop-clause-init : goal.type_clauses-loop-clause-init
 type_clauses-loop-clause-init t c = sym (earliest_none _)
 
 pub type_clauses-loop-clause-preserved : goal.type_clauses-loop-clause-preserved
-type_clauses-loop-clause-preserved t c = one_more measured_type_clause c.as_slice-clause-items.result.now c.loop-clause.clause-index c.clause-item.result c.args.self.now.earliest c.loop-clause.self.earliest c.type_clause.new.self.earliest c.loop-clause-test.true c.clause-item.is c.loop-clause.invariant c.type_clause.ensures
+type_clauses-loop-clause-preserved t c =
+    one_more measured_type_clause c.as_slice-clause-items.result.now c.loop-clause.clause-index
+    c.clause-item.result c.args.self.now.earliest c.loop-clause.self.earliest
+    c.type_clause.new.self.earliest c.loop-clause-test.true c.clause-item.is c.loop-clause.invariant
+    c.type_clause.ensures

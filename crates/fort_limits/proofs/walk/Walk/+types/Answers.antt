@@ -30,4 +30,8 @@ pub next_types-loop-next-init : goal.next_types-loop-next-init
 next_types-loop-next-init t c = sym (earliest_none _)
 
 pub next_types-loop-next-preserved : goal.next_types-loop-next-preserved
-next_types-loop-next-preserved t c = one_more measured_next_type c.as_slice-next-items.result.now c.loop-next.next-index c.next-item.result c.args.self.now.earliest c.loop-next.self.earliest c.type_tree.new.self.earliest c.loop-next-test.true c.next-item.is c.loop-next.invariant (rw next_type_measures (cc))
+next_types-loop-next-preserved t c =
+    one_more measured_next_type c.as_slice-next-items.result.now c.loop-next.next-index
+    c.next-item.result c.args.self.now.earliest c.loop-next.self.earliest
+    c.type_tree.new.self.earliest c.loop-next-test.true c.next-item.is c.loop-next.invariant
+    (rw next_type_measures (cc))

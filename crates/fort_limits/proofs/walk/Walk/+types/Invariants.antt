@@ -6,4 +6,7 @@ use Rattle.fort_limits.specs.Earliest.{earliest}
 use Rattle.fort_limits.proofs.walk.Walk.+types.Given as goal
 
 abbrev pub invariant-next_types-loop-next : goal.invariant-next_types-loop-next
-invariant-next_types-loop-next l = l.self.earliest ≡ earliest l.fn.self.earliest (all_crowded (map measured_next_type (take l.next-index l.next-items)))
+invariant-next_types-loop-next l =
+    l.self.earliest
+    ≡ earliest l.fn.self.earliest
+    (all_crowded (map measured_next_type (take l.next-index l.next-items)))

@@ -6,4 +6,8 @@ use Rattle.fort_limits.specs.Earliest.{earliest}
 use Rattle.fort_limits.proofs.walk.Walk.declarations.Given as goal
 
 abbrev pub invariant-loop-declared : goal.invariant-loop-declared
-invariant-loop-declared l = l.self.earliest ≡ earliest l.fn.self.earliest (all_crowded (map (λ d. measured_declaration d.declaration) (take l.declared-index l.declared-items)))
+invariant-loop-declared l =
+    l.self.earliest
+    ≡ earliest l.fn.self.earliest
+    (all_crowded
+    (map (λ d. measured_declaration d.declaration) (take l.declared-index l.declared-items)))

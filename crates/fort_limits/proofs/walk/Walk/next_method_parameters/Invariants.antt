@@ -6,4 +6,9 @@ use Rattle.fort_limits.specs.Earliest.{earliest}
 use Rattle.fort_limits.proofs.walk.Walk.next_method_parameters.Given as goal
 
 abbrev pub invariant-loop-next : goal.invariant-loop-next
-invariant-loop-next l = l.self.earliest ≡ earliest l.fn.self.earliest (all_crowded (flat_map (λ next. measured_method_parameter next.parameter) (take l.next-index l.next-items)))
+invariant-loop-next l =
+    l.self.earliest
+    ≡ earliest l.fn.self.earliest
+    (all_crowded
+    (flat_map (λ next. measured_method_parameter next.parameter)
+    (take l.next-index l.next-items)))

@@ -6,4 +6,7 @@ use Rattle.fort_limits.specs.Earliest.{earliest}
 use Rattle.fort_limits.proofs.walk.Walk.next_parameters.Given as goal
 
 abbrev pub invariant-loop-next : goal.invariant-loop-next
-invariant-loop-next l = l.self.earliest ≡ earliest l.fn.self.earliest (all_crowded (map (λ next. measured_type next.parameter.ty) (take l.next-index l.next-items)))
+invariant-loop-next l =
+    l.self.earliest
+    ≡ earliest l.fn.self.earliest
+    (all_crowded (map (λ next. measured_type next.parameter.ty) (take l.next-index l.next-items)))

@@ -6,4 +6,7 @@ use Rattle.fort_limits.specs.Earliest.{earliest}
 use Rattle.fort_limits.proofs.walk.Walk.trait_members.Given as goal
 
 abbrev pub invariant-loop-entry : goal.invariant-loop-entry
-invariant-loop-entry l = l.self.earliest ≡ earliest l.fn.self.earliest (all_crowded (map (λ e. measured_trait_member e.member) (take l.entry-index l.entry-items)))
+invariant-loop-entry l =
+    l.self.earliest
+    ≡ earliest l.fn.self.earliest
+    (all_crowded (map (λ e. measured_trait_member e.member) (take l.entry-index l.entry-items)))

@@ -16,12 +16,20 @@ use Rattle.fort_parse.proofs.grammar.Grammar.block.Goals as goal
 
 pub loop-turn-init : goal.loop-turn-init
 unfolding block
-loop-turn-init g c = let k : c.args.self.now.depth - 0 ≡ c.args.self.now.depth = omega arith in rw (c.new-found.ensures, k) (no_front _)
+loop-turn-init g c =
+    let k : c.args.self.now.depth - 0 ≡ c.args.self.now.depth = omega arith
+    in rw (c.new-found.ensures, k) (no_front _)
 
 pub loop-turn-preserved : goal.loop-turn-preserved
 loop-turn-preserved g c =
     let l = c.loop-turn in
     let e : begins_item l.ready (next_of l.tokens) ≡ true = grind arith in
     let x = c.in_ok-item.item in
-    let r : c.is_some-ready.result ≡ is_ended x.semicolon = c.is_some-ready.ensures ∙ ended_is x.semicolon in
-    rw (c.in_ok-add.ensures.ok, r) (goes_on begins_item (λ ready e. is_ended (out-BlockItem e).semicolon) (λ state. block_item c.args.self.now.names.now (run_at c.args.self.now.names.now c.args.self.now.depth)) l.found c.args.self.now.depth l._turn l.ready l.tokens _ x c.block_item.new.tokens (omega arith) e c.in_ok-item.ensures l.invariant)
+    let r : c.is_some-ready.result ≡ is_ended x.semicolon =
+    c.is_some-ready.ensures ∙ ended_is x.semicolon in
+    rw (c.in_ok-add.ensures.ok, r)
+    (goes_on begins_item (λ ready e. is_ended (out-BlockItem e).semicolon)
+    (λ state. block_item c.args.self.now.names.now
+    (run_at c.args.self.now.names.now c.args.self.now.depth)) l.found c.args.self.now.depth
+    l._turn l.ready l.tokens _ x c.block_item.new.tokens (omega arith) e
+    c.in_ok-item.ensures l.invariant)

@@ -14,4 +14,9 @@ use Rattle.fort_reading.proofs.Loops.{with_front}
 use Rattle.fort_parse.proofs.grammar.Grammar.block.Given as goal
 
 abbrev pub invariant-loop-turn : goal.invariant-loop-turn
-invariant-loop-turn g l = with_front l.found (many_run begins_item (λ ready e. is_ended (out-BlockItem e).semicolon) (λ state. block_item l.self.names.now (run_at l.self.names.now l.self.depth)) (l._turn-end - l._turn) l.ready l.tokens) ≡ (block l.self.names.now (run_at l.self.names.now l.self.depth)).run l.fn.tokens
+invariant-loop-turn g l =
+    with_front l.found
+    (many_run begins_item (λ ready e. is_ended (out-BlockItem e).semicolon)
+    (λ state. block_item l.self.names.now (run_at l.self.names.now l.self.depth))
+    (l._turn-end - l._turn) l.ready l.tokens)
+    ≡ (block l.self.names.now (run_at l.self.names.now l.self.depth)).run l.fn.tokens

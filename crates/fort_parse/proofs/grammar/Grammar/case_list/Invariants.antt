@@ -14,4 +14,9 @@ use Rattle.fort_reading.proofs.Loops.{with_front}
 use Rattle.fort_parse.proofs.grammar.Grammar.case_list.Given as goal
 
 abbrev pub invariant-loop-turn : goal.invariant-loop-turn
-invariant-loop-turn g l = with_front l.found (many_run begins_case_clause (λ ready c. is_ended (out-CaseClause c).semicolon) (λ state. case_clause l.self.names.now (run_at l.self.names.now l.self.depth)) (l._turn-end - l._turn) l.ready l.tokens) ≡ (case_list l.self.names.now (run_at l.self.names.now l.self.depth)).run l.fn.tokens
+invariant-loop-turn g l =
+    with_front l.found
+    (many_run begins_case_clause (λ ready c. is_ended (out-CaseClause c).semicolon)
+    (λ state. case_clause l.self.names.now (run_at l.self.names.now l.self.depth))
+    (l._turn-end - l._turn) l.ready l.tokens)
+    ≡ (case_list l.self.names.now (run_at l.self.names.now l.self.depth)).run l.fn.tokens

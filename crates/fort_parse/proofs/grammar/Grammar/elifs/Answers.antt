@@ -15,10 +15,17 @@ use Rattle.fort_parse.proofs.grammar.Grammar.elifs.Goals as goal
 
 pub loop-turn-init : goal.loop-turn-init
 unfolding elifs
-loop-turn-init g c = let k : c.args.self.now.depth - 0 ≡ c.args.self.now.depth = omega arith in rw (c.new-found.ensures, k) (no_front _)
+loop-turn-init g c =
+    let k : c.args.self.now.depth - 0 ≡ c.args.self.now.depth = omega arith
+    in rw (c.new-found.ensures, k) (no_front _)
 
 pub loop-turn-preserved : goal.loop-turn-preserved
 loop-turn-preserved g c =
     let l = c.loop-turn in
     let e : sees (is_word reserved.Elif) (next_of l.tokens) ≡ true = grind arith in
-    rw c.in_ok-add.ensures.ok (goes_on (λ state. sees (is_word reserved.Elif)) (λ state x. state) (λ state. elif c.args.self.now.names.now (run_at c.args.self.now.names.now c.args.self.now.depth)) l.found c.args.self.now.depth l._turn true l.tokens _ c.in_ok-elif.field-0 c.elif.new.tokens (omega arith) e c.in_ok-elif.ensures l.invariant)
+    rw c.in_ok-add.ensures.ok
+    (goes_on (λ state. sees (is_word reserved.Elif)) (λ state x. state)
+    (λ state. elif c.args.self.now.names.now
+    (run_at c.args.self.now.names.now c.args.self.now.depth)) l.found c.args.self.now.depth
+    l._turn true l.tokens _ c.in_ok-elif.field-0 c.elif.new.tokens (omega arith) e
+    c.in_ok-elif.ensures l.invariant)

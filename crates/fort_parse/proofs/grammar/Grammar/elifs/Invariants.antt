@@ -14,4 +14,9 @@ use Rattle.fort_reading.proofs.Loops.{with_front}
 use Rattle.fort_parse.proofs.grammar.Grammar.elifs.Given as goal
 
 abbrev pub invariant-loop-turn : goal.invariant-loop-turn
-invariant-loop-turn g l = with_front l.found (many_run (λ state. sees (is_word reserved.Elif)) (λ state x. state) (λ state. elif l.self.names.now (run_at l.self.names.now l.self.depth)) (l._turn-end - l._turn) true l.tokens) ≡ (elifs l.self.names.now (run_at l.self.names.now l.self.depth)).run l.fn.tokens
+invariant-loop-turn g l =
+    with_front l.found
+    (many_run (λ state. sees (is_word reserved.Elif)) (λ state x. state)
+    (λ state. elif l.self.names.now (run_at l.self.names.now l.self.depth))
+    (l._turn-end - l._turn) true l.tokens)
+    ≡ (elifs l.self.names.now (run_at l.self.names.now l.self.depth)).run l.fn.tokens

@@ -15,10 +15,18 @@ use Rattle.fort_parse.proofs.grammar.Grammar.flat_parts.Goals as goal
 
 pub loop-turn-init : goal.loop-turn-init
 unfolding flat_parts
-loop-turn-init g c = let k : c.args.self.now.depth - 0 ≡ c.args.self.now.depth = omega arith in rw k refl
+loop-turn-init g c =
+    let k : c.args.self.now.depth - 0 ≡ c.args.self.now.depth = omega arith in rw k refl
 
 pub loop-turn-preserved : goal.loop-turn-preserved
 loop-turn-preserved g c =
     let l = c.loop-turn in
-    let e : begins_flat_part (record { lines = c.args.lines; blocks = c.args.blocks }) (next_of l.tokens) ≡ true = grind arith in
-    rw c.in_ok-add.ensures.ok (goes_on (λ state. begins_flat_part (record { lines = c.args.lines; blocks = c.args.blocks })) (λ state x. state) (λ state. flat_part c.args.self.now.names.now (run_at c.args.self.now.names.now c.args.self.now.depth) c.args.blocks) l.found c.args.self.now.depth l._turn true l.tokens _ c.in_ok-flat_part.field-0 c.flat_part.new.tokens (omega arith) e c.in_ok-flat_part.ensures l.invariant)
+    let e : begins_flat_part (record { lines = c.args.lines; blocks = c.args.blocks })
+    (next_of l.tokens) ≡ true = grind arith in
+    rw c.in_ok-add.ensures.ok
+    (goes_on (λ state. begins_flat_part
+    (record { lines = c.args.lines; blocks = c.args.blocks })) (λ state x. state)
+    (λ state. flat_part c.args.self.now.names.now
+    (run_at c.args.self.now.names.now c.args.self.now.depth) c.args.blocks) l.found
+    c.args.self.now.depth l._turn true l.tokens _ c.in_ok-flat_part.field-0
+    c.flat_part.new.tokens (omega arith) e c.in_ok-flat_part.ensures l.invariant)

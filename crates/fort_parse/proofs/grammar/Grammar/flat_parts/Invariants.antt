@@ -14,4 +14,11 @@ use Rattle.fort_reading.proofs.Loops.{with_front}
 use Rattle.fort_parse.proofs.grammar.Grammar.flat_parts.Given as goal
 
 abbrev pub invariant-loop-turn : goal.invariant-loop-turn
-invariant-loop-turn g l = with_front l.found (many_run (λ state. begins_flat_part (record { lines = l.lines; blocks = l.blocks })) (λ state x. state) (λ state. flat_part l.self.names.now (run_at l.self.names.now l.self.depth) l.blocks) (l._turn-end - l._turn) true l.tokens) ≡ (flat_parts l.self.names.now (run_at l.self.names.now l.self.depth) l.fn.found l.lines l.blocks).run l.fn.tokens
+invariant-loop-turn g l =
+    with_front l.found
+    (many_run (λ state. begins_flat_part (record { lines = l.lines; blocks = l.blocks }))
+    (λ state x. state)
+    (λ state. flat_part l.self.names.now (run_at l.self.names.now l.self.depth) l.blocks)
+    (l._turn-end - l._turn) true l.tokens)
+    ≡ (flat_parts l.self.names.now (run_at l.self.names.now l.self.depth) l.fn.found l.lines
+    l.blocks).run l.fn.tokens

@@ -15,10 +15,17 @@ use Rattle.fort_parse.proofs.grammar.Grammar.next_exprs.Goals as goal
 
 pub loop-turn-init : goal.loop-turn-init
 unfolding next_exprs
-loop-turn-init g c = let k : c.args.self.now.depth - 0 ≡ c.args.self.now.depth = omega arith in rw (c.new-found.ensures, k) (no_front _)
+loop-turn-init g c =
+    let k : c.args.self.now.depth - 0 ≡ c.args.self.now.depth = omega arith
+    in rw (c.new-found.ensures, k) (no_front _)
 
 pub loop-turn-preserved : goal.loop-turn-preserved
 loop-turn-preserved g c =
     let l = c.loop-turn in
     let e : sees (is_mark mark.Comma) (next_of l.tokens) ≡ true = grind arith in
-    rw c.in_ok-add.ensures.ok (goes_on (λ state. sees (is_mark mark.Comma)) (λ state x. state) (λ state. next_expr c.args.self.now.names.now (run_at c.args.self.now.names.now c.args.self.now.depth)) l.found c.args.self.now.depth l._turn true l.tokens _ c.in_ok-next_expr.field-0 c.next_expr.new.tokens (omega arith) e c.in_ok-next_expr.ensures l.invariant)
+    rw c.in_ok-add.ensures.ok
+    (goes_on (λ state. sees (is_mark mark.Comma)) (λ state x. state)
+    (λ state. next_expr c.args.self.now.names.now
+    (run_at c.args.self.now.names.now c.args.self.now.depth)) l.found c.args.self.now.depth
+    l._turn true l.tokens _ c.in_ok-next_expr.field-0 c.next_expr.new.tokens (omega arith) e
+    c.in_ok-next_expr.ensures l.invariant)

@@ -16,12 +16,20 @@ use Rattle.fort_parse.proofs.grammar.Grammar.type_clause_list.Goals as goal
 
 pub loop-turn-init : goal.loop-turn-init
 unfolding type_clause_list
-loop-turn-init g c = let k : c.args.self.now.depth - 0 ≡ c.args.self.now.depth = omega arith in rw (c.new-found.ensures, k) (no_front _)
+loop-turn-init g c =
+    let k : c.args.self.now.depth - 0 ≡ c.args.self.now.depth = omega arith
+    in rw (c.new-found.ensures, k) (no_front _)
 
 pub loop-turn-preserved : goal.loop-turn-preserved
 loop-turn-preserved g c =
     let l = c.loop-turn in
     let e : begins_type_clause l.ready (next_of l.tokens) ≡ true = grind arith in
     let x = c.in_ok-clause.clause in
-    let r : c.is_some-ready.result ≡ is_ended x.semicolon = c.is_some-ready.ensures ∙ ended_is x.semicolon in
-    rw (c.in_ok-add.ensures.ok, r) (goes_on begins_type_clause (λ ready c. is_ended (out-TypeClause c).semicolon) (λ state. type_clause c.args.self.now.names.now (run_at c.args.self.now.names.now c.args.self.now.depth)) l.found c.args.self.now.depth l._turn l.ready l.tokens _ x c.type_clause.new.tokens (omega arith) e c.in_ok-clause.ensures l.invariant)
+    let r : c.is_some-ready.result ≡ is_ended x.semicolon =
+    c.is_some-ready.ensures ∙ ended_is x.semicolon in
+    rw (c.in_ok-add.ensures.ok, r)
+    (goes_on begins_type_clause (λ ready c. is_ended (out-TypeClause c).semicolon)
+    (λ state. type_clause c.args.self.now.names.now
+    (run_at c.args.self.now.names.now c.args.self.now.depth)) l.found c.args.self.now.depth
+    l._turn l.ready l.tokens _ x c.type_clause.new.tokens (omega arith) e
+    c.in_ok-clause.ensures l.invariant)

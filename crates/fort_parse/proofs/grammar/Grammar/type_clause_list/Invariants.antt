@@ -14,4 +14,9 @@ use Rattle.fort_reading.proofs.Loops.{with_front}
 use Rattle.fort_parse.proofs.grammar.Grammar.type_clause_list.Given as goal
 
 abbrev pub invariant-loop-turn : goal.invariant-loop-turn
-invariant-loop-turn g l = with_front l.found (many_run begins_type_clause (λ ready c. is_ended (out-TypeClause c).semicolon) (λ state. type_clause l.self.names.now (run_at l.self.names.now l.self.depth)) (l._turn-end - l._turn) l.ready l.tokens) ≡ (type_clause_list l.self.names.now (run_at l.self.names.now l.self.depth)).run l.fn.tokens
+invariant-loop-turn g l =
+    with_front l.found
+    (many_run begins_type_clause (λ ready c. is_ended (out-TypeClause c).semicolon)
+    (λ state. type_clause l.self.names.now (run_at l.self.names.now l.self.depth))
+    (l._turn-end - l._turn) l.ready l.tokens)
+    ≡ (type_clause_list l.self.names.now (run_at l.self.names.now l.self.depth)).run l.fn.tokens

@@ -41,5 +41,8 @@ decreases-type_level l = 20 * l.self.now.depth + 8
 
 abbrev pub invariant-next_types-loop-turn : goal.invariant-next_types-loop-turn
 invariant-next_types-loop-turn l =
-    with_front l.found (many_run (λ state. sees (is_mark mark.Comma)) (λ state x. state) (λ state. next_type l.self.names.now (type_tree l.self.names.now l.self.depth)) (l._turn-end - l._turn) true l.tokens)
+    with_front l.found
+    (many_run (λ state. sees (is_mark mark.Comma)) (λ state x. state)
+    (λ state. next_type l.self.names.now (type_tree l.self.names.now l.self.depth))
+    (l._turn-end - l._turn) true l.tokens)
     ≡ (next_types l.self.names.now (type_tree l.self.names.now l.self.depth)).run l.fn.tokens

@@ -8,5 +8,8 @@ use Rattle.fort_parse_types.proofs.grammar.TypeGrammar.next_parameters.Given as 
 
 abbrev pub invariant-loop-turn : goal.invariant-loop-turn
 invariant-loop-turn l =
-    with_front l.found (many_run (λ state. sees (is_mark mark.Comma)) (λ state x. state) (λ state. next_parameter l.self.names.now l.self.depth) (l._turn-end - l._turn) true l.tokens)
+    with_front l.found
+    (many_run (λ state. sees (is_mark mark.Comma)) (λ state x. state)
+    (λ state. next_parameter l.self.names.now l.self.depth) (l._turn-end - l._turn) true
+    l.tokens)
     ≡ (next_parameters l.self.names.now l.self.depth).run l.fn.tokens

@@ -9,6 +9,7 @@ use Rattle.fort_rows_parts.proofs.gathering.AllParts.with_throw.Goals as goal
 
 pub returns-in-Values : goal.returns-in-Values
 returns-in-Values c = λ marked rest.
-    ap (λ (g : AllParts). before g (with_first (at_throw c.args.value.now) marked rest)) c.in-Values.is
+    ap (λ (g : AllParts). before g (with_first (at_throw c.args.value.now) marked rest))
+    c.in-Values.is
     ∙ values_throw c.in-Values.field-0 c.args.value.now marked rest
     ∙ ap (λ (v : Value). throw_first v rest) (sym c.in_ok-share-in-Values.ensures)

@@ -10,8 +10,10 @@ use Rattle.fort_rows_parts.proofs.gathering.AllParts.with_value.Goals as goal
 
 pub returns-in_ok-push-in-Values : goal.returns-in_ok-push-in-Values
 returns-in_ok-push-in-Values c =
-    let e : c.in-Values.values ++ c.args.value.now ∷ [] ≡ c.push.new.self = first_of (cc, search rules, grind (arith, common_steps)) in
+    let e : c.in-Values.values ++ c.args.value.now ∷ [] ≡ c.push.new.self =
+    first_of (cc, search rules, grind (arith, common_steps)) in
     λ marked rest.
-    ap (λ (g : AllParts). before g (with_first (at_value c.args.value.now) marked rest)) c.in-Values.is
+    ap (λ (g : AllParts). before g (with_first (at_value c.args.value.now) marked rest))
+    c.in-Values.is
     ∙ last_value c.in-Values.values c.args.value.now marked rest
     ∙ ap (λ (xs : List Value). values_first xs rest) e

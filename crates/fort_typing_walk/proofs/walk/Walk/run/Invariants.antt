@@ -5,4 +5,5 @@ use Rattle.fort_typing_walk.specs.Walks.{state}
 use Rattle.fort_typing_walk.proofs.walk.Walk.run.Given as goal
 
 abbrev pub invariant-tasks : goal.invariant-tasks
-invariant-tasks l = run (facts l.known) l.tasks (state l.self) ≡ run (facts l.known) l.fn.tasks (state l.fn.self)
+invariant-tasks l =
+    run (facts l.known) l.tasks (state l.self) ≡ run (facts l.known) l.fn.tasks (state l.fn.self)
