@@ -142,7 +142,9 @@ fn if_suited(
     typed: TypedForm,
     found: Option<Fault>,
 ) -> Valued
-    ensures { result ≡ cond suited (record { node = Some typed; found = found }) (no_node (broken rule place found)) }
+    ensures { result
+        ≡ cond suited (record { node = Some typed; found = found })
+        (no_node (broken rule place found)) }
 {
     if suited {
         return fitting(typed, found);
