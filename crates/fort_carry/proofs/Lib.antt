@@ -4,3 +4,4 @@ pub mod Before
 pub mod Stepped
 pub mod Tried
 pub mod Ended
+pub mod Taken

@@ -9,6 +9,7 @@ mod execution;
 mod first;
 mod fuel;
 mod steps;
+mod take;
 
 pub use attempts::single;
 pub use course::{Course, Going, Waiting};

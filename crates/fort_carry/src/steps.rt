@@ -212,7 +212,7 @@ fn above(fresh: u64, values: &List<Value>) -> Result<u64, Memory>
 }
 
 // The higher one of two numbers.
-fn higher(one: u64, other: u64) -> u64
+pub(crate) fn higher(one: u64, other: u64) -> u64
     ensures first { one ≤ result }
     ensures second { other ≤ result }
 {

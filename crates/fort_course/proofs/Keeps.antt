@@ -27,7 +27,7 @@ use Rattle.fort_course.proofs.Bounds.{both_bounded, closing_bounded, none_closed
 use Rattle.fort_course.proofs.Store.{levels_by, store_by, seen_base, inner_is, wait_on, seen_added}
 
 -- the levels after something was done by the root's run
-root_more : (p : Program) (root e : Effect) → FitsAll root (opening_store p)
+pub root_more : (p : Program) (root e : Effect) → FitsAll root (opening_store p)
     → FitsAll e (afterwards root (opening_store p))
     → added e (levels_by p root []) ≡ levels_by p (both root e) []
 root_more p root e f g =

@@ -4,3 +4,4 @@ pub mod Popped
 pub mod Closed
 pub mod Made
 pub mod InOrder
+pub mod Taken

@@ -2,7 +2,7 @@
 use Rattle.std.specs.Prelude.{◌≡◌, ℕ, ◌+◌, ◌<◌, Bool, true, false, List, [], ◌∷◌, ◌++◌, Option, Some, None}
 use Rattle.fort_core.specs.declared.value.Value.{Value}
 use Rattle.fort_machine.specs.Cells as machine
-use Rattle.fort_machine.specs.Cells.{found, made, joined}
+use Rattle.fort_machine.specs.Cells.{found, made, joined, Fits}
 use Rattle.fort_machine.specs.Effects.{Store, Effect, FitsAll, only_at, reading, writing}
 use Rattle.fort_machine.specs.Marked.{Marks}
 use Rattle.fort_machine.specs.Plain.{put}
@@ -64,3 +64,8 @@ MarksNoted old (Some e) new = MarksAdded old e.0 e.1 new
 abbrev pub AreMarks : Marks → List Effect → Type 0
 AreMarks marks [] = ⊥
 AreMarks marks (e ∷ es) = AreRead marks e × Rising marks
+
+-- A store suits one of several cells, where there is one.
+abbrev pub SuitsAt : Option (ℕ × Cell) → Store → Type 0
+SuitsAt None s = Unit {0}
+SuitsAt (Some e) s = Fits (cell e.1) (s e.0)

@@ -54,7 +54,11 @@ pub(crate) fn printed(output: Bytes, text: Bytes, closing: Closing) -> Result<By
 
 // The cells of an attempt that ended so, joined to those of the attempt round it.
 #[tactic(auto, using(crate::proofs::Popped::joined_all))]
-fn joined(parent: Layer, cells: IndexMap<u64, Cell>, closing: Closing) -> Result<Layer, Memory>
+pub(crate) fn joined(
+    parent: Layer,
+    cells: IndexMap<u64, Cell>,
+    closing: Closing,
+) -> Result<Layer, Memory>
     ensures { IfOk result (JoinsAll closing parent cells) }
 {
     let mut whole = parent;

@@ -2,6 +2,7 @@
 //! store. The chapter "Store and effects" of docs/MACHINE.md.
 #![tactic(auto)]
 
+mod beside;
 mod cell;
 mod close;
 mod layer;

@@ -44,7 +44,7 @@ impl Layers {
 }
 
 // New locations of an attempt.
-fn make_in_layer(layer: &mut Layer, at: u64, values: &List<Value>) -> Result<(), Memory>
+pub(crate) fn make_in_layer(layer: &mut Layer, at: u64, values: &List<Value>) -> Result<(), Memory>
     requires { at + length values.now ≤ 2 ^ 64 }
     ensures cells { OnOk result (cells_of layer.new
         ≡ (λ k. joined (cells_of layer.old k) (made_from at values.now k))) }
