@@ -5,7 +5,8 @@ use Rattle.fort_audit.specs.Audits.{PartsAt, Differ, FirstEnds, SecondEnds}
 
 -- ---- a byte in front of both
 
-behind_one : (x y : ℕ) (one two : List ℕ) (n : ℕ) → x ≡ y → PartsAt one two n → PartsAt (x ∷ one) (y ∷ two) (suc n)
+behind_one : (x y : ℕ) (one two : List ℕ) (n : ℕ) → x ≡ y → PartsAt one two n
+    → PartsAt (x ∷ one) (y ∷ two) (suc n)
 behind_one x y one two n e (Differ front rest others a b p q ne l) =
     Differ (y ∷ front) rest others a b (λ i. e i ∷ p i) (ap (λ t. y ∷ t) q) ne (ap suc l)
 behind_one x y one two n e (FirstEnds rest b p l) = FirstEnds rest b (λ i. sym e i ∷ p i) (ap suc l)
@@ -15,14 +16,16 @@ behind_one x y one two n e (SecondEnds rest a p l) = SecondEnds rest a (λ i. e 
 abbrev InFront : (x y : ℕ) (one two : List ℕ) (n : ℕ) → Type 0
 InFront x y one two n = ((x ≢ y) × (n ≡ 0)) ⊎ ((x ≡ y) × (m : ℕ) × (n ≡ suc m) × PartsAt one two m)
 
-in_front : (x y : ℕ) (one two : List ℕ) (n : ℕ) → PartsAt (x ∷ one) (y ∷ two) n → InFront x y one two n
+in_front : (x y : ℕ) (one two : List ℕ) (n : ℕ) → PartsAt (x ∷ one) (y ∷ two) n
+    → InFront x y one two n
 in_front x y one two n (Differ [] rest others a b p q ne l) =
     let e : x ≡ a = cc in
     let f : y ≡ b = cc in inl (λ s. ne (sym e ∙ s ∙ f), l)
 in_front x y one two n (Differ (f ∷ front) rest others a b p q ne l) =
     let e : x ≡ y = cc in
     let g : one ≡ front ++ a ∷ rest = cc in
-    let h : two ≡ front ++ b ∷ others = cc in inr (e, length front, l, Differ front rest others a b g h ne refl)
+    let h : two ≡ front ++ b ∷ others = cc
+    in inr (e, length front, l, Differ front rest others a b g h ne refl)
 in_front x y one two n (FirstEnds rest b p l) =
     let e : x ≡ y = cc in
     let g : two ≡ one ++ b ∷ rest = cc in inr (e, length one, l, FirstEnds rest b g refl)
@@ -33,8 +36,10 @@ in_front x y one two n (SecondEnds rest a p l) =
 -- ---- texts that part
 
 at_none : (one two : List ℕ) (n : ℕ) → PartsAt one two n → one ≡ [] → n ≡ 0
-at_none one two n (Differ [] rest others a b p q ne l) e = let z : [] ≡ a ∷ rest = sym e ∙ p in absurd cc
-at_none one two n (Differ (f ∷ front) rest others a b p q ne l) e = let z : [] ≡ f ∷ (front ++ a ∷ rest) = sym e ∙ p in absurd cc
+at_none one two n (Differ [] rest others a b p q ne l) e =
+    let z : [] ≡ a ∷ rest = sym e ∙ p in absurd cc
+at_none one two n (Differ (f ∷ front) rest others a b p q ne l) e =
+    let z : [] ≡ f ∷ (front ++ a ∷ rest) = sym e ∙ p in absurd cc
 at_none one two n (FirstEnds rest b p l) e = l ∙ ap length e
 at_none one two n (SecondEnds rest a p l) e = ends two (sym e ∙ p)
   where
@@ -43,16 +48,21 @@ at_none one two n (SecondEnds rest a p l) e = ends two (sym e ∙ p)
     ends (c ∷ two) q = absurd cc
 
 turned : (one two : List ℕ) (n : ℕ) → PartsAt one two n → PartsAt two one n
-turned one two n (Differ front rest others a b p q ne l) = Differ front others rest b a q p (λ e. ne (sym e)) l
+turned one two n (Differ front rest others a b p q ne l) =
+    Differ front others rest b a q p (λ e. ne (sym e)) l
 turned one two n (FirstEnds rest b p l) = SecondEnds rest b p l
 turned one two n (SecondEnds rest a p l) = FirstEnds rest a p l
 
 pub one_parting : (one two : List ℕ) (n m : ℕ) → PartsAt one two n → PartsAt one two m → n ≡ m
 one_parting [] two n m p q = at_none [] two n p refl ∙ sym (at_none [] two m q refl)
-one_parting (x ∷ one) [] n m p q = at_none [] (x ∷ one) n (turned (x ∷ one) [] n p) refl ∙ sym (at_none [] (x ∷ one) m (turned (x ∷ one) [] m q) refl)
-one_parting (x ∷ one) (y ∷ two) n m p q = both (in_front x y one two n p) (in_front x y one two m q) (λ k h. one_parting one two k h)
+one_parting (x ∷ one) [] n m p q =
+    at_none [] (x ∷ one) n (turned (x ∷ one) [] n p) refl
+    ∙ sym (at_none [] (x ∷ one) m (turned (x ∷ one) [] m q) refl)
+one_parting (x ∷ one) (y ∷ two) n m p q =
+    both (in_front x y one two n p) (in_front x y one two m q) (λ k h. one_parting one two k h)
   where
-    both : InFront x y one two n → InFront x y one two m → ((k h : ℕ) → PartsAt one two k → PartsAt one two h → k ≡ h) → n ≡ m
+    both : InFront x y one two n → InFront x y one two m
+        → ((k h : ℕ) → PartsAt one two k → PartsAt one two h → k ≡ h) → n ≡ m
     both (inl k) (inl h) same = k.1 ∙ sym h.1
     both (inl k) (inr h) same = absurd (k.0 h.0)
     both (inr k) (inl h) same = absurd (h.0 k.0)
@@ -77,21 +87,25 @@ parted_differ one two n p e = not_itself two n (subst (λ t. PartsAt t two n) e 
 same_rest : (x y : ℕ) (xs ys : List ℕ) → x ∷ xs ≡ y ∷ ys → (x ≡ y) × (xs ≡ ys)
 same_rest x y xs ys e = (cc, cc)
 
-pub differ_there : (one two : List ℕ) (n d e : ℕ) → n < length one → n < length two → take n one ≡ take n two → (get_or one n d ≡ get_or two n e → ⊥) → PartsAt one two n
+pub differ_there : (one two : List ℕ) (n d e : ℕ) → n < length one → n < length two
+    → take n one ≡ take n two → (get_or one n d ≡ get_or two n e → ⊥) → PartsAt one two n
 differ_there [] two n d e l m s ne = absurd (omega (arith, l))
 differ_there (x ∷ one) [] n d e l m s ne = absurd (omega (arith, m))
 differ_there (x ∷ one) (y ∷ two) zero d e l m s ne = Differ [] one two x y refl refl ne refl
 differ_there (x ∷ one) (y ∷ two) (suc n) d e l m s ne =
     let k = same_rest x y (take n one) (take n two) s in
-    behind_one x y one two n k.0 (differ_there one two n d e (omega (arith, l)) (omega (arith, m)) k.1 ne)
+    behind_one x y one two n k.0
+    (differ_there one two n d e (omega (arith, l)) (omega (arith, m)) k.1 ne)
 
 -- No byte of both stands at the shorter length.
-none_further : (one two : List ℕ) (n : ℕ) → (n ≡ length one) ⊎ (n ≡ length two) → n < length one → n < length two → ⊥
+none_further : (one two : List ℕ) (n : ℕ) → (n ≡ length one) ⊎ (n ≡ length two) → n < length one
+    → n < length two → ⊥
 none_further one two n (inl e) l m = omega (arith, e, l)
 none_further one two n (inr e) l m = omega (arith, e, m)
 
 -- One of them ends there.
-ends_there : (one two : List ℕ) (n : ℕ) → n ≤ length one → n ≤ length two → (n < length one → n < length two → ⊥) → take n one ≡ take n two
+ends_there : (one two : List ℕ) (n : ℕ) → n ≤ length one → n ≤ length two
+    → (n < length one → n < length two → ⊥) → take n one ≡ take n two
     → (length one ≡ length two → ⊥) → PartsAt one two n
 ends_there [] [] n l m none s ne = absurd (ne refl)
 ends_there [] (y ∷ two) zero l m none s ne = FirstEnds two y refl refl
@@ -102,12 +116,15 @@ ends_there (x ∷ one) (y ∷ two) zero l m none s ne = absurd (none (omega arit
 ends_there (x ∷ one) (y ∷ two) (suc n) l m none s ne =
     let k = same_rest x y (take n one) (take n two) s in
     behind_one x y one two n k.0
-    (ends_there one two n (omega (arith, l)) (omega (arith, m)) (λ a b. none (omega (arith, a)) (omega (arith, b))) k.1 (λ e. ne (ap suc e)))
+    (ends_there one two n (omega (arith, l)) (omega (arith, m))
+    (λ a b. none (omega (arith, a)) (omega (arith, b))) k.1 (λ e. ne (ap suc e)))
 
 -- ---- at the length of the shorter
 
-pub ends_at : (one two : List ℕ) (n k : ℕ) → n ≤ k → k ≤ n → (n ≤ length one) × (n ≤ length two) → (n ≡ length one) ⊎ (n ≡ length two) → take k one ≡ take k two
+pub ends_at : (one two : List ℕ) (n k : ℕ) → n ≤ k → k ≤ n → (n ≤ length one) × (n ≤ length two)
+    → (n ≡ length one) ⊎ (n ≡ length two) → take k one ≡ take k two
     → (length one ≡ length two → ⊥) → PartsAt one two n
 ends_at one two n k l m w s t ne =
     let e : k ≡ n = omega (arith, l, m) in
-    ends_there one two n w.0 w.1 (none_further one two n s) (subst (λ x. take x one ≡ take x two) e t) ne
+    ends_there one two n w.0 w.1 (none_further one two n s)
+    (subst (λ x. take x one ≡ take x two) e t) ne

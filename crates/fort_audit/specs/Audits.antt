@@ -1,4 +1,5 @@
--- Chapter "Audits" of docs/RECORDS.md: what an audit of a record says. The code replays the journal; here a run is one by the machine's rules.
+-- Chapter "Audits" of docs/RECORDS.md: what an audit of a record says. The code replays the
+-- journal; here a run is one by the machine's rules.
 use Rattle.std.specs.Prelude.{◌≡◌, ◌≢◌, ℕ, List, ◌∷◌, ◌++◌, length}
 use Rattle.fort_core.specs.declared.journal.Journal.{Journal}
 use Rattle.fort_core.specs.declared.program.Program.{Program}
@@ -17,27 +18,33 @@ pub record Prints (p : Program) (j : Journal) (output : List ℕ) : Type 0 where
   pub records : Records p j term effect
   pub is_output : output ≡ effect.output
 
--- Two texts part behind all bytes that they share: with bytes that differ, or where one of them ends and the other goes on.
+-- Two texts part behind all bytes that they share: with bytes that differ, or where one of them
+-- ends and the other goes on.
 pub data PartsAt (one two : List ℕ) (n : ℕ) : Type 0 where
-  Differ : (front rest others : List ℕ) (a b : ℕ) → one ≡ front ++ a ∷ rest → two ≡ front ++ b ∷ others → a ≢ b → n ≡ length front → PartsAt one two n
+  Differ : (front rest others : List ℕ) (a b : ℕ) → one ≡ front ++ a ∷ rest
+      → two ≡ front ++ b ∷ others → a ≢ b → n ≡ length front → PartsAt one two n
   FirstEnds : (rest : List ℕ) (b : ℕ) → two ≡ one ++ b ∷ rest → n ≡ length one → PartsAt one two n
   SecondEnds : (rest : List ℕ) (a : ℕ) → one ≡ two ++ a ∷ rest → n ≡ length two → PartsAt one two n
 
--- What is said of a record of a run: whether the run printed what was recorded, or where the two part.
+-- What is said of a record of a run: whether the run printed what was recorded, or where the two
+-- part.
 abbrev pub Compares : List ℕ → List ℕ → Audited → Type 0
 Compares kept printed Yes = kept ≡ printed
 Compares kept printed (NotARun n) = ⊥
 Compares kept printed (OtherOutput n) = PartsAt kept printed n
 
--- What an audit says of a record: that its journal is that of a run which printed its output; or where the journal breaks; or where its output and what was printed part.
+-- What an audit says of a record: that its journal is that of a run which printed its output; or
+-- where the journal breaks; or where its output and what was printed part.
 abbrev pub Audits : Program → Record → Audited → Type 0
 Audits p kept Yes = Prints p kept.journal kept.output
 Audits p kept (NotARun n) = BreaksAt p kept.journal n
-Audits p kept (OtherOutput n) = (printed : List ℕ) × Prints p kept.journal printed × PartsAt kept.output printed n
+Audits p kept (OtherOutput n) = (printed : List ℕ) × Prints p kept.journal printed
+    × PartsAt kept.output printed n
 
 -- A journal is that of runs which all print the same.
 abbrev pub OneOutput : Type 0
-OneOutput = (p : Program) (j : Journal) (output other : List ℕ) → Prints p j output → Prints p j other → output ≡ other
+OneOutput = (p : Program) (j : Journal) (output other : List ℕ) → Prints p j output
+    → Prints p j other → output ≡ other
 
 -- Two texts part at one number.
 abbrev pub OneParting : Type 0
@@ -45,4 +52,5 @@ OneParting = (one two : List ℕ) (n m : ℕ) → PartsAt one two n → PartsAt 
 
 -- A record has one answer, so each is said exactly where it is so.
 abbrev pub OneAnswer : Type 0
-OneAnswer = (p : Program) (kept : Record) (one two : Audited) → Audits p kept one → Audits p kept two → one ≡ two
+OneAnswer = (p : Program) (kept : Record) (one two : Audited) → Audits p kept one
+    → Audits p kept two → one ≡ two

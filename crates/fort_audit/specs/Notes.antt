@@ -7,4 +7,5 @@ use Rattle.fort_audit.specs.declared.refusal.Why.TheVariants.{Form, Pick, Output
 abbrev pub note_of : Why → List ℕ
 note_of (Form at) = codes "record refused: " ++ codes "form at byte " ++ decimal at ++ codes "\n"
 note_of (Pick at) = codes "record refused: " ++ codes "pick " ++ decimal at ++ codes "\n"
-note_of (Output at) = codes "record refused: " ++ codes "output at byte " ++ decimal at ++ codes "\n"
+note_of (Output at) =
+    codes "record refused: " ++ codes "output at byte " ++ decimal at ++ codes "\n"

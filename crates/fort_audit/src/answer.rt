@@ -22,8 +22,8 @@ pub enum Audited {
     OtherOutput(u64),
 }
 
-/// Says whether a record is that of a run of a program. Whoever wrote it, nothing is asked of it. The
-/// chapter "Audits" of docs/RECORDS.md.
+/// Says whether a record is that of a run of a program. Whoever wrote it, nothing is asked of it.
+/// The chapter "Audits" of docs/RECORDS.md.
 ///
 /// # Errors
 ///

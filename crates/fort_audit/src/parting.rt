@@ -2,8 +2,8 @@
 ghost use Rattle.std.specs.Prelude.{◌≡◌, ◌≤◌, ◌⊎◌, length, MatchOption};
 ghost use Rattle.fort_audit.specs.Audits.{PartsAt};
 
-/// The number, from 0, of the first byte at which two texts differ or one of them ends; `None` where
-/// they are the same.
+/// The number, from 0, of the first byte at which two texts differ or one of them ends; `None`
+/// where they are the same.
 pub(crate) fn parting(one: &[u8], two: &[u8]) -> Option<usize>
     ensures { MatchOption result (one.now ≡ two.now) (PartsAt one.now two.now) }
 {

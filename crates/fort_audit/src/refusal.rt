@@ -34,7 +34,8 @@ pub fn note(alloc: Global, why: Why) -> Result<Bytes, Memory>
 
 // A refusal by what is wrong, and its number.
 fn numbered(alloc: Global, what: &[u8], at: u64) -> Result<Bytes, Memory>
-    ensures { IfOk result (λ note. note ≡ codes "record refused: " ++ what.now ++ decimal at ++ codes "\n") }
+    ensures { IfOk result (λ note. note
+        ≡ codes "record refused: " ++ what.now ++ decimal at ++ codes "\n") }
 {
     let mut buffer = Buffer::new();
     let mut note = List::from_slice(alloc, b"record refused: ")?;

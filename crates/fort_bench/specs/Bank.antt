@@ -1,7 +1,9 @@
--- The bank's text. It restates the chapter "The bank" of docs/LANGUAGE.md, line by line, with what stands between two numbers in parentheses.
+-- The bank's text. It restates the chapter "The bank" of docs/LANGUAGE.md, line by line, with what
+-- stands between two numbers in parentheses.
 use Rattle.std.specs.Prelude.{ℕ, List, ◌++◌, codes, decimal}
 
--- A component with so many accounts, of 100 each, and so many transfers between them, some of which may fail.
+-- A component with so many accounts, of 100 each, and so many transfers between them, some of which
+-- may fail.
 abbrev pub bank : ℕ → ℕ → List ℕ
 bank accounts transfers =
     (codes "component Bank\n"
@@ -16,7 +18,8 @@ bank accounts transfers =
     ++ codes "  dst.balance += amount\n"
     ++ codes "end\n"
     ++ codes "run(): () = do\n"
-    ++ codes "  bank: Array[\\Account, ZZ32\\] = array[\\Account\\](") ++ decimal accounts ++ (codes ").fill(Account(0))\n"
+    ++ codes "  bank: Array[\\Account, ZZ32\\] = array[\\Account\\](") ++ decimal accounts
+    ++ (codes ").fill(Account(0))\n"
     ++ codes "  for i <- 0#") ++ decimal accounts ++ (codes " do bank[i] := Account(100) end\n"
     ++ codes "  for k <- 0#") ++ decimal transfers ++ (codes " do\n"
     ++ codes "    a: Account = bank[(7 k) MOD ") ++ decimal accounts ++ (codes "]\n"
@@ -27,6 +30,7 @@ bank accounts transfers =
     ++ codes "      Overdraft => ()\n"
     ++ codes "    end\n"
     ++ codes "  end\n"
-    ++ codes "  println(\"total \" (SUM[i <- 0#") ++ decimal accounts ++ (codes "] bank[i].balance))\n"
+    ++ codes "  println(\"total \" (SUM[i <- 0#") ++ decimal accounts
+    ++ (codes "] bank[i].balance))\n"
     ++ codes "end\n"
     ++ codes "end\n")

@@ -45,8 +45,9 @@ end
 end
 ";
 
-/// The text of the bank: a component with so many accounts of 100 each, and so many transfers between them at once, some of
-/// which fail. Run with enough fuel it prints `total ` and 100 times the accounts. The chapter "The bank".
+/// The text of the bank: a component with so many accounts of 100 each, and so many transfers
+/// between them at once, some of which fail. Run with enough fuel it prints `total ` and 100 times
+/// the accounts. The chapter "The bank".
 ///
 /// # Errors
 ///

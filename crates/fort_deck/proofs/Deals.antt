@@ -25,8 +25,10 @@ abbrev weigh_hand : (Job → ℕ) → Hand → ℕ
 weigh_hand weight hand = sum_by weight hand.stolen
 
 -- the rule, of the owner whose view stands at the seat 0
-pub of_owner : (jobs : List Job) (views : List View) (v : View) → Dealt jobs views → get_elem? views 0 ≡ some v → Holds v jobs views
-of_owner jobs views v d at = subst (λ (o : View). Holds o jobs views) (some-injective d.0 v (sym d.1.first ∙ at)) d.1
+pub of_owner : (jobs : List Job) (views : List View) (v : View) → Dealt jobs views
+    → get_elem? views 0 ≡ some v → Holds v jobs views
+of_owner jobs views v d at =
+    subst (λ (o : View). Holds o jobs views) (some-injective d.0 v (sym d.1.first ∙ at)) d.1
 
 out_of : (v : View) → v.steals ≡ true → is_out v ≡ 1
 out_of v e = rw e refl
@@ -51,13 +53,15 @@ begins = (
     stolen = λ weight. refl;
     out_is = refl;
     given = λ k d l. absurd (omega arith);
-    each = λ j v e. subst (Fits [] (λ _. 0) 0 j) (one_seat founder v j e) (record { thief = λ h. absurd (true≢false (sym h)); idle = λ _. refl });
+    each = λ j v e. subst (Fits [] (λ _. 0) 0 j) (one_seat founder v j e)
+        (record { thief = λ h. absurd (true≢false (sym h)); idle = λ _. refl });
     hands = λ k d l. absurd (omega arith);
   },
 )
 
 -- the owner's jobs change, and nothing else
-deals : (v : View) (put owned stack jobs after : List Job) (views : List View) (r : Holds v jobs views) → get_elem? views 0 ≡ some v → stack ≡ jobs_of r.thefts ++ after
+deals : (v : View) (put owned stack jobs after : List Job) (views : List View)
+    (r : Holds v jobs views) → get_elem? views 0 ≡ some v → stack ≡ jobs_of r.thefts ++ after
     → ((weight : Job → ℕ) → sum_by weight put ≡ sum_by weight owned + sum_by weight stack)
     → Holds (owning v put owned stack) after (set views 0 (owning v put owned stack))
 deals v put owned stack jobs after views r at stack_is balance =
@@ -68,10 +72,12 @@ deals v put owned stack jobs after views r at stack_is balance =
       plain = r.plain;
       stack_is = stack_is;
       balance = balance;
-      stolen = λ weight. let t = r.stolen weight in let s = sum_set (weigh weight) views 0 v w at in omega arith;
+      stolen = λ weight. let t = r.stolen weight in let s = sum_set (weigh weight) views 0 v w at
+          in omega arith;
       out_is = let t = r.out_is in let s = sum_set is_out views 0 v w at in omega arith;
       given = r.given;
-      each = seats_set (Fits r.thefts r.seat v.thieves) views 0 w (let f = r.each 0 v at in record { thief = f.thief; idle = f.idle }) (λ j u _ e. r.each j u e);
+      each = seats_set (Fits r.thefts r.seat v.thieves) views 0 w (let f = r.each 0 v at
+          in record { thief = f.thief; idle = f.idle }) (λ j u _ e. r.each j u e);
       hands = r.hands;
     }
 
@@ -84,20 +90,36 @@ puts v xs items views d at =
         w,
         deals v (v.put ++ xs) v.owned (v.stack ++ xs) items (items ++ xs) views r at
             (ap (λ (l : List Job). l ++ xs) r.stack_is ∙ append_assoc (jobs_of r.thefts) items xs)
-            (λ weight. let b = r.balance weight in omega (arith, sum_by-append weight v.put xs, sum_by-append weight v.stack xs)),
+            (λ weight. let b = r.balance weight
+            in omega (
+              arith,
+              sum_by-append weight v.put xs,
+              sum_by-append weight v.stack xs,
+            )),
       ),
       refl,
     )
 
 -- the owner takes the last job
-pub owns_one : (v : View) (x : Job) (items : List Job) (views : List View) (r : Holds v (items ++ x ∷ []) views) → get_elem? views 0 ≡ some v
-    → (v.stack ≡ (jobs_of r.thefts ++ items) ++ x ∷ []) × Holds (owning v v.put (v.owned ++ x ∷ []) (jobs_of r.thefts ++ items)) items (set views 0 (owning v v.put (v.owned ++ x ∷ []) (jobs_of r.thefts ++ items)))
+pub owns_one : (v : View) (x : Job) (items : List Job) (views : List View)
+    (r : Holds v (items ++ x ∷ []) views) → get_elem? views 0 ≡ some v
+    → (v.stack ≡ (jobs_of r.thefts ++ items) ++ x ∷ [])
+    × Holds (owning v v.put (v.owned ++ x ∷ []) (jobs_of r.thefts ++ items)) items
+    (set views 0 (owning v v.put (v.owned ++ x ∷ []) (jobs_of r.thefts ++ items)))
 owns_one v x items views r at =
     let front = jobs_of r.thefts ++ items in
-    let is : v.stack ≡ front ++ x ∷ [] = r.stack_is ∙ sym (append_assoc (jobs_of r.thefts) items (x ∷ [])) in (
+    let is : v.stack ≡ front ++ x ∷ [] =
+    r.stack_is ∙ sym (append_assoc (jobs_of r.thefts) items (x ∷ [])) in (
       is,
       deals v v.put (v.owned ++ x ∷ []) front (items ++ x ∷ []) items views r at refl
-          (λ weight. let b = r.balance weight in let s : sum_by weight v.stack ≡ sum_by weight (front ++ x ∷ []) = ap (sum_by weight) is in omega (arith, sum_by-append weight v.owned (x ∷ []), sum_by-append weight front (x ∷ []))),
+          (λ weight. let b = r.balance weight
+          in let s : sum_by weight v.stack ≡ sum_by weight (front ++ x ∷ []) =
+          ap (sum_by weight) is
+          in omega (
+            arith,
+            sum_by-append weight v.owned (x ∷ []),
+            sum_by-append weight front (x ∷ []),
+          )),
     )
 
 pub owns : (v : View) → Pops Dealt 0 v (Owns v)
@@ -109,12 +131,16 @@ owns v x items views d at =
     (w, (w, o.1), (front, o.0, refl))
 
 pub all_stolen : (v : View) → Finds Dealt 0 v (AllStolen v)
-all_stolen v views d at = let r = of_owner [] views v d at in (r.thefts, r.stack_is ∙ append-nil (jobs_of r.thefts), r.given)
+all_stolen v views d at =
+    let r = of_owner [] views v d at
+    in (r.thefts, r.stack_is ∙ append-nil (jobs_of r.thefts), r.given)
 
 -- a thief is not the owner
-not_first : (o : View) (jobs : List Job) (views : List View) (id : ℕ) (v : View) → Holds o jobs views → get_elem? views id ≡ some v → v.steals ≡ true → id ≢ 0
+not_first : (o : View) (jobs : List Job) (views : List View) (id : ℕ) (v : View)
+    → Holds o jobs views → get_elem? views id ≡ some v → v.steals ≡ true → id ≢ 0
 not_first o jobs views id v r at steals is =
-    let same : o ≡ v = some-injective o v (sym r.first ∙ subst (λ (k : ℕ). get_elem? views k ≡ some v) is at) in
+    let same : o ≡ v =
+    some-injective o v (sym r.first ∙ subst (λ (k : ℕ). get_elem? views k ≡ some v) is at) in
     true≢false (sym steals ∙ (ap (λ (u : View). u.steals) (sym same) ∙ r.plain))
 
 pub steals : (id : ℕ) (v : View) → v.steals ≡ true → Takes Dealt id v 1 (Steals v)
@@ -126,7 +152,10 @@ steals id v thieving xs items views some_job few d at =
     let thefts = r.thefts ++ new_thefts n xs in
     let mine = (r.each id v at).thief thieving in
     let elsewhere : id ≢ 0 = not_first o (xs ++ items) views id v r at thieving in
-    let kept : (k : ℕ) → r.seat k ≢ id → jobs_by k r.thefts ≡ jobs_by k thefts = λ k apart. sym (other_more r.thefts n k xs (λ e. apart (sym (ap r.seat e) ∙ mine.0)) ∙ append-nil (jobs_by k r.thefts)) in (
+    let kept : (k : ℕ) → r.seat k ≢ id
+    → jobs_by k r.thefts ≡ jobs_by k thefts =
+    λ k apart. sym (other_more r.thefts n k xs (λ e. apart (sym (ap r.seat e) ∙ mine.0))
+    ∙ append-nil (jobs_by k r.thefts)) in (
       w,
       (
         o,
@@ -135,26 +164,56 @@ steals id v thieving xs items views some_job few d at =
           seat = r.seat;
           first = set_else views id 0 w (λ e. elsewhere (sym e)) ∙ r.first;
           plain = r.plain;
-          stack_is = r.stack_is ∙ (sym (append_assoc (jobs_of r.thefts) xs items) ∙ ap (λ (l : List Job). l ++ items) (sym (jobs_more r.thefts n xs)));
+          stack_is =
+              r.stack_is
+              ∙ (sym (append_assoc (jobs_of r.thefts) xs items) ∙ ap (λ
+              (l : List Job). l ++ items) (sym (jobs_more r.thefts n xs)));
           balance = r.balance;
           stolen = λ weight.
               let t = r.stolen weight in
               let s = sum_set (weigh weight) views id v w at in
-              let more : sum_by weight (jobs_of thefts) ≡ sum_by weight (jobs_of r.thefts ++ xs) = ap (sum_by weight) (jobs_more r.thefts n xs) in
-              omega (arith, sum_by-append weight (jobs_of r.thefts) xs, sum_by-append weight v.stolen xs);
+              let more : sum_by weight (jobs_of thefts) ≡ sum_by weight (jobs_of r.thefts ++ xs) =
+              ap (sum_by weight) (jobs_more r.thefts n xs) in
+              omega (
+                arith,
+                sum_by-append weight (jobs_of r.thefts) xs,
+                sum_by-append weight v.stolen xs,
+              );
           out_is = let t = r.out_is in let s = sum_set is_out views id v w at in omega arith;
-          given = All-append (λ (t : Theft). t.by < o.thieves) r.thefts (new_thefts n xs) r.given (given_new n o.thieves xs mine.1);
+          given = All-append (λ
+              (t : Theft). t.by
+              < o.thieves) r.thefts (new_thefts n xs) r.given (given_new n o.thieves xs mine.1);
           each = seats_set (Fits thefts r.seat o.thieves) views id w
-              (record { thief = λ _. (mine.0, mine.1, ap (λ (l : List Job). l ++ xs) mine.2 ∙ sym (own_more r.thefts n xs)); idle = λ h. absurd (true≢false (sym thieving ∙ h)) })
-              (λ j u apart e. let f = r.each j u e in record { thief = λ h. let t = f.thief h in (t.0, t.1, t.2 ∙ kept u.number (λ q. apart (sym t.0 ∙ q))); idle = f.idle });
-          hands = λ k hand l. let h = r.hands k hand l in record { seat_is = h.seat_is; given = h.given; stolen = h.stolen ∙ kept _ (λ q. elsewhere (sym q ∙ h.seat_is)) };
+              (record {
+                thief =
+                    λ _. (
+                      mine.0,
+                      mine.1,
+                      ap (λ
+                          (l : List Job). l ++ xs) mine.2 ∙ sym (own_more r.thefts n xs),
+                    );
+                idle = λ h. absurd (true≢false (sym thieving ∙ h));
+              })
+              (λ j u apart e. let f = r.each j u e
+              in record {
+                thief = λ h. let t = f.thief h
+                    in (t.0, t.1, t.2 ∙ kept u.number (λ q. apart (sym t.0 ∙ q)));
+                idle = f.idle;
+              });
+          hands = λ k hand l. let h = r.hands k hand l
+              in record {
+                seat_is = h.seat_is;
+                given = h.given;
+                stolen = h.stolen ∙ kept _ (λ q. elsewhere (sym q ∙ h.seat_is));
+              };
         },
       ),
       refl,
     )
 
 pub had_few : (id : ℕ) (v : View) → FindsFew Dealt 1 id v (HadFew v)
-had_few id v items views few d at = record { jobs = items; few = few; views = views; dealt = d; id = id; at = at }
+had_few id v items views few d at =
+    record { jobs = items; few = few; views = views; dealt = d; id = id; at = at }
 
 pub forks : (v : View) → Forks Dealt 0 v (one_more v) (newcomer v)
 forks v items views d at =
@@ -163,9 +222,16 @@ forks v items views d at =
     let u = newcomer v in
     let vs = set views 0 w in
     let seat : ℕ → ℕ = seated v.thieves (length vs) r.seat in
-    let before : (k : ℕ) → k < v.thieves → seat k ≡ r.seat k = λ k l. seated_else v.thieves (length vs) r.seat k (λ e. omega arith) in
-    let fits : (j : ℕ) (x : View) → Fits r.thefts r.seat v.thieves j x → Fits r.thefts seat (v.thieves + 1) j x =
-    λ j x f. record { thief = λ h. let t = f.thief h in let l = t.1 in (before x.number t.1 ∙ t.0, omega arith, t.2); idle = f.idle } in (
+    let before : (k : ℕ) → k < v.thieves
+    → seat k ≡ r.seat k = λ k l. seated_else v.thieves (length vs) r.seat k (λ e. omega arith)
+    in
+    let fits : (j : ℕ) (x : View) → Fits r.thefts r.seat v.thieves j x
+    → Fits r.thefts seat (v.thieves + 1) j x =
+    λ j x f. record {
+      thief = λ h. let t = f.thief h in let l = t.1
+          in (before x.number t.1 ∙ t.0, omega arith, t.2);
+      idle = f.idle;
+    } in (
       w,
       record {
         thefts = r.thefts;
@@ -174,17 +240,36 @@ forks v items views d at =
         plain = r.plain;
         stack_is = r.stack_is;
         balance = r.balance;
-        stolen = λ weight. let t = r.stolen weight in let s = sum_set (weigh weight) views 0 v w at in let z : weigh weight u ≡ 0 = refl in omega (arith, sum_by_push (weigh weight) vs u);
-        out_is = let t = r.out_is in let s = sum_set is_out views 0 v w at in let z : is_out u ≡ 1 = refl in omega (arith, sum_by_push is_out vs u);
+        stolen = λ weight. let t = r.stolen weight in let s = sum_set (weigh weight) views 0 v w at
+            in let z : weigh weight u ≡ 0 = refl in omega (arith, sum_by_push (weigh weight) vs u);
+        out_is = let t = r.out_is in let s = sum_set is_out views 0 v w at
+            in let z : is_out u ≡ 1 = refl in omega (arith, sum_by_push is_out vs u);
         given = λ k d l. let h = r.given k d l in omega arith;
         each = seats_push (Fits r.thefts seat (v.thieves + 1)) vs u
-            (record { thief = λ _. (seated_here v.thieves (length vs) r.seat, omega arith, sym (none_yet v.thieves r.thefts r.given)); idle = λ _. refl })
-            (seats_set (Fits r.thefts seat (v.thieves + 1)) views 0 w (let f = fits 0 v (r.each 0 v at) in record { thief = f.thief; idle = f.idle }) (λ j x _ e. fits j x (r.each j x e)));
-        hands = λ k hand l. let h = r.hands k hand l in let g = h.given in record { seat_is = before _ h.given ∙ h.seat_is; given = omega arith; stolen = h.stolen };
+            (record {
+              thief =
+                  λ _. (
+                    seated_here v.thieves (length vs) r.seat,
+                    omega arith,
+                    sym (none_yet v.thieves r.thefts r.given),
+                  );
+              idle = λ _. refl;
+            })
+            (seats_set (Fits r.thefts seat (v.thieves + 1)) views 0 w (let f =
+            fits 0 v (r.each 0 v at)
+            in record { thief = f.thief; idle = f.idle })
+            (λ j x _ e. fits j x (r.each j x e)));
+        hands = λ k hand l. let h = r.hands k hand l in let g = h.given
+            in record {
+              seat_is = before _ h.given ∙ h.seat_is;
+              given = omega arith;
+              stolen = h.stolen;
+            };
       },
     )
 
-pub merges : (v : View) (other : ℕ) (u : View) → u.steals ≡ true → Merges Dealt 0 v other u (one_less v u) nobody
+pub merges : (v : View) (other : ℕ) (u : View) → u.steals ≡ true
+    → Merges Dealt 0 v other u (one_less v u) nobody
 merges v other u thieving items views d at apart there =
     let r = of_owner items views v d at in
     let w = one_less v u in
@@ -192,16 +277,20 @@ merges v other u thieving items views d at apart there =
     let was : get_elem? views other ≡ some u = sym (set_else views 0 other w apart) ∙ there in
     let theirs = (r.each other u was).thief thieving in
     let seat : ℕ → ℕ = seated u.number 0 r.seat in
-    let else_of : (k : ℕ) → r.seat k ≢ other → seat k ≡ r.seat k = λ k ne. seated_else u.number 0 r.seat k (λ e. ne (ap r.seat e ∙ theirs.0)) in
+    let else_of : (k : ℕ) → r.seat k ≢ other
+    → seat k ≡ r.seat k =
+    λ k ne. seated_else u.number 0 r.seat k (λ e. ne (ap r.seat e ∙ theirs.0)) in
     let one : is_out u ≡ 1 = out_of u thieving in
     let zero' : is_out v ≡ 0 = home_of v r.plain in
     let sums : sum_by is_out (set vs other nobody) + 1 ≡ v.out =
-    (let t = r.out_is in let s = sum_set is_out views 0 v w at in let q = sum_set is_out vs other u nobody there in omega arith) in (
+    (let t = r.out_is in let s = sum_set is_out views 0 v w at
+    in let q = sum_set is_out vs other u nobody there in omega arith) in (
       w,
       record {
         thefts = r.thefts;
         seat = seat;
-        first = set_else vs other 0 nobody (λ e. apart (sym e)) ∙ set_here views 0 w (inside views 0 v at);
+        first = set_else vs other 0 nobody (λ e. apart (sym e))
+            ∙ set_here views 0 w (inside views 0 v at);
         plain = r.plain;
         stack_is = r.stack_is;
         balance = r.balance;
@@ -215,13 +304,29 @@ merges v other u thieving items views d at apart there =
         given = r.given;
         each = λ j x e. seats_set (Fits r.thefts seat v.thieves) vs other nobody
             (record { thief = λ h. absurd (true≢false (sym h)); idle = λ _. refl })
-            (λ i y ne f. seats_set (λ (k : ℕ) (z : View). k ≢ other → Fits r.thefts seat v.thieves k z) views 0 w
-            (λ _. let g = r.each 0 v at in record { thief = λ h. absurd (true≢false (sym h ∙ r.plain)); idle = g.idle })
-            (λ k z _ p away. let g = r.each k z p in record { thief = λ h. let t = g.thief h in (else_of z.number (λ q. away (sym t.0 ∙ q)) ∙ t.0, t.1, t.2); idle = g.idle })
+            (λ i y ne f. seats_set (λ (k : ℕ) (z : View). k ≢ other
+            → Fits r.thefts seat v.thieves k z) views 0 w
+            (λ _. let g = r.each 0 v at
+            in record { thief = λ h. absurd (true≢false (sym h ∙ r.plain)); idle = g.idle })
+            (λ k z _ p away. let g = r.each k z p
+            in record {
+              thief = λ h. let t = g.thief h
+                  in (else_of z.number (λ q. away (sym t.0 ∙ q)) ∙ t.0, t.1, t.2);
+              idle = g.idle;
+            })
             i y f ne)
             j x e;
         hands = All-cons (IsHand r.thefts seat v.thieves) (hand_of_view u) v.hands
-            (record { seat_is = seated_here u.number 0 r.seat; given = theirs.1; stolen = theirs.2 })
-            (λ k hand l. let h = r.hands k hand l in record { seat_is = else_of _ (λ q. apart (sym q ∙ h.seat_is)) ∙ h.seat_is; given = h.given; stolen = h.stolen });
+            (record {
+              seat_is = seated_here u.number 0 r.seat;
+              given = theirs.1;
+              stolen = theirs.2;
+            })
+            (λ k hand l. let h = r.hands k hand l
+            in record {
+              seat_is = else_of _ (λ q. apart (sym q ∙ h.seat_is)) ∙ h.seat_is;
+              given = h.given;
+              stolen = h.stolen;
+            });
       },
     )

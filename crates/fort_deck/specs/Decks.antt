@@ -1,4 +1,5 @@
--- Decks, owners, thieves and rests, as clauses speak of them. The chapter "The deck" of docs/THREADS.md.
+-- Decks, owners, thieves and rests, as clauses speak of them. The chapter "The deck" of
+-- docs/THREADS.md.
 use Rattle.std.specs.Prelude.{◌≡◌, ℕ, List, map}
 use Rattle.crossbeam_deque.specs.Handles.{view, taken, IsPassOf, worker_deque, stealer_deque, worker_view}
 use Rattle.fort_deck.specs.declared.job.Job.{Job}
@@ -35,9 +36,11 @@ thieves_of owner = (worker_view owner.worker).thieves
 
 -- the owner has put, taken and left the same jobs
 abbrev pub SameJobs : Owner → Owner → Type 0
-SameJobs old new = (put_by new ≡ put_by old) × (owned_by new ≡ owned_by old) × (stack_of new ≡ stack_of old)
+SameJobs old new = (put_by new ≡ put_by old) × (owned_by new ≡ owned_by old)
+    × (stack_of new ≡ stack_of old)
 
--- The deck may be empty: all of the owner's stack may have been stolen, by thieves that it made. Without thieves its stack is empty.
+-- The deck may be empty: all of the owner's stack may have been stolen, by thieves that it made.
+-- Without thieves its stack is empty.
 abbrev pub MayBeEmpty : Owner → Type 0
 MayBeEmpty owner = AllStolen (worker_view owner.worker)
 

@@ -13,7 +13,8 @@ module _ {A P : Type 0} where
 
   -- an owner that has taken no thief in, and can put at least 64 jobs in all
   abbrev pub RestsOwner : Worker Job A View P → Type 0
-  RestsOwner w = Rests w × (64 ≤ worker_capacity w) × (worker_index w ≤ length (worker_view w).put) × ((worker_view w).hands ≡ []) × ((worker_view w).out ≡ (worker_view w).thieves)
+  RestsOwner w = Rests w × (64 ≤ worker_capacity w) × (worker_index w ≤ length (worker_view w).put)
+      × ((worker_view w).hands ≡ []) × ((worker_view w).out ≡ (worker_view w).thieves)
 
   -- an owner that has taken all its thieves in
   abbrev pub RestsAlone : Worker Job A View P → Type 0

@@ -1,4 +1,5 @@
--- Thefts: the jobs that thieves took from a deck, in the order in which they took them. The chapter "The deck" of docs/THREADS.md.
+-- Thefts: the jobs that thieves took from a deck, in the order in which they took them. The chapter
+-- "The deck" of docs/THREADS.md.
 use Rattle.std.specs.Prelude.{ℕ, ◌==◌, List, map}
 use Rattle.std.specs.List.{filter}
 use Rattle.fort_deck.specs.declared.job.Job.{Job}

@@ -1,5 +1,5 @@
-//! A deck of jobs, over a work-stealing deque: its owner puts and takes at one end, and thieves take at the other.
-//! docs/THREADS.md.
+//! A deck of jobs, over a work-stealing deque: its owner puts and takes at one end, and thieves
+//! take at the other. docs/THREADS.md.
 #![tactic(auto)]
 
 mod close;

@@ -1,4 +1,5 @@
-//! What the owner and the thieves of a deck know, for the proofs alone: no value of these types is made.
+//! What the owner and the thieves of a deck know, for the proofs alone: no value of these types is
+//! made.
 use crate::job::Job;
 use std::collections::LinkedList;
 

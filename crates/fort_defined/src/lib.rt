@@ -5,8 +5,9 @@
 
 ghost use Rattle.fort_defined.specs.Sets.{SetsKeepRules};
 
-/// Where the sets of a program come from overload sets that keep the rules, over the program's hierarchy, exactly one
-/// declaration is most specific for types of values to which one is applicable, and that one isn't abstract.
+/// Where the sets of a program come from overload sets that keep the rules, over the program's
+/// hierarchy, exactly one declaration is most specific for types of values to which one is
+/// applicable, and that one isn't abstract.
 pub fn sets_keep_rules()
     ensures { SetsKeepRules }
 {}

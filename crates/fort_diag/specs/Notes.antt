@@ -1,4 +1,5 @@
--- The notes. It restates the chapter "Statuses and notes" of docs/LANGUAGE.md, and the names of the rules are those of its table of rules.
+-- The notes. It restates the chapter "Statuses and notes" of docs/LANGUAGE.md, and the names of the
+-- rules are those of its table of rules.
 use Rattle.std.specs.Prelude.{ℕ, ◌==◌, List, [], ◌++◌, codes, decimal, if◌then◌else◌}
 use Rattle.fort_base.specs.declared.refusal.Rule.{Rule}
 use Rattle.fort_base.specs.declared.refusal.Place.{Place}
@@ -10,7 +11,8 @@ use Rattle.fort_machine.specs.Texts.{text}
 -- ---- the notes that are the same at each call
 
 abbrev pub usage : List ℕ
-usage = codes "usage: fortress check FILE | show FILE | run FILE [--workers N] [--fuel N] | bench N | record FILE [--workers N] [--fuel N] | audit FILE RECORD\n"
+usage = codes
+    "usage: fortress check FILE | show FILE | run FILE [--workers N] [--fuel N] | bench N | record FILE [--workers N] [--fuel N] | audit FILE RECORD\n"
 
 abbrev pub read_fault : List ℕ
 read_fault = codes "read fault\n"
@@ -42,7 +44,8 @@ fixed status =
 -- FILE:LINE:COLUMN: rule NUMBER NAME
 abbrev pub refusal : List ℕ → Rule → Place → List ℕ
 refusal file rule place =
-    file ++ codes ":" ++ decimal place.line ++ codes ":" ++ decimal place.column ++ codes ": rule " ++ decimal rule.0
+    file ++ codes ":" ++ decimal place.line ++ codes ":" ++ decimal place.column ++ codes ": rule "
+    ++ decimal rule.0
     ++ codes " " ++ rule_name rule ++ codes "\n"
 
 -- ---- an exception that nothing caught, by its text, which is its type's name

@@ -12,8 +12,8 @@ const USAGE: &str = "usage: fortress check FILE | show FILE \
     | run FILE [--workers N] [--fuel N] | bench N \
     | record FILE [--workers N] [--fuel N] | audit FILE RECORD\n";
 
-/// The note of a refusal: the file's name as it was given, the place, and the rule with its name. It ends with a line feed. The
-/// chapter "Statuses and notes".
+/// The note of a refusal: the file's name as it was given, the place, and the rule with its name.
+/// It ends with a line feed. The chapter "Statuses and notes".
 ///
 /// # Errors
 ///
@@ -34,8 +34,8 @@ pub fn refused(file: Bytes, rule: Rule, place: Place) -> Result<Bytes, Memory>
     Ok(note)
 }
 
-/// The note of an exception that nothing caught: its text is the name of its type. It ends with a line feed. The chapter
-/// "Statuses and notes".
+/// The note of an exception that nothing caught: its text is the name of its type. It ends with a
+/// line feed. The chapter "Statuses and notes".
 ///
 /// # Errors
 ///
@@ -50,8 +50,8 @@ pub fn uncaught(alloc: Global, program: &Program, value: &Value) -> Result<Bytes
     Ok(note)
 }
 
-/// The note of a status that always has the same one, 2, 3, 4, 6, 7 or 8, with its line feed; the empty text for every other
-/// status. It takes no memory. The chapter "Statuses and notes".
+/// The note of a status that always has the same one, 2, 3, 4, 6, 7 or 8, with its line feed; the
+/// empty text for every other status. It takes no memory. The chapter "Statuses and notes".
 pub fn fixed(status: u8) -> &'static str
     ensures { result.now ≡ notes.fixed status }
 {

@@ -25,11 +25,18 @@ module _ (c : Component) (h : Hierarchy) (is : IsHierarchy c (type_names c) h) w
   as_many = (counts c).0 ∙ sym (counts c).1
 
   own_held : AllByRecursion (AreHeld (length (declared c))) (own_fields c)
-  own_held = all_join (AreHeld (length (declared c))) (replicate TYPE_COUNT []) (flat_map (declared_own (types_of c) c.names) c.declarations) (none_held (length (declared c)) TYPE_COUNT)
-      (all_own_held (length (declared c)) (types_of c) c.names (Known c) (λ x l. a_name_numbered (declared c) (spelling c.names x) l) c.declarations (known_all c h is))
+  own_held =
+      all_join (AreHeld (length (declared c))) (replicate TYPE_COUNT [])
+      (flat_map (declared_own (types_of c) c.names) c.declarations)
+      (none_held (length (declared c)) TYPE_COUNT)
+      (all_own_held (length (declared c)) (types_of c) c.names (Known c)
+      (λ x l. a_name_numbered (declared c) (spelling c.names x) l) c.declarations
+      (known_all c h is))
 
   variables_held : AreHeld (length (declared c)) (variables_of c)
-  variables_held = all_tops_held (length (declared c)) (types_of c) c.names (Known c) (λ x l. a_name_numbered (declared c) (spelling c.names x) l) c.declarations (known_all c h is)
+  variables_held =
+      all_tops_held (length (declared c)) (types_of c) c.names (Known c)
+      (λ x l. a_name_numbered (declared c) (spelling c.names x) l) c.declarations (known_all c h is)
 
 pub keepers_accepted : KeepersAreAccepted
 keepers_accepted c h m is has rules = record {
@@ -40,8 +47,10 @@ keepers_accepted c h m is has rules = record {
   made = sets_well_made c h is m has;
   kept = rules;
   fields = λ n i all f at within. subst (λ k. IsHeld k f) (as_many c h is)
-      (has_held (length (declared c)) (declares c) (own_fields c) (own_held c h is) n f ((has.fields.fields.each n all at).has f (of_get all i f within)));
+      (has_held (length (declared c)) (declares c) (own_fields c) (own_held c h is) n f
+      ((has.fields.fields.each n all at).has f (of_get all i f within)));
   variables = λ i v at. subst (λ k. IsHeld k v) (as_many c h is)
-      (all_item (IsHeld (length (declared c))) (variables_of c) i v (variables_held c h is) (subst (λ vs. slice_get vs i ≡ Some v) has.variables at));
+      (all_item (IsHeld (length (declared c))) (variables_of c) i v (variables_held c h is)
+      (subst (λ vs. slice_get vs i ≡ Some v) has.variables at));
   enclosed = λ t none. absurd cc;
 }

@@ -45,77 +45,129 @@ none_held n zero = tt
 none_held n (suc k) = (tt, none_held n k)
 
 -- fields that types have are held where those that they declare are
-pub has_held : (n : ℕ) (h : DeclaredTypes) (own : List (List Field)) → AllByRecursion (AreHeld n) own → (a : ℕ) (f : Field) → Has h own a f → IsHeld n f
-has_held n h own all a f (declared d) = let at = get_of d.0 f d.2 in all_item (IsHeld n) d.0 at.0 f (all_item (AreHeld n) own a d.0 all d.1) at.1
+pub has_held : (n : ℕ) (h : DeclaredTypes) (own : List (List Field))
+    → AllByRecursion (AreHeld n) own → (a : ℕ) (f : Field) → Has h own a f → IsHeld n f
+has_held n h own all a f (declared d) =
+    let at = get_of d.0 f d.2
+    in all_item (IsHeld n) d.0 at.0 f (all_item (AreHeld n) own a d.0 all d.1) at.1
 has_held n h own all a f (inherited t none extends has) = has_held n h own all _ f has
 
-module _ (n : ℕ) (list names : List Spelling) (Known : Name → Type 0) (known : (x : Name) → Known x → IsNumbered n (named list (spelling names x))) where
+module _ (n : ℕ) (list names : List Spelling) (Known : Name → Type 0)
+    (known : (x : Name) → Known x → IsNumbered n (named list (spelling names x))) where
   abbrev AreKnown : List Name → Type 0
   AreKnown = AllByRecursion Known
 
-  joined : {X : Type 0} (f : X → List Field) (m : X → List Name) → ((x : X) → AreKnown (m x) → AreHeld n (f x)) → (xs : List X) → AreKnown (flat_map m xs) → AreHeld n (flat_map f xs)
+  joined : {X : Type 0} (f : X → List Field) (m : X → List Name)
+      → ((x : X) → AreKnown (m x) → AreHeld n (f x)) → (xs : List X) → AreKnown (flat_map m xs)
+      → AreHeld n (flat_map f xs)
   joined f m each [] k = tt
-  joined f m each (x ∷ xs) k = all_join (IsHeld n) (f x) (flat_map f xs) (each x (all_left Known (m x) (flat_map m xs) k)) (joined f m each xs (all_right Known (m x) (flat_map m xs) k))
+  joined f m each (x ∷ xs) k =
+      all_join (IsHeld n) (f x) (flat_map f xs) (each x (all_left Known (m x) (flat_map m xs) k))
+      (joined f m each xs (all_right Known (m x) (flat_map m xs) k))
 
   type_held : (t : TypeTree) → AreKnown (mentioned_type t) → IsNumbered n (written list names t)
   type_held = written_numbered n list names Known known
 
-  variable_held : (v : Variable) → AreKnown (mentioned_variable v) → IsHeld n (variable_field list names v)
-  variable_held v k = type_held v.ty (all_left Known (mentioned_type v.ty) (mentioned_expr v.value) (subst AreKnown (variable_mentions v) k))
+  variable_held : (v : Variable) → AreKnown (mentioned_variable v)
+      → IsHeld n (variable_field list names v)
+  variable_held v k =
+      type_held v.ty
+      (all_left Known (mentioned_type v.ty) (mentioned_expr v.value)
+      (subst AreKnown (variable_mentions v) k))
 
-  parameters_held : (os : List NextObjectParameter) → AreKnown (flat_map (λ (next : NextObjectParameter). mentioned_type next.parameter.ty) os) → AreHeld n (map (next_field list names) os)
+  parameters_held : (os : List NextObjectParameter)
+      → AreKnown (flat_map (λ (next : NextObjectParameter). mentioned_type next.parameter.ty) os)
+      → AreHeld n (map (next_field list names) os)
   parameters_held [] k = tt
-  parameters_held (o ∷ os) k = let rest = flat_map (λ (next : NextObjectParameter). mentioned_type next.parameter.ty) os in
-      (type_held o.parameter.ty (all_left Known (mentioned_type o.parameter.ty) rest k), parameters_held os (all_right Known (mentioned_type o.parameter.ty) rest k))
+  parameters_held (o ∷ os) k =
+      let rest = flat_map (λ (next : NextObjectParameter). mentioned_type next.parameter.ty) os in (
+        type_held o.parameter.ty (all_left Known (mentioned_type o.parameter.ty) rest k),
+        parameters_held os (all_right Known (mentioned_type o.parameter.ty) rest k),
+      )
 
-  list_held : (ps : Option ObjectParameterList) → AreKnown (mentioned_object_parameter_list ps) → AreHeld n (list_fields list names ps)
+  list_held : (ps : Option ObjectParameterList) → AreKnown (mentioned_object_parameter_list ps)
+      → AreHeld n (list_fields list names ps)
   list_held None k = tt
-  list_held (Some l) k = let rest = flat_map (λ (next : NextObjectParameter). mentioned_type next.parameter.ty) l.others in
-      (type_held l.first.ty (all_left Known (mentioned_type l.first.ty) rest k), parameters_held l.others (all_right Known (mentioned_type l.first.ty) rest k))
+  list_held (Some l) k =
+      let rest =
+      flat_map (λ (next : NextObjectParameter). mentioned_type next.parameter.ty) l.others in (
+        type_held l.first.ty (all_left Known (mentioned_type l.first.ty) rest k),
+        parameters_held l.others (all_right Known (mentioned_type l.first.ty) rest k),
+      )
 
-  object_parameters_held : (ps : Option ObjectParameters) → AreKnown (mentioned_object_parameters ps) → AreHeld n (parameter_fields list names ps)
+  object_parameters_held : (ps : Option ObjectParameters)
+      → AreKnown (mentioned_object_parameters ps) → AreHeld n (parameter_fields list names ps)
   object_parameters_held None k = tt
   object_parameters_held (Some p) k = list_held p.parameters k
 
-  object_member_held : (m : ObjectMember) → AreKnown (mentioned_object_member m) → AreHeld n (object_member_field list names m)
+  object_member_held : (m : ObjectMember) → AreKnown (mentioned_object_member m)
+      → AreHeld n (object_member_field list names m)
   object_member_held (object_member.Variable v) k = (variable_held v k, tt)
   object_member_held (object_member.Method m) k = tt
 
-  trait_member_held : (m : TraitMember) → AreKnown (mentioned_trait_member m) → AreHeld n (trait_member_field list names m)
+  trait_member_held : (m : TraitMember) → AreKnown (mentioned_trait_member m)
+      → AreHeld n (trait_member_field list names m)
   trait_member_held (trait_member.Field name colon ty) k = (type_held ty k, tt)
   trait_member_held (trait_member.Method m) k = tt
 
-  trait_held : (t : Trait) → AreKnown (mentioned_declaration (declaration.Trait t)) → AreHeld n (flat_map (trait_field list names) t.members)
-  trait_held t k = let members = flat_map (λ (e : TraitEntry). mentioned_trait_member e.member) t.members in
-      joined (trait_field list names) (λ (e : TraitEntry). mentioned_trait_member e.member) (λ e. trait_member_held e.member) t.members
-      (all_right Known (comprised t.comprises) members (all_right Known (excluded t.excludes) (comprised t.comprises ++ members) (all_right Known (extended t.extends) (excluded t.excludes ++ (comprised t.comprises ++ members)) k)))
+  trait_held : (t : Trait) → AreKnown (mentioned_declaration (declaration.Trait t))
+      → AreHeld n (flat_map (trait_field list names) t.members)
+  trait_held t k =
+      let members = flat_map (λ (e : TraitEntry). mentioned_trait_member e.member) t.members in
+      joined (trait_field list names) (λ
+      (e : TraitEntry). mentioned_trait_member e.member) (λ e. trait_member_held e.member)
+      t.members
+      (all_right Known (comprised t.comprises) members
+      (all_right Known (excluded t.excludes) (comprised t.comprises ++ members)
+      (all_right Known (extended t.extends)
+      (excluded t.excludes ++ (comprised t.comprises ++ members)) k)))
 
-  object_held : (o : Object) → AreKnown (mentioned_declaration (declaration.Object o)) → AreHeld n (parameter_fields list names o.parameters ++ flat_map (object_field list names) o.members)
-  object_held o k = let members = flat_map (λ (e : ObjectEntry). mentioned_object_member e.member) o.members in
-      all_join (IsHeld n) (parameter_fields list names o.parameters) (flat_map (object_field list names) o.members)
-      (object_parameters_held o.parameters (all_left Known (mentioned_object_parameters o.parameters) (extended o.extends ++ members) k))
-      (joined (object_field list names) (λ (e : ObjectEntry). mentioned_object_member e.member) (λ e. object_member_held e.member) o.members
-      (all_right Known (extended o.extends) members (all_right Known (mentioned_object_parameters o.parameters) (extended o.extends ++ members) k)))
+  object_held : (o : Object) → AreKnown (mentioned_declaration (declaration.Object o))
+      → AreHeld n
+      (parameter_fields list names o.parameters ++ flat_map (object_field list names) o.members)
+  object_held o k =
+      let members = flat_map (λ (e : ObjectEntry). mentioned_object_member e.member) o.members in
+      all_join (IsHeld n) (parameter_fields list names o.parameters)
+      (flat_map (object_field list names) o.members)
+      (object_parameters_held o.parameters
+      (all_left Known (mentioned_object_parameters o.parameters)
+      (extended o.extends ++ members) k))
+      (joined (object_field list names) (λ
+      (e : ObjectEntry). mentioned_object_member e.member)
+      (λ e. object_member_held e.member) o.members
+      (all_right Known (extended o.extends) members
+      (all_right Known (mentioned_object_parameters o.parameters)
+      (extended o.extends ++ members) k)))
 
   -- the fields that a declaration declares
-  own_held : (d : Declaration) → AreKnown (mentioned_declaration d) → AllByRecursion (AreHeld n) (own_of list names d)
+  own_held : (d : Declaration) → AreKnown (mentioned_declaration d)
+      → AllByRecursion (AreHeld n) (own_of list names d)
   own_held (declaration.Variable v) k = tt
   own_held (declaration.Function f) k = tt
   own_held (declaration.Trait t) k = (trait_held t k, tt)
   own_held (declaration.Object o) k = (object_held o k, tt)
 
   -- a variable at the top
-  top_held : (d : Declaration) → AreKnown (mentioned_declaration d) → AreHeld n (variables_at list names d)
+  top_held : (d : Declaration) → AreKnown (mentioned_declaration d)
+      → AreHeld n (variables_at list names d)
   top_held (declaration.Variable v) k = (variable_held v k, tt)
   top_held (declaration.Function f) k = tt
   top_held (declaration.Trait t) k = tt
   top_held (declaration.Object o) k = tt
 
-  pub all_own_held : (ds : List Declared) → AreKnown (flat_map (λ (d : Declared). mentioned_declaration d.declaration) ds) → AllByRecursion (AreHeld n) (flat_map (declared_own list names) ds)
+  pub all_own_held : (ds : List Declared)
+      → AreKnown (flat_map (λ (d : Declared). mentioned_declaration d.declaration) ds)
+      → AllByRecursion (AreHeld n) (flat_map (declared_own list names) ds)
   all_own_held [] k = tt
-  all_own_held (d ∷ ds) k = let rest = flat_map (λ (d : Declared). mentioned_declaration d.declaration) ds in
+  all_own_held (d ∷ ds) k =
+      let rest = flat_map (λ (d : Declared). mentioned_declaration d.declaration) ds in
       all_join (AreHeld n) (own_of list names d.declaration) (flat_map (declared_own list names) ds)
-      (own_held d.declaration (all_left Known (mentioned_declaration d.declaration) rest k)) (all_own_held ds (all_right Known (mentioned_declaration d.declaration) rest k))
+      (own_held d.declaration (all_left Known (mentioned_declaration d.declaration) rest k))
+      (all_own_held ds (all_right Known (mentioned_declaration d.declaration) rest k))
 
-  pub all_tops_held : (ds : List Declared) → AreKnown (flat_map (λ (d : Declared). mentioned_declaration d.declaration) ds) → AreHeld n (flat_map (declared_variables list names) ds)
-  all_tops_held = joined (declared_variables list names) (λ (d : Declared). mentioned_declaration d.declaration) (λ d. top_held d.declaration)
+  pub all_tops_held : (ds : List Declared)
+      → AreKnown (flat_map (λ (d : Declared). mentioned_declaration d.declaration) ds)
+      → AreHeld n (flat_map (declared_variables list names) ds)
+  all_tops_held =
+      joined (declared_variables list names) (λ
+      (d : Declared). mentioned_declaration d.declaration) (λ d. top_held d.declaration)

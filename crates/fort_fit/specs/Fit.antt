@@ -17,6 +17,8 @@ known_of c h m = record {
   facts = record { table = h.table; types = h.names; names = c.names; members = m; owner = None };
 }
 
--- What is known of a component that keeps the rules of the hierarchy, of members and of overloading is made of an accepted component.
+-- What is known of a component that keeps the rules of the hierarchy, of members and of overloading
+-- is made of an accepted component.
 abbrev pub KeepersAreAccepted : Type 0
-KeepersAreAccepted = (c : Component) (h : Hierarchy) (m : Members) → IsHierarchy c (type_names c) h → AreMembers c m → KeepAllRules (declares c) m → IsAccepted (known_of c h m)
+KeepersAreAccepted = (c : Component) (h : Hierarchy) (m : Members) → IsHierarchy c (type_names c) h
+    → AreMembers c m → KeepAllRules (declares c) m → IsAccepted (known_of c h m)

@@ -30,7 +30,8 @@ abbrev pub OfBranch : (Form → Type 0) → Branch → Type 0
 OfBranch P b = InBranch P (out-Branch b)
 
 -- of the form in a generator
-abbrev pub InGenerator : (Form → Type 0) → Generator-F Form Item Branch Generator TypeBranch → Type 0
+abbrev pub InGenerator : (Form → Type 0) → Generator-F Form Item Branch Generator TypeBranch
+    → Type 0
 InGenerator P g = P g.source
 
 abbrev pub OfGenerator : (Form → Type 0) → Generator → Type 0
@@ -60,9 +61,12 @@ Parts P (Form-F.Do p blocks) = AllByRecursion P blocks
 Parts P (Form-F.If p branches other) = AllByRecursion (OfBranch P) branches × MayBe P other
 Parts P (Form-F.While p c b) = P c × P b
 Parts P (Form-F.For p gs b) = AllByRecursion (OfGenerator P) gs × P b
-Parts P (Form-F.Case p s branches other) = P s × AllByRecursion (OfBranch P) branches × MayBe P other
-Parts P (Form-F.Typecase p at name s branches other) = P s × AllByRecursion (OfClause P) branches × MayBe P other
-Parts P (Form-F.Try p b name branches last) = P b × AllByRecursion (OfClause P) branches × MayBe P last
+Parts P (Form-F.Case p s branches other) = P s × AllByRecursion (OfBranch P) branches
+    × MayBe P other
+Parts P (Form-F.Typecase p at name s branches other) = P s × AllByRecursion (OfClause P) branches
+    × MayBe P other
+Parts P (Form-F.Try p b name branches last) = P b × AllByRecursion (OfClause P) branches
+    × MayBe P last
 Parts P (Form-F.Atomic p e) = P e
 Parts P (Form-F.Tryatomic p e) = P e
 Parts P (Form-F.Throw p e) = P e
@@ -87,12 +91,15 @@ module _ (P : Form → Type 0) where
   abbrev Clauses : Type 0
   Clauses = (b : TypeBranch) × OfClause P b
 
-  every : {X : Type 0} (Q : X → Type 0) (xs : List ((x : X) × Q x)) → AllByRecursion Q (map (λ (e : (x : X) × Q x). e.0) xs)
+  every : {X : Type 0} (Q : X → Type 0) (xs : List ((x : X) × Q x))
+      → AllByRecursion Q (map (λ (e : (x : X) × Q x). e.0) xs)
   every Q [] = tt
   every Q (x ∷ xs) = (x.1, every Q xs)
 
   parts : (y : Form-F Forms Items Branches Generators Clauses)
-      → Parts P (map-Form Forms Items Branches Generators Clauses Form Item Branch Generator TypeBranch (λ e. e.0) (λ e. e.0) (λ e. e.0) (λ e. e.0) (λ e. e.0) y)
+      → Parts P
+      (map-Form Forms Items Branches Generators Clauses Form Item Branch Generator TypeBranch
+      (λ e. e.0) (λ e. e.0) (λ e. e.0) (λ e. e.0) (λ e. e.0) y)
   parts (Form-F.Number p n) = tt
   parts (Form-F.Text p n) = tt
   parts (Form-F.Truth p b) = tt
@@ -129,7 +136,9 @@ module _ (P : Form → Type 0) where
   parts (Form-F.Assign p t sign e) = (t.1, e.1)
 
   in-item : (y : Item-F Forms Items Branches Generators Clauses)
-      → InItem P (map-Item Forms Items Branches Generators Clauses Form Item Branch Generator TypeBranch (λ e. e.0) (λ e. e.0) (λ e. e.0) (λ e. e.0) (λ e. e.0) y)
+      → InItem P
+      (map-Item Forms Items Branches Generators Clauses Form Item Branch Generator TypeBranch
+      (λ e. e.0) (λ e. e.0) (λ e. e.0) (λ e. e.0) (λ e. e.0) y)
   in-item (Item-F.Local p name mutable ty e) = e.1
   in-item (Item-F.Locals p names ty e) = e.1
   in-item (Item-F.Expression e) = e.1
@@ -137,8 +146,11 @@ module _ (P : Form → Type 0) where
   -- From the parts of each form to the form: then it is so of each.
   pub by_parts : ((e : Form) → Parts P (out-Form e) → P e) → (e : Form) → P e
   by_parts k = ind-Form P (OfItem P) (OfBranch P) (OfGenerator P) (OfClause P)
-      (λ x y e. k (roll-Form x) (subst (Parts P) (sym (out-roll-Form x)) (subst (Parts P) e (parts y))))
+      (λ x y e. k (roll-Form x)
+      (subst (Parts P) (sym (out-roll-Form x)) (subst (Parts P) e (parts y))))
       (λ x y e. subst (InItem P) (sym (out-roll-Item x)) (subst (InItem P) e (in-item y)))
-      (λ x y e. subst (InBranch P) (sym (out-roll-Branch x)) (subst (InBranch P) e (y.test.1, y.value.1)))
-      (λ x y e. subst (InGenerator P) (sym (out-roll-Generator x)) (subst (InGenerator P) e y.source.1))
+      (λ x y e. subst (InBranch P) (sym (out-roll-Branch x))
+      (subst (InBranch P) e (y.test.1, y.value.1)))
+      (λ x y e. subst (InGenerator P) (sym (out-roll-Generator x))
+      (subst (InGenerator P) e y.source.1))
       (λ x y e. subst (InClause P) (sym (out-roll-TypeBranch x)) (subst (InClause P) e y.value.1))

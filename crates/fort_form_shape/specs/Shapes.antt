@@ -103,12 +103,16 @@ shape_form (Form-F.Method p at name es) = postfix_if (are_expressions es)
 shape_form (Form-F.Fill p ty n v) = expression_if (is_expression n && is_expression v)
 shape_form (Form-F.Block p is) = expression_if (are_shaped is)
 shape_form (Form-F.Do p blocks) = expression_if (are_blocks blocks)
-shape_form (Form-F.If p branches other) = expression_if (are_shaped branches && may_be_expression other)
+shape_form (Form-F.If p branches other) =
+    expression_if (are_shaped branches && may_be_expression other)
 shape_form (Form-F.While p c b) = expression_if (is_expression c && is_expression b)
 shape_form (Form-F.For p gs b) = expression_if (are_shaped gs && is_expression b)
-shape_form (Form-F.Case p s branches other) = expression_if (is_expression s && (are_shaped branches && may_be_expression other))
-shape_form (Form-F.Typecase p at name s branches other) = expression_if (is_expression s && (are_shaped branches && may_be_expression other))
-shape_form (Form-F.Try p b name branches last) = expression_if (is_expression b && (are_shaped branches && may_be_expression last))
+shape_form (Form-F.Case p s branches other) =
+    expression_if (is_expression s && (are_shaped branches && may_be_expression other))
+shape_form (Form-F.Typecase p at name s branches other) =
+    expression_if (is_expression s && (are_shaped branches && may_be_expression other))
+shape_form (Form-F.Try p b name branches last) =
+    expression_if (is_expression b && (are_shaped branches && may_be_expression last))
 shape_form (Form-F.Atomic p e) = expression_if (is_expression e)
 shape_form (Form-F.Tryatomic p e) = expression_if (is_expression e)
 shape_form (Form-F.Throw p e) = expression_if (is_expression e)
@@ -132,22 +136,32 @@ shape_clause b = is_expression b.value
 
 -- What a form is by its shape.
 unfoldable pub shape : Form → Shape
-shape = fold-Form Shape Bool Bool Bool Bool shape_form shape_item shape_branch shape_generator shape_clause
+shape = fold-Form Shape Bool Bool Bool Bool shape_form shape_item shape_branch shape_generator
+    shape_clause
 
 -- an item, a clause, a generator has expressions in it
 unfoldable pub is_item : Item → Bool
-is_item = fold-Item Shape Bool Bool Bool Bool shape_form shape_item shape_branch shape_generator shape_clause
+is_item =
+    fold-Item Shape Bool Bool Bool Bool shape_form shape_item shape_branch shape_generator
+    shape_clause
 
 unfoldable pub is_branch : Branch → Bool
-is_branch = fold-Branch Shape Bool Bool Bool Bool shape_form shape_item shape_branch shape_generator shape_clause
+is_branch =
+    fold-Branch Shape Bool Bool Bool Bool shape_form shape_item shape_branch shape_generator
+    shape_clause
 
 unfoldable pub is_generator : Generator → Bool
-is_generator = fold-Generator Shape Bool Bool Bool Bool shape_form shape_item shape_branch shape_generator shape_clause
+is_generator =
+    fold-Generator Shape Bool Bool Bool Bool shape_form shape_item shape_branch shape_generator
+    shape_clause
 
 unfoldable pub is_clause : TypeBranch → Bool
-is_clause = fold-TypeBranch Shape Bool Bool Bool Bool shape_form shape_item shape_branch shape_generator shape_clause
+is_clause =
+    fold-TypeBranch Shape Bool Bool Bool Bool shape_form shape_item shape_branch shape_generator
+    shape_clause
 
--- A form is an expression of a shape that the grammar gives: each postfix in it stands in a run behind its first element, each `do` has a block, each
--- chain has two sides or more and one more than operators, each run two elements or more, each juxtaposition two units or more.
+-- A form is an expression of a shape that the grammar gives: each postfix in it stands in a run
+-- behind its first element, each `do` has a block, each chain has two sides or more and one more
+-- than operators, each run two elements or more, each juxtaposition two units or more.
 abbrev pub IsShaped : Form → Type 0
 IsShaped e = shape e ≡ an_expression

@@ -31,14 +31,18 @@ IsAllowed may _ = Unit {0}
 
 mutual
   pub data Even : Bool → Term → Type 0 where
-    even : {may : Bool} {t : Term} → IsAllowed may (out-Term t) → AllEven (may_in (out-Term t)) (going_in (out-Term t)) → Even may t
+    even : {may : Bool} {t : Term} → IsAllowed may (out-Term t)
+        → AllEven (may_in (out-Term t)) (going_in (out-Term t)) → Even may t
 
   pub data AllEven : Bool → List Term → Type 0 where
     no_evens : {may : Bool} → AllEven may []
-    next_even : {may : Bool} {t : Term} {ts : List Term} → Even may t → AllEven may ts → AllEven may (t ∷ ts)
+    next_even : {may : Bool} {t : Term} {ts : List Term} → Even may t → AllEven may ts
+        → AllEven may (t ∷ ts)
 
-even_at : (may : Bool) (t : Term) (y : Term-F Term Value Closure) → out-Term t ≡ y → IsAllowed may y → AllEven (may_in y) (going_in y) → Even may t
-even_at may t y e a gs = even (subst (IsAllowed may) (sym e) a) (subst (λ z. AllEven (may_in z) (going_in z)) (sym e) gs)
+even_at : (may : Bool) (t : Term) (y : Term-F Term Value Closure) → out-Term t ≡ y → IsAllowed may y
+    → AllEven (may_in y) (going_in y) → Even may t
+even_at may t y e a gs =
+    even (subst (IsAllowed may) (sym e) a) (subst (λ z. AllEven (may_in z) (going_in z)) (sym e) gs)
 
 pub record Evens (may : Bool) (y : Term-F Term Value Closure) : Type 0 where
   pub allowed : IsAllowed may y
@@ -47,7 +51,8 @@ pub record Evens (may : Bool) (y : Term-F Term Value Closure) : Type 0 where
 evens_of : {may : Bool} {t : Term} → Even may t → Evens may (out-Term t)
 evens_of (even a gs) = record { allowed = a; going = gs }
 
-pub evens_as : {may : Bool} {t : Term} (y : Term-F Term Value Closure) → out-Term t ≡ y → Even may t → Evens may y
+pub evens_as : {may : Bool} {t : Term} (y : Term-F Term Value Closure) → out-Term t ≡ y → Even may t
+    → Evens may y
 evens_as {may = may} y e h = subst (Evens may) e (evens_of h)
 
 one_even : {may : Bool} {t : Term} {ts : List Term} → AllEven may (t ∷ ts) → Even may t
@@ -72,7 +77,9 @@ pub even_value : (may : Bool) (v : Value) → Even may (term.Value v)
 even_value may v = even_at may (term.Value v) _ (outs-Value v) tt no_evens
 
 pub even_throw : (may : Bool) (v : Value) → Even may (throw_of v)
-even_throw may v = even_at may (throw_of v) _ (outs-Throw (term.Value v)) tt (next_even (even_value false v) no_evens)
+even_throw may v =
+    even_at may (throw_of v) _ (outs-Throw (term.Value v)) tt
+    (next_even (even_value false v) no_evens)
 
 -- what is at rest
 abbrev EachEven : List Term → Type 0
@@ -83,7 +90,8 @@ all_even : (may : Bool) (ts : List Term) → EachEven ts → AllEven may ts
 all_even may [] h = no_evens
 all_even may (t ∷ ts) h = next_even (h.0 may) (all_even may ts h.1)
 
-going_even : (may : Bool) (y : Term-F Term Value Closure) → EachEven (terms_in y) → AllEven may (going_in y)
+going_even : (may : Bool) (y : Term-F Term Value Closure) → EachEven (terms_in y)
+    → AllEven may (going_in y)
 going_even may (Term-F.Fn c) h = no_evens
 going_even may (Term-F.Let xs a b) h = next_even (h.0 may) no_evens
 going_even may (Term-F.Mutable x ty a b) h = next_even (h.0 may) no_evens
@@ -104,14 +112,17 @@ untouched_mark _ u = refl
 
 mutual
   pub rest_even : {t : Term} → Resting t → (may : Bool) → Even may t
-  rest_even {t} (resting u n ts vs) may = even (allowed_here may (out-Term t) (untouched_mark (out-Term t) u)) (going_even (may_in (out-Term t)) (out-Term t) (each_even ts))
+  rest_even {t} (resting u n ts vs) may =
+      even (allowed_here may (out-Term t) (untouched_mark (out-Term t) u))
+      (going_even (may_in (out-Term t)) (out-Term t) (each_even ts))
 
   each_even : {ts : List Term} → AllResting ts → EachEven ts
   each_even no_rests = tt
   each_even (next_rest h hs) = ((λ may. rest_even h may), each_even hs)
 
 pub sleeper_even : (may : Bool) (t body : Term) (marks : _) → t ≡ Asleep marks body → Even may t
-sleeper_even may t body marks e = even_at may t _ (ap out-Term e ∙ outs-Asleep marks body) tt no_evens
+sleeper_even may t body marks e =
+    even_at may t _ (ap out-Term e ∙ outs-Asleep marks body) tt no_evens
 
 -- a part of a form
 abbrev numbered : List ℕ → Bool
@@ -169,7 +180,8 @@ mark_round in_stepped t e = absurd cc
 mark_round (in_group pre post) t e = refl
 mark_round _ t e = refl
 
-allowed_round : (may : Bool) (f : Frame) (t u : Term) → IsAllowed may (on_layer f t) → IsAllowed may (on_layer f u)
+allowed_round : (may : Bool) (f : Frame) (t u : Term) → IsAllowed may (on_layer f t)
+    → IsAllowed may (on_layer f u)
 allowed_round may (in_group pre post) t u h = tt
 allowed_round may in_stepped t u h = h
 allowed_round may _ t u h = tt
@@ -177,9 +189,11 @@ allowed_round may _ t u h = tt
 abbrev Middle : Bool → (Term → List Term) → Term → Type 0
 Middle may at a = Even may a × ((b : Term) → Even may b → AllEven may (at b))
 
-middle : (may : Bool) (pre post : List Term) (a : Term) → AllEven may (pre ++ a ∷ post) → Middle may (λ b. pre ++ b ∷ post) a
+middle : (may : Bool) (pre post : List Term) (a : Term) → AllEven may (pre ++ a ∷ post)
+    → Middle may (λ b. pre ++ b ∷ post) a
 middle may [] post a (next_even h hs) = (h, λ b i. next_even i hs)
-middle may (t ∷ pre) post a (next_even h hs) = let m = middle may pre post a hs in (m.0, λ b i. next_even h (m.1 b i))
+middle may (t ∷ pre) post a (next_even h hs) =
+    let m = middle may pre post a hs in (m.0, λ b i. next_even h (m.1 b i))
 
 -- a part may be replaced by another one
 abbrev Place : Bool → Bool → (Term → Term) → Term → Type 0
@@ -225,19 +239,25 @@ out_plain (in_try x clauses last) t n = (outs-Try _ _ _ _)
 out_plain (in_group pre post) t n = absurd n
 out_plain in_stepped t n = absurd n
 
-plain_even : (may : Bool) (f : Frame) (a : Term) → IsPlain f → is_marking f ≡ false → Even may (on f a) → Place may (may_at f) (on f) a
+plain_even : (may : Bool) (f : Frame) (a : Term) → IsPlain f → is_marking f ≡ false
+    → Even may (on f a) → Place may (may_at f) (on f) a
 plain_even may f a n none h =
     let r = evens_as (on_layer f a) (out_plain f a n) h in
-    let m = middle (may_at f) (before f) (behind f) a (subst (λ ts. AllEven (may_at f) ts) (going_round f a) (subst (λ k. AllEven k (going_in (on_layer f a))) (may_round f a) r.going)) in (
+    let m = middle (may_at f) (before f) (behind f) a
+    (subst (λ ts. AllEven (may_at f) ts) (going_round f a)
+    (subst (λ k. AllEven k (going_in (on_layer f a))) (may_round f a) r.going)) in (
       m.0,
-      λ b i. even_at may (on f b) (on_layer f b) (out_plain f b n) (allowed_round may f a b r.allowed)
-          (subst (λ k. AllEven k (going_in (on_layer f b))) (sym (may_round f b)) (subst (λ ts. AllEven (may_at f) ts) (sym (going_round f b)) (m.1 b i))),
+      λ b i. even_at may (on f b) (on_layer f b) (out_plain f b n)
+          (allowed_round may f a b r.allowed)
+          (subst (λ k. AllEven k (going_in (on_layer f b))) (sym (may_round f b))
+          (subst (λ ts. AllEven (may_at f) ts) (sym (going_round f b)) (m.1 b i))),
     )
 
 group_even : (may : Bool) (ts : List Term) → AllEven true ts → Even may (group ts)
 group_even may ts h = go (out_group ts)
   where
-    go : (out-Term (group ts) ≡ Term-F.Group ts) ⊎ ((v : Value) × (out-Term (group ts) ≡ Term-F.Value v)) → Even may (group ts)
+    go : (out-Term (group ts) ≡ Term-F.Group ts)
+        ⊎ ((v : Value) × (out-Term (group ts) ≡ Term-F.Value v)) → Even may (group ts)
     go (inl e) = even_at may (group ts) _ e tt h
     go (inr (v, e)) = even_at may (group ts) _ e tt no_evens
 
@@ -245,17 +265,22 @@ stepped_even : (b : Term) → Even false b → Even true (stepped b)
 stepped_even b h = go (decide b)
   where
     go : (standing b ≡ open_yet) ⊎ Finished b → Even true (stepped b)
-    go (inl o) = even_at true (stepped b) _ (ap out-Term (stepped_open b o) ∙ outs-Stepped b) refl (next_even h no_evens)
+    go (inl o) =
+        even_at true (stepped b) _ (ap out-Term (stepped_open b o)
+        ∙ outs-Stepped b) refl (next_even h no_evens)
     go (inr f) = weaker true (stepped b) (subst (Even false) (sym (stepped_finished b f)) h)
 
-mark_even : (may : Bool) (a : Term) → standing a ≡ open_yet → Even may (stepped a) → Place may false stepped a
+mark_even : (may : Bool) (a : Term) → standing a ≡ open_yet → Even may (stepped a)
+    → Place may false stepped a
 mark_even may a o h =
     let r = evens_as (Term-F.Stepped a) (ap out-Term (stepped_open a o) ∙ outs-Stepped a) h in
     (one_even r.going, λ b i. subst (λ k. Even k (stepped b)) (sym r.allowed) (stepped_even b i))
 
-frame_even : (may : Bool) (f : Frame) (a : Term) → standing a ≡ open_yet → Even may (on f a) → Place may (may_at f) (on f) a
+frame_even : (may : Bool) (f : Frame) (a : Term) → standing a ≡ open_yet → Even may (on f a)
+    → Place may (may_at f) (on f) a
 frame_even may (in_group pre post) a o h =
-    let m = middle true pre post a (evens_as (Term-F.Group (pre ++ a ∷ post)) (out_on (in_group pre post) a o) h).going in
+    let m = middle true pre post a
+    (evens_as (Term-F.Group (pre ++ a ∷ post)) (out_on (in_group pre post) a o) h).going in
     (m.0, λ b i. group_even may (pre ++ b ∷ post) (m.1 b i))
 frame_even may in_stepped a o h = mark_even may a o h
 frame_even may f a o h = plain_even may f a tt refl h
@@ -264,18 +289,23 @@ frame_even may f a o h = plain_even may f a tt refl h
 no_mark : (f : Frame) (b : Term) → is_marking f ≡ false → has_stepped (on f b) ≡ false
 no_mark (in_group pre post) b e = go (out_group (pre ++ b ∷ post))
   where
-    go : (out-Term (group (pre ++ b ∷ post)) ≡ Term-F.Group (pre ++ b ∷ post)) ⊎ ((v : Value) × (out-Term (group (pre ++ b ∷ post)) ≡ Term-F.Value v)) → has_stepped (group (pre ++ b ∷ post)) ≡ false
+    go : (out-Term (group (pre ++ b ∷ post)) ≡ Term-F.Group (pre ++ b ∷ post))
+        ⊎ ((v : Value) × (out-Term (group (pre ++ b ∷ post)) ≡ Term-F.Value v))
+        → has_stepped (group (pre ++ b ∷ post)) ≡ false
     go (inl q) = ap is_mark q
     go (inr (v, q)) = ap is_mark q
 no_mark in_stepped b e = absurd cc
 no_mark f b e = ap is_mark (out_plain f b tt) ∙ mark_round f b refl
 
 -- the mark of a part
-marked_even : (b : Term) (ns : List ℕ) (fs : List Frame) → Even false b → Even (numbered ns) (plug fs b) → Even (numbered ns) (plug (with_mark ns fs) b)
+marked_even : (b : Term) (ns : List ℕ) (fs : List Frame) → Even false b
+    → Even (numbered ns) (plug fs b) → Even (numbered ns) (plug (with_mark ns fs) b)
 marked_even b [] fs hb h = h
 marked_even b (n ∷ ns) [] hb h = stepped_even b hb
 marked_even b (n ∷ ns) (in_stepped ∷ fs) hb h = h
-marked_even b (n ∷ ns) (f ∷ fs) hb h = stepped_even (plug (f ∷ fs) b) (unmarked true false (plug (f ∷ fs) b) h (no_mark f (plug fs b) refl))
+marked_even b (n ∷ ns) (f ∷ fs) hb h =
+    stepped_even (plug (f ∷ fs) b)
+    (unmarked true false (plug (f ∷ fs) b) h (no_mark f (plug fs b) refl))
 
 -- at any depth
 abbrev pub may_inside : Bool → List Frame → Bool
@@ -286,15 +316,22 @@ pub record EvenPlace (may : Bool) (fs : List Frame) (a : Term) : Type 0 where
   pub inner : Even (may_inside may fs) a
   pub after_step : (b : Term) → Even false b → Even may (plug (trodden fs) b)
 
-pub plug_even : (may : Bool) (fs : List Frame) (a : Term) → standing a ≡ open_yet → Even may (plug fs a) → EvenPlace may fs a
+pub plug_even : (may : Bool) (fs : List Frame) (a : Term) → standing a ≡ open_yet
+    → Even may (plug fs a) → EvenPlace may fs a
 plug_even may [] a o h = record { inner = h; after_step = λ b i. weaker may b i }
 plug_even may (f ∷ fs) a o h =
     let p = frame_even may f (plug fs a) (plug_open fs a o) h in
     let q = plug_even (may_at f) fs a o p.0 in
-    record { inner = q.inner; after_step = λ b i. p.1 (plug (with_mark (part_number f) (trodden fs)) b) (marked_even b (part_number f) (trodden fs) i (q.after_step b i)) }
+    record {
+      inner = q.inner;
+      after_step =
+          λ b i. p.1 (plug (with_mark (part_number f) (trodden fs)) b)
+          (marked_even b (part_number f) (trodden fs) i (q.after_step b i));
+    }
 
 -- what a mark stands in
-lone_part : (f : Frame) (ns : List ℕ) → part_number f ≡ ns → numbered ns ≡ true → (n : ℕ) × (part_number f ≡ n ∷ [])
+lone_part : (f : Frame) (ns : List ℕ) → part_number f ≡ ns → numbered ns ≡ true
+    → (n : ℕ) × (part_number f ≡ n ∷ [])
 lone_part (in_group pre post) ns e q = (_, refl)
 lone_part (in_call set pre post) ns e q = (_, refl)
 lone_part (in_function argument) ns e q = (_, refl)
@@ -306,9 +343,18 @@ lone_part (in_second_reduced set first) ns e q = (_, refl)
 lone_part (in_block pre post) ns e q = (_, refl)
 lone_part f ns e q = let z : false ≡ true = ap numbered e ∙ q in absurd cc
 
-pub leaves_part : (fs : List Frame) (may : Bool) → may ≡ false → may_inside may fs ≡ true → LeavesPart fs
+pub leaves_part : (fs : List Frame) (may : Bool) → may ≡ false → may_inside may fs ≡ true
+    → LeavesPart fs
 leaves_part [] may e q = let z : false ≡ true = sym e ∙ q in absurd cc
-leaves_part (f ∷ []) may e q = let k = lone_part f (part_number f) refl q in record { outer = []; last = f; number = k.0; are = refl; is_number = k.1 }
+leaves_part (f ∷ []) may e q =
+    let k = lone_part f (part_number f) refl q
+    in record { outer = []; last = f; number = k.0; are = refl; is_number = k.1 }
 leaves_part (f ∷ g ∷ gs) may e q =
     let r = leaves_part (g ∷ gs) false refl q in
-    record { outer = f ∷ r.outer; last = r.last; number = r.number; are = ap (λ hs. f ∷ hs) r.are; is_number = r.is_number }
+    record {
+      outer = f ∷ r.outer;
+      last = r.last;
+      number = r.number;
+      are = ap (λ hs. f ∷ hs) r.are;
+      is_number = r.is_number;
+    }

@@ -16,6 +16,9 @@ pub record LeavesPart (fs : List Frame) : Type 0 where
   pub are : fs ≡ outer ++ last ∷ []
   pub is_number : part_number last ≡ number ∷ []
 
--- In the term of each machine of a written program a mark stands round an open part of a parallel form.
+-- In the term of each machine of a written program a mark stands round an open part of a parallel
+-- form.
 abbrev pub MarksStand : Type 0
-MarksStand = (p : Program) → WrittenProgram p → (inner : Bool) (s : Store) (t : Term) → Reached p inner s t → (fs : List Frame) (a : Term) → t ≡ plug fs (Stepped a) → LeavesPart fs × (standing a ≡ open_yet)
+MarksStand = (p : Program) → WrittenProgram p → (inner : Bool) (s : Store) (t : Term)
+    → Reached p inner s t → (fs : List Frame) (a : Term) → t ≡ plug fs (Stepped a)
+    → LeavesPart fs × (standing a ≡ open_yet)

@@ -1,5 +1,5 @@
-//! Where marks stand in the terms of a run: round open parts of parallel forms. The chapter "Terms and threads" of
-//! docs/MACHINE.md.
+//! Where marks stand in the terms of a run: round open parts of parallel forms. The chapter "Terms
+//! and threads" of docs/MACHINE.md.
 //!
 //! Nothing is computed here. The function names a law by its clause and does nothing.
 #![tactic(auto)]

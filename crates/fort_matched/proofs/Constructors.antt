@@ -62,44 +62,63 @@ module _ (texts : List (List ℕ)) (is : List Initial) (id : TypeId) where
   abbrev HasSome : Field → Type 0
   HasSome f = has_initial (Some id) f.name (map typed_keyed is) ≡ true
 
-  have_constants : (fs : List Field) → AllByRecursion HasSome fs → HaveConstants (map (core_field texts is id) fs)
+  have_constants : (fs : List Field) → AllByRecursion HasSome fs
+      → HaveConstants (map (core_field texts is id) fs)
   have_constants [] h = tt
   have_constants (f ∷ fs) h = (an_initial texts (Some id) f.name is h.0, have_constants fs h.1)
 
-  takes : (fs : List Field) (rest : List CoreField) → AllByRecursion HasNone fs → HaveConstants rest → Takes (map (core_field texts is id) fs ++ rest) (map type_of_field fs)
+  takes : (fs : List Field) (rest : List CoreField) → AllByRecursion HasNone fs → HaveConstants rest
+      → Takes (map (core_field texts is id) fs ++ rest) (map type_of_field fs)
   takes [] rest h k = k
   takes (f ∷ fs) rest h k = (no_initial texts (Some id) f.name is h.0, refl, takes fs rest h.1 k)
 
 -- The types of a constructor's parameters are those of their fields.
 module _ (list names : List Spelling) where
-  further_types : (others : List NextObjectParameter) → map type_of_field (map (next_field list names) others) ≡ map (next_object_parameter_type list names) others
+  further_types : (others : List NextObjectParameter)
+      → map type_of_field (map (next_field list names) others)
+      ≡ map (next_object_parameter_type list names) others
   further_types [] = refl
-  further_types (p ∷ others) = ap (λ z. next_object_parameter_type list names p ∷ z) (further_types others)
+  further_types (p ∷ others) =
+      ap (λ z. next_object_parameter_type list names p ∷ z) (further_types others)
 
-  parameter_types : (ps : ObjectParameters) → map type_of_field (parameter_fields list names (Some ps)) ≡ object_types list names ps.parameters
+  parameter_types : (ps : ObjectParameters)
+      → map type_of_field (parameter_fields list names (Some ps))
+      ≡ object_types list names ps.parameters
   parameter_types ps = by_list ps.parameters
     where
-      by_list : (l : Option ObjectParameterList) → map type_of_field (list_fields list names l) ≡ object_types list names l
+      by_list : (l : Option ObjectParameterList)
+          → map type_of_field (list_fields list names l) ≡ object_types list names l
       by_list None = refl
-      by_list (Some l) = ap (λ z. type_of_field (parameter_field list names l.first) ∷ z) (further_types l.others)
+      by_list (Some l) =
+          ap (λ z. type_of_field (parameter_field list names l.first) ∷ z) (further_types l.others)
 
 -- ---- names of fields
 
 abbrev name_by : ℕ → NameId
 name_by n = record { 0 = n }
 
-name_step : (f g : Field) (b : Bool) → nat_eq g.name.0 f.name.0 ≡ b → (f.name ≡ g.name → ⊥) → b ≡ false
+name_step : (f g : Field) (b : Bool) → nat_eq g.name.0 f.name.0 ≡ b → (f.name ≡ g.name → ⊥)
+    → b ≡ false
 name_step f g true e apart = absurd (apart (sym (ap name_by (eqb-true g.name.0 f.name.0 e))))
 name_step f g false e apart = refl
 
 -- Of two parts of fields whose names differ, no name of the first is in the second.
-names_apart : (front behind : List Field) → EachOnce (front ++ behind) → (i : ℕ) (f : Field) → slice_get front i ≡ Some f → AllByRecursion (λ (g : Field). nat_eq g.name.0 f.name.0 ≡ false) behind
-names_apart front behind once i f e = all_items (λ (g : Field). nat_eq g.name.0 f.name.0 ≡ false) behind (λ j g h. name_step f g (nat_eq g.name.0 f.name.0) refl (λ q.
-    let same = once i (length front + j) f g (get_left front behind i f e) (get_behind front behind (length front + j) j refl ∙ h) q in let l = slice_get_within front i f e in absurd (omega arith)))
+names_apart : (front behind : List Field) → EachOnce (front ++ behind) → (i : ℕ) (f : Field)
+    → slice_get front i ≡ Some f
+    → AllByRecursion (λ (g : Field). nat_eq g.name.0 f.name.0 ≡ false) behind
+names_apart front behind once i f e =
+    all_items (λ
+    (g : Field). nat_eq g.name.0 f.name.0
+    ≡ false) behind (λ j g h. name_step f g (nat_eq g.name.0 f.name.0) refl (λ q.
+    let same =
+    once i (length front + j) f g (get_left front behind i f e)
+    (get_behind front behind (length front + j) j refl ∙ h) q
+    in let l = slice_get_within front i f e in absurd (omega arith)))
 
 -- ---- the objects of a component
 
-module _ (c : Component) (h : Hierarchy) (is_hierarchy : IsHierarchy c (type_names c) h) (m : Members) (has : AreMembers c m) (groups : Groups) where
+module _ (c : Component) (h : Hierarchy) (is_hierarchy : IsHierarchy c (type_names c) h)
+    (m : Members) (has : AreMembers c m) (groups : Groups) where
   abbrev tables : Tables
   tables = tables_of c groups
 
@@ -122,25 +141,35 @@ module _ (c : Component) (h : Hierarchy) (is_hierarchy : IsHierarchy c (type_nam
       let a = type_number c h is_hierarchy i (declaration.Object o) s in
       let b = type_number c h is_hierarchy j (declaration.Object p) t in
       let same : i ≡ j = omega arith in
-      let both : Some (declaration.Object p) ≡ Some (declaration.Object o) = sym t ∙ ap (slice_get (types_in c.declarations)) (sym same) ∙ s in cc
+      let both : Some (declaration.Object p) ≡ Some (declaration.Object o) =
+      sym t ∙ ap (slice_get (types_in c.declarations)) (sym same) ∙ s in cc
 
   and_false : (a b : Bool) → b ≡ false → (a && b) ≡ false
   and_false true b e = e
   and_false false b e = refl
 
   -- A parameter of an object has no initial in an object.
-  none_of_other : (i j : ℕ) (o p : Object) (f : Field) → StandsAt i o → StandsAt j p → AllByRecursion (λ (g : Field). nat_eq g.name.0 f.name.0 ≡ false) (behind o)
-      → (b : Bool) → nat_eq (number p) (number o) ≡ b → has_initial (Some (type_id (number o))) f.name (of_object tables p) ≡ false
+  none_of_other : (i j : ℕ) (o p : Object) (f : Field) → StandsAt i o → StandsAt j p
+      → AllByRecursion (λ (g : Field). nat_eq g.name.0 f.name.0 ≡ false) (behind o)
+      → (b : Bool) → nat_eq (number p) (number o) ≡ b
+      → has_initial (Some (type_id (number o))) f.name (of_object tables p) ≡ false
   none_of_other i j o p f s t apart true e =
       let same = one_object i j o p s t (sym (eqb-true (number p) (number o) e)) in
       let id = type_id (number o) in
       none_in_members tables id f.name (owner tables p.name) p.members
-      (subst (λ (z : Object). AllByRecursion (λ (g : Field). is_of (Some id) f.name (Some (owner tables p.name), g.name) ≡ false) (behind z)) (sym same)
-      (all_weaker (λ (g : Field). nat_eq g.name.0 f.name.0 ≡ false) (λ (g : Field). is_of (Some id) f.name (Some (owner tables p.name), g.name) ≡ false) (behind o)
+      (subst (λ
+      (z : Object). AllByRecursion (λ
+      (g : Field). is_of (Some id) f.name (Some (owner tables p.name), g.name)
+      ≡ false) (behind z)) (sym same)
+      (all_weaker (λ (g : Field). nat_eq g.name.0 f.name.0 ≡ false) (λ
+      (g : Field). is_of (Some id) f.name (Some (owner tables p.name), g.name)
+      ≡ false) (behind o)
       (λ g q. and_false (nat_eq (number p) (number o)) (nat_eq g.name.0 f.name.0) q) apart))
   none_of_other i j o p f s t apart false e = let id = type_id (number o) in
       none_in_members tables id f.name (owner tables p.name) p.members
-      (all_items (λ (g : Field). is_of (Some id) f.name (Some (owner tables p.name), g.name) ≡ false) (behind p) (λ k g q. ap (λ (b : Bool). b && nat_eq g.name.0 f.name.0) e))
+      (all_items (λ
+      (g : Field). is_of (Some id) f.name (Some (owner tables p.name), g.name)
+      ≡ false) (behind p) (λ k g q. ap (λ (b : Bool). b && nat_eq g.name.0 f.name.0) e))
 
   module _ (i : ℕ) (o : Object) (stands : StandsAt i o) where
     abbrev id : TypeId
@@ -152,71 +181,123 @@ module _ (c : Component) (h : Hierarchy) (is_hierarchy : IsHierarchy c (type_nam
     once : EachOnce (front o ++ behind o)
     once = own_once c i o stands m has
 
-    none_in_front : AllByRecursion (λ (f : Field). has_initial (Some id) f.name (of_all tables c.declarations) ≡ false) (front o)
-    none_in_front = all_items (λ (f : Field). has_initial (Some id) f.name (of_all tables c.declarations) ≡ false) (front o) (λ k f e.
-        none_in_all tables id f.name c.declarations (each_object (λ p. has_initial (Some id) f.name (of_object tables p) ≡ false) c.declarations
-        (λ j p t. none_of_other i j o p f stands t (names_apart (front o) (behind o) once k f e) (nat_eq (number p) (number o)) refl)))
+    none_in_front : AllByRecursion (λ
+        (f : Field). has_initial (Some id) f.name (of_all tables c.declarations)
+        ≡ false) (front o)
+    none_in_front =
+        all_items (λ
+        (f : Field). has_initial (Some id) f.name (of_all tables c.declarations)
+        ≡ false) (front o) (λ k f e.
+        none_in_all tables id f.name c.declarations
+        (each_object (λ p. has_initial (Some id) f.name (of_object tables p)
+        ≡ false) c.declarations
+        (λ j p t. none_of_other i j o p f stands t (names_apart (front o) (behind o) once k f e)
+        (nat_eq (number p) (number o)) refl)))
 
-    some_behind : AllByRecursion (λ (f : Field). has_initial (Some id) f.name (of_all tables c.declarations) ≡ true) (behind o)
-    some_behind = all_weaker (λ (f : Field). has_initial (Some id) f.name (of_object tables o) ≡ true) (λ (f : Field). has_initial (Some id) f.name (of_all tables c.declarations) ≡ true) (behind o)
-        (λ f e. some_in_all tables id f.name c.declarations o e i stands) (all_have tables id o.members)
+    some_behind : AllByRecursion (λ
+        (f : Field). has_initial (Some id) f.name (of_all tables c.declarations)
+        ≡ true) (behind o)
+    some_behind =
+        all_weaker (λ (f : Field). has_initial (Some id) f.name (of_object tables o) ≡ true) (λ
+        (f : Field). has_initial (Some id) f.name (of_all tables c.declarations)
+        ≡ true) (behind o)
+        (λ f e. some_in_all tables id f.name c.declarations o e i stands)
+        (all_have tables id o.members)
 
-    module _ (texts : List (List ℕ)) (is : List Initial) (same : map typed_keyed is ≡ of_all tables c.declarations) where
-      takes_its : (ps : ObjectParameters) → o.parameters ≡ Some ps → Takes (map (core_field texts is id) (front o ++ behind o)) (object_types (types_of c) c.names ps.parameters)
+    module _ (texts : List (List ℕ)) (is : List Initial)
+        (same : map typed_keyed is ≡ of_all tables c.declarations) where
+      takes_its : (ps : ObjectParameters) → o.parameters ≡ Some ps
+          → Takes (map (core_field texts is id) (front o ++ behind o))
+          (object_types (types_of c) c.names ps.parameters)
       takes_its ps e = let F = core_field texts is id in
-          subst (λ z. Takes (map F (front o ++ behind o)) z) (ap (λ z. map type_of_field (parameter_fields (types_of c) c.names z)) e ∙ parameter_types (types_of c) c.names ps)
-          (subst (λ z. Takes z (map type_of_field (front o))) (sym (map-append F (front o) (behind o)))
+          subst (λ z. Takes (map F (front o ++ behind o)) z)
+          (ap (λ z. map type_of_field (parameter_fields (types_of c) c.names z)) e
+          ∙ parameter_types (types_of c) c.names ps)
+          (subst (λ z. Takes z (map type_of_field (front o)))
+          (sym (map-append F (front o) (behind o)))
           (takes texts is id (front o) (map F (behind o))
-          (subst (λ z. AllByRecursion (λ (f : Field). has_initial (Some id) f.name z ≡ false) (front o)) (sym same) none_in_front)
-          (have_constants texts is id (behind o) (subst (λ z. AllByRecursion (λ (f : Field). has_initial (Some id) f.name z ≡ true) (behind o)) (sym same) some_behind))))
+          (subst (λ z. AllByRecursion (λ
+          (f : Field). has_initial (Some id) f.name z ≡ false) (front o)) (sym same)
+          none_in_front)
+          (have_constants texts is id (behind o)
+          (subst (λ z. AllByRecursion (λ
+          (f : Field). has_initial (Some id) f.name z ≡ true) (behind o)) (sym same)
+          some_behind))))
 
-      pub fills : (ps : ObjectParameters) → o.parameters ≡ Some ps → Fills (shapes texts is m) id (object_types (types_of c) c.names ps.parameters)
+      pub fills : (ps : ObjectParameters) → o.parameters ≡ Some ps
+          → Fills (shapes texts is m) id (object_types (types_of c) c.names ps.parameters)
       fills ps e = let w = its_shape c i o stands m has texts is in record {
         shape = w.0;
         is_shape = ap (slice_get (shapes texts is m)) number_is ∙ w.1;
-        takes = subst (λ z. Takes z (object_types (types_of c) c.names ps.parameters)) (sym (w.2 ∙ ap (λ t. map (core_field texts is (type_id t)) (front o ++ behind o)) (sym number_is))) (takes_its ps e);
+        takes = subst (λ z. Takes z (object_types (types_of c) c.names ps.parameters))
+            (sym (w.2
+            ∙ ap (λ t. map (core_field texts is (type_id t)) (front o ++ behind o))
+            (sym number_is))) (takes_its ps e);
       }
 
   -- ---- all declarations
 
-  module _ (texts : List (List ℕ)) (is : List Initial) (same : map typed_keyed is ≡ of_all tables c.declarations) where
+  module _ (texts : List (List ℕ)) (is : List Initial)
+      (same : map typed_keyed is ≡ of_all tables c.declarations) where
     abbrev IsFull : Entry → Type 0
     IsFull e = IsFilled (shapes texts is m) e.member.kind e.member.parameters
 
     abbrev AreFull : List Entry → Type 0
     AreFull es = AllByRecursion IsFull es
 
-    method_full : (b : Option MethodBody) (parameters : List Ty) → IsFilled (shapes texts is m) (method_kind b) parameters
+    method_full : (b : Option MethodBody) (parameters : List Ty)
+        → IsFilled (shapes texts is m) (method_kind b) parameters
     method_full None parameters = tt
     method_full (Some b) parameters = tt
 
-    trait_member_full : (t : ℕ) (x : TraitMember) → AreFull (trait_member_entry (types_of c) c.names t x)
+    trait_member_full : (t : ℕ) (x : TraitMember)
+        → AreFull (trait_member_entry (types_of c) c.names t x)
     trait_member_full t (trait_member.Field name colon ty) = tt
-    trait_member_full t (trait_member.Method x) = (method_full x.body (method_parameters (types_of c) c.names t x), tt)
+    trait_member_full t (trait_member.Method x) =
+        (method_full x.body (method_parameters (types_of c) c.names t x), tt)
 
-    object_member_full : (t : ℕ) (x : ObjectMember) → AreFull (object_member_entry (types_of c) c.names t x)
+    object_member_full : (t : ℕ) (x : ObjectMember)
+        → AreFull (object_member_entry (types_of c) c.names t x)
     object_member_full t (object_member.Variable v) = tt
-    object_member_full t (object_member.Method x) = (method_full x.body (method_parameters (types_of c) c.names t x), tt)
+    object_member_full t (object_member.Method x) =
+        (method_full x.body (method_parameters (types_of c) c.names t x), tt)
 
-    constructor_full : (i : ℕ) (o : Object) → StandsAt i o → (ps : Option ObjectParameters) → o.parameters ≡ ps → AreFull (constructor_entry (types_of c) c.names (number o) o ps)
+    constructor_full : (i : ℕ) (o : Object) → StandsAt i o → (ps : Option ObjectParameters)
+        → o.parameters ≡ ps → AreFull (constructor_entry (types_of c) c.names (number o) o ps)
     constructor_full i o s None e = tt
     constructor_full i o s (Some ps) e = (fills i o s texts is same ps e, tt)
 
-    object_full : (i : ℕ) (o : Object) → StandsAt i o → AreFull (entries_at (types_of c) c.names (declaration.Object o))
-    object_full i o s = all_join IsFull (constructor_entry (types_of c) c.names (number o) o o.parameters) (flat_map (object_entry (types_of c) c.names (number o)) o.members)
-        (constructor_full i o s o.parameters refl) (all_joined IsFull (object_entry (types_of c) c.names (number o)) o.members (λ x. object_member_full (number o) x.member))
+    object_full : (i : ℕ) (o : Object) → StandsAt i o
+        → AreFull (entries_at (types_of c) c.names (declaration.Object o))
+    object_full i o s =
+        all_join IsFull (constructor_entry (types_of c) c.names (number o) o o.parameters)
+        (flat_map (object_entry (types_of c) c.names (number o)) o.members)
+        (constructor_full i o s o.parameters refl)
+        (all_joined IsFull (object_entry (types_of c) c.names (number o)) o.members
+        (λ x. object_member_full (number o) x.member))
 
-    declaration_full : (d : Declaration) → IfObject (λ o. AreFull (entries_at (types_of c) c.names (declaration.Object o))) d → AreFull (entries_at (types_of c) c.names d)
+    declaration_full : (d : Declaration)
+        → IfObject (λ o. AreFull (entries_at (types_of c) c.names (declaration.Object o))) d
+        → AreFull (entries_at (types_of c) c.names d)
     declaration_full (declaration.Variable v) k = tt
     declaration_full (declaration.Function f) k = (tt, tt)
-    declaration_full (declaration.Trait t) k = let number = number_of (types_of c) (spelling c.names t.name) in
-        all_joined IsFull (trait_entry (types_of c) c.names number) t.members (λ x. trait_member_full number x.member)
+    declaration_full (declaration.Trait t) k =
+        let number = number_of (types_of c) (spelling c.names t.name) in
+        all_joined IsFull (trait_entry (types_of c) c.names number) t.members
+        (λ x. trait_member_full number x.member)
     declaration_full (declaration.Object o) k = k
 
-    all_full : (ds : List Declared) → AllByRecursion (λ (d : Declared). IfObject (λ o. AreFull (entries_at (types_of c) c.names (declaration.Object o))) d.declaration) ds
+    all_full : (ds : List Declared)
+        → AllByRecursion (λ
+        (d : Declared). IfObject
+        (λ o. AreFull (entries_at (types_of c) c.names (declaration.Object o))) d.declaration)
+        ds
         → AreFull (flat_map (declared_entries (types_of c) c.names) ds)
     all_full [] k = tt
-    all_full (d ∷ ds) k = all_join IsFull (declared_entries (types_of c) c.names d) (flat_map (declared_entries (types_of c) c.names) ds) (declaration_full d.declaration k.0) (all_full ds k.1)
+    all_full (d ∷ ds) k =
+        all_join IsFull (declared_entries (types_of c) c.names d)
+        (flat_map (declared_entries (types_of c) c.names) ds) (declaration_full d.declaration k.0)
+        (all_full ds k.1)
 
     built_in_full : (ds : List BuiltInDeclaration) → AreFull (map built_in_entry ds)
     built_in_full [] = tt
@@ -224,5 +305,10 @@ module _ (c : Component) (h : Hierarchy) (is_hierarchy : IsHierarchy c (type_nam
 
     -- Each constructor's parameters fill the fields of its object.
     pub component_full : AreFull (entries_of c)
-    component_full = all_join IsFull (map built_in_entry declarations) (flat_map (declared_entries (types_of c) c.names) c.declarations) (built_in_full declarations)
-        (all_full c.declarations (each_object (λ o. AreFull (entries_at (types_of c) c.names (declaration.Object o))) c.declarations object_full))
+    component_full =
+        all_join IsFull (map built_in_entry declarations)
+        (flat_map (declared_entries (types_of c) c.names) c.declarations)
+        (built_in_full declarations)
+        (all_full c.declarations
+        (each_object (λ o. AreFull (entries_at (types_of c) c.names (declaration.Object o)))
+        c.declarations object_full))

@@ -1,4 +1,5 @@
--- What typing gives of a component, beside its members, and its program. The chapter "Programs as written" of docs/MACHINE.md.
+-- What typing gives of a component, beside its members, and its program. The chapter "Programs as
+-- written" of docs/MACHINE.md.
 use Rattle.std.specs.Prelude.{List, map}
 use Rattle.fort_base.specs.declared.refusal.Place.{Place}
 use Rattle.fort_token.specs.declared.token.Token.{Token}
@@ -27,13 +28,18 @@ token_place t = t.place
 abbrev pub StandApart : List Token → Type 0
 StandApart ts = PlacesOnce (map token_place ts)
 
--- What typing gives of a component matches its members, where the component is the tree of tokens that stand apart, its declared types are a hierarchy,
--- and it has these members; whatever is known of it, and whichever groupings its forms go by.
+-- What typing gives of a component matches its members, where the component is the tree of tokens
+-- that stand apart, its declared types are a hierarchy, and it has these members; whatever is known
+-- of it, and whichever groupings its forms go by.
 abbrev pub TypedMatchesMembers : Type 0
-TypedMatchesMembers = (tokens : Tokens) (c : Component) (h : Hierarchy) (m : Members) (groups : Groups) (k : Knows) (typed : Typed) → StandApart tokens.list
-    → HasTree tokens c → IsHierarchy c (type_names c) h → AreMembers c m → HasTypes k (forms_of c groups) typed → Matches m c.texts typed
+TypedMatchesMembers = (tokens : Tokens) (c : Component) (h : Hierarchy) (m : Members)
+    (groups : Groups) (k : Knows) (typed : Typed) → StandApart tokens.list
+    → HasTree tokens c → IsHierarchy c (type_names c) h → AreMembers c m
+    → HasTypes k (forms_of c groups) typed → Matches m c.texts typed
 
 -- Of such a component, the program is as it is written.
 abbrev pub ComponentIsWritten : Type 0
-ComponentIsWritten = (tokens : Tokens) (c : Component) (h : Hierarchy) (m : Members) (groups : Groups) (k : Knows) (typed : Typed) (p : Program) → StandApart tokens.list
-    → HasTree tokens c → IsHierarchy c (type_names c) h → AreMembers c m → HasTypes k (forms_of c groups) typed → IsProgramOf h m c.texts typed p → WrittenProgram p
+ComponentIsWritten = (tokens : Tokens) (c : Component) (h : Hierarchy) (m : Members)
+    (groups : Groups) (k : Knows) (typed : Typed) (p : Program) → StandApart tokens.list
+    → HasTree tokens c → IsHierarchy c (type_names c) h → AreMembers c m
+    → HasTypes k (forms_of c groups) typed → IsProgramOf h m c.texts typed p → WrittenProgram p

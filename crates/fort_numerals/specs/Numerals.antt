@@ -17,4 +17,5 @@ Fits t = FitsKind t.kind
 
 -- All numbers of a file are.
 abbrev pub FileNumbersFit : Type 0
-FileNumbersFit = (bytes : List ℕ) (tokens : Tokens) → HasTokens bytes tokens → AllByRecursion Fits tokens.list
+FileNumbersFit = (bytes : List ℕ) (tokens : Tokens) → HasTokens bytes tokens
+    → AllByRecursion Fits tokens.list

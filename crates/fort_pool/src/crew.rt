@@ -10,12 +10,13 @@ use std::sync::Wait;
 use std::thread;
 use std::thread::{Threads, join_mut};
 
-/// Runs one worker for each state until each worker's turn has answered Over, and returns then. A worker's number is the
-/// place of its state, counted from 0, and each of its turns is given that number. Worker 0 is the caller's thread, and
-/// after each of its turns `first` has one.
+/// Runs one worker for each state until each worker's turn has answered Over, and returns then. A
+/// worker's number is the place of its state, counted from 0, and each of its turns is given that
+/// number. Worker 0 is the caller's thread, and after each of its turns `first` has one.
 ///
-/// It needs at least one state and fewer than 2^32. It takes no memory, and no start of a thread can be refused: a worker
-/// that gets no thread of its own runs after another one. Nothing is said of when a worker's turns come.
+/// It needs at least one state and fewer than 2^32. It takes no memory, and no start of a thread
+/// can be refused: a worker that gets no thread of its own runs after another one. Nothing is said
+/// of when a worker's turns come.
 pub fn work<R: Threads + Wait + Sync, W: Work, F: First>(
     rt: &R,
     states: &mut [W::State],
@@ -33,8 +34,8 @@ pub fn work<R: Threads + Wait + Sync, W: Work, F: First>(
     side_by_side(rt, all, first, mine, others);
 }
 
-// Worker 0 in this thread, and the others beside it. The states' type is a parameter: of two closures that lend a
-// `W::State` the borrow checker knows nothing.
+// Worker 0 in this thread, and the others beside it. The states' type is a parameter: of two
+// closures that lend a `W::State` the borrow checker knows nothing.
 fn side_by_side<R: Threads + Wait + Sync, W: Work<State = S>, S: Send, F: First>(
     rt: &R,
     all: &W,
@@ -43,18 +44,22 @@ fn side_by_side<R: Threads + Wait + Sync, W: Work<State = S>, S: Send, F: First>
     others: &mut [S],
 )
     requires count { (length mine.old ≡ 1) × (length others.old + 1 < 4294967296) }
-    requires ready { EachWorker 0 (W.ready all.now) mine.old × EachWorker 1 (W.ready all.now) others.old × F.ready first.old }
+    requires ready { EachWorker 0 (W.ready all.now) mine.old
+        × EachWorker 1 (W.ready all.now) others.old × F.ready first.old }
     ensures mine { HasRun W.ready W.keeps W.over all.now 0 mine.old mine.new }
     ensures others { HasRun W.ready W.keeps W.over all.now 1 others.old others.new }
     ensures first { F.ready first.new × F.keeps first.old first.new }
 {
     let mut beside = ||
-        requires { IsSync R.row × (length others.now + 1 < 4294967296) × EachWorker 1 (W.ready all.now) others.now }
+        requires { IsSync R.row × (length others.now + 1 < 4294967296)
+            × EachWorker 1 (W.ready all.now) others.now }
         ensures { HasRun W.ready W.keeps W.over all.entry.now 1 others.entry.now others.exit.now }
     { crew(rt, all, others) };
     let mut here = ||
-        requires { IsSync R.row × (length mine.now ≡ 1) × EachWorker 0 (W.ready all.now) mine.now × F.ready first.now }
-        ensures { HasRun W.ready W.keeps W.over all.entry.now 0 mine.entry.now mine.exit.now × F.ready first.exit.now × F.keeps first.entry.now first.exit.now }
+        requires { IsSync R.row × (length mine.now ≡ 1) × EachWorker 0 (W.ready all.now) mine.now
+            × F.ready first.now }
+        ensures { HasRun W.ready W.keeps W.over all.entry.now 0 mine.entry.now mine.exit.now
+            × F.ready first.exit.now × F.keeps first.entry.now first.exit.now }
     { leader(rt, all, first, mine) };
     join_mut(rt, &mut beside, &mut here);
 }

@@ -6,7 +6,8 @@ use crate::turned::Turned;
 use std::sync::Wait;
 use std::thread::Threads;
 
-/// Work that many workers share. Each worker has a number, counted from 0, and a state that no other worker sees.
+/// Work that many workers share. Each worker has a number, counted from 0, and a state that no
+/// other worker sees.
 pub trait Work: Sync {
     type State: Send;
 

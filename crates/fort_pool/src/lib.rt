@@ -1,5 +1,5 @@
-//! A pool of workers, each with a state of its own, which take turns until each has answered that it is over.
-//! docs/THREADS.md.
+//! A pool of workers, each with a state of its own, which take turns until each has answered that
+//! it is over. docs/THREADS.md.
 #![tactic(auto)]
 
 mod crew;

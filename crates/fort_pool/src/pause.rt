@@ -7,7 +7,8 @@ use std::time::Duration;
 // The longest sleep. Nothing wakes a worker sooner, so work that comes meanwhile waits for so long.
 const NAP_MICROS: u64 = 200;
 
-/// Spins for a moment at first, then yields, and then sleeps for a bounded time. It needs no one to wake it.
+/// Spins for a moment at first, then yields, and then sleeps for a bounded time. It needs no one to
+/// wake it.
 #[derive(Drop)]
 pub struct Pause {
     backoff: Backoff,

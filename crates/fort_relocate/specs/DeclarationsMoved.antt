@@ -1,4 +1,5 @@
--- The chapter "Grammar", trees apart from places: declarations and components with their places moved.
+-- The chapter "Grammar", trees apart from places: declarations and components with their places
+-- moved.
 use Rattle.std.specs.Prelude.{map, option_map}
 use Rattle.fort_base.specs.declared.refusal.Place.{Place}
 use Rattle.fort_tree.specs.declared.declarations.Component.{Component}
@@ -44,30 +45,50 @@ module _ (g : Place → Place) where
   -- the name of a function or method
   abbrev pub moved_function_name : FunctionName → FunctionName
   moved_function_name (function_name.Name name) = function_name.Name (moved_name g name)
-  moved_function_name (function_name.Operator opr sign) = function_name.Operator (moved_spot g opr) (moved_sign g sign)
-  moved_function_name (function_name.Juxtaposition opr name) = function_name.Juxtaposition (moved_spot g opr) (moved_name g name)
+  moved_function_name (function_name.Operator opr sign) =
+      function_name.Operator (moved_spot g opr) (moved_sign g sign)
+  moved_function_name (function_name.Juxtaposition opr name) =
+      function_name.Juxtaposition (moved_spot g opr) (moved_name g name)
 
   -- one name, or names in braces
   abbrev pub moved_names : Names → Names
   moved_names (names_of.One name) = names_of.One (moved_name g name)
-  moved_names (names_of.Braces left first others right) = names_of.Braces (moved_spot g left) (moved_name g first) (map (moved_next_name g) others) (moved_spot g right)
+  moved_names (names_of.Braces left first others right) =
+      names_of.Braces (moved_spot g left) (moved_name g first) (map (moved_next_name g) others)
+      (moved_spot g right)
 
   -- a function
   abbrev pub moved_function : Function → Function
-  moved_function x = record { name = moved_function_name x.name; left = moved_spot g x.left; parameters = option_map (moved_parameters g) x.parameters; right = moved_spot g x.right; colon = moved_spot g x.colon; result = moved_type g x.result; equals = moved_spot g x.equals; body = moved_expr g x.body }
+  moved_function x =
+      record {
+        name = moved_function_name x.name;
+        left = moved_spot g x.left;
+        parameters = option_map (moved_parameters g) x.parameters;
+        right = moved_spot g x.right;
+        colon = moved_spot g x.colon;
+        result = moved_type g x.result;
+        equals = moved_spot g x.equals;
+        body = moved_expr g x.body;
+      }
 
   -- a parameter of a method
   abbrev pub moved_method_parameter : MethodParameter → MethodParameter
-  moved_method_parameter (method_parameter.Parameter parameter) = method_parameter.Parameter (moved_parameter g parameter)
+  moved_method_parameter (method_parameter.Parameter parameter) =
+      method_parameter.Parameter (moved_parameter g parameter)
   moved_method_parameter (method_parameter.Self_ s) = method_parameter.Self_ (moved_spot g s)
 
   -- a further parameter of a method
   abbrev pub moved_next_method_parameter : NextMethodParameter → NextMethodParameter
-  moved_next_method_parameter x = record { comma = moved_spot g x.comma; parameter = moved_method_parameter x.parameter }
+  moved_next_method_parameter x =
+      record { comma = moved_spot g x.comma; parameter = moved_method_parameter x.parameter }
 
   -- a list of parameters of a method
   abbrev pub moved_method_parameters : MethodParameters → MethodParameters
-  moved_method_parameters x = record { first = moved_method_parameter x.first; others = map moved_next_method_parameter x.others }
+  moved_method_parameters x =
+      record {
+        first = moved_method_parameter x.first;
+        others = map moved_next_method_parameter x.others;
+      }
 
   -- the body of a method
   abbrev pub moved_method_body : MethodBody → MethodBody
@@ -75,7 +96,16 @@ module _ (g : Place → Place) where
 
   -- a method
   abbrev pub moved_method : Method → Method
-  moved_method x = record { name = moved_function_name x.name; left = moved_spot g x.left; parameters = option_map moved_method_parameters x.parameters; right = moved_spot g x.right; colon = moved_spot g x.colon; result = moved_type g x.result; body = option_map moved_method_body x.body }
+  moved_method x =
+      record {
+        name = moved_function_name x.name;
+        left = moved_spot g x.left;
+        parameters = option_map moved_method_parameters x.parameters;
+        right = moved_spot g x.right;
+        colon = moved_spot g x.colon;
+        result = moved_type g x.result;
+        body = option_map moved_method_body x.body;
+      }
 
   -- an `extends`
   abbrev pub moved_extends : Extends → Extends
@@ -91,56 +121,104 @@ module _ (g : Place → Place) where
 
   -- a member of a trait
   abbrev pub moved_trait_member : TraitMember → TraitMember
-  moved_trait_member (trait_member.Field name colon ty) = trait_member.Field (moved_name g name) (moved_spot g colon) (moved_type g ty)
+  moved_trait_member (trait_member.Field name colon ty) =
+      trait_member.Field (moved_name g name) (moved_spot g colon) (moved_type g ty)
   moved_trait_member (trait_member.Method method) = trait_member.Method (moved_method method)
 
   -- a member of a trait with its `;`
   abbrev pub moved_trait_entry : TraitEntry → TraitEntry
-  moved_trait_entry x = record { member = moved_trait_member x.member; semicolon = option_map (moved_spot g) x.semicolon }
+  moved_trait_entry x =
+      record {
+        member = moved_trait_member x.member;
+        semicolon = option_map (moved_spot g) x.semicolon;
+      }
 
   -- a trait
   abbrev pub moved_trait : Trait → Trait
-  moved_trait x = record { trait_ = moved_spot g x.trait_; name = moved_name g x.name; extends = option_map moved_extends x.extends; excludes = option_map moved_excludes x.excludes; comprises = option_map moved_comprises x.comprises; members = map moved_trait_entry x.members; end = moved_spot g x.end }
+  moved_trait x =
+      record {
+        trait_ = moved_spot g x.trait_;
+        name = moved_name g x.name;
+        extends = option_map moved_extends x.extends;
+        excludes = option_map moved_excludes x.excludes;
+        comprises = option_map moved_comprises x.comprises;
+        members = map moved_trait_entry x.members;
+        end = moved_spot g x.end;
+      }
 
   -- a parameter of an object
   abbrev pub moved_object_parameter : ObjectParameter → ObjectParameter
-  moved_object_parameter x = record { var = option_map (moved_spot g) x.var; name = moved_name g x.name; colon = moved_spot g x.colon; ty = moved_type g x.ty }
+  moved_object_parameter x =
+      record {
+        var = option_map (moved_spot g) x.var;
+        name = moved_name g x.name;
+        colon = moved_spot g x.colon;
+        ty = moved_type g x.ty;
+      }
 
   -- a further parameter of an object
   abbrev pub moved_next_object_parameter : NextObjectParameter → NextObjectParameter
-  moved_next_object_parameter x = record { comma = moved_spot g x.comma; parameter = moved_object_parameter x.parameter }
+  moved_next_object_parameter x =
+      record { comma = moved_spot g x.comma; parameter = moved_object_parameter x.parameter }
 
   -- a list of parameters of an object
   abbrev pub moved_object_parameter_list : ObjectParameterList → ObjectParameterList
-  moved_object_parameter_list x = record { first = moved_object_parameter x.first; others = map moved_next_object_parameter x.others }
+  moved_object_parameter_list x =
+      record {
+        first = moved_object_parameter x.first;
+        others = map moved_next_object_parameter x.others;
+      }
 
   -- an object's parameters and their parentheses
   abbrev pub moved_object_parameters : ObjectParameters → ObjectParameters
-  moved_object_parameters x = record { left = moved_spot g x.left; parameters = option_map moved_object_parameter_list x.parameters; right = moved_spot g x.right }
+  moved_object_parameters x =
+      record {
+        left = moved_spot g x.left;
+        parameters = option_map moved_object_parameter_list x.parameters;
+        right = moved_spot g x.right;
+      }
 
   -- a member of an object
   abbrev pub moved_object_member : ObjectMember → ObjectMember
-  moved_object_member (object_member.Variable variable) = object_member.Variable (moved_variable g variable)
+  moved_object_member (object_member.Variable variable) =
+      object_member.Variable (moved_variable g variable)
   moved_object_member (object_member.Method method) = object_member.Method (moved_method method)
 
   -- a member of an object with its `;`
   abbrev pub moved_object_entry : ObjectEntry → ObjectEntry
-  moved_object_entry x = record { member = moved_object_member x.member; semicolon = option_map (moved_spot g) x.semicolon }
+  moved_object_entry x =
+      record {
+        member = moved_object_member x.member;
+        semicolon = option_map (moved_spot g) x.semicolon;
+      }
 
   -- an object
   abbrev pub moved_object : Object → Object
-  moved_object x = record { object = moved_spot g x.object; name = moved_name g x.name; parameters = option_map moved_object_parameters x.parameters; extends = option_map moved_extends x.extends; members = map moved_object_entry x.members; end = moved_spot g x.end }
+  moved_object x =
+      record {
+        object = moved_spot g x.object;
+        name = moved_name g x.name;
+        parameters = option_map moved_object_parameters x.parameters;
+        extends = option_map moved_extends x.extends;
+        members = map moved_object_entry x.members;
+        end = moved_spot g x.end;
+      }
 
   -- a declaration
   abbrev pub moved_declaration : Declaration → Declaration
-  moved_declaration (declaration.Variable variable) = declaration.Variable (moved_variable g variable)
+  moved_declaration (declaration.Variable variable) =
+      declaration.Variable (moved_variable g variable)
   moved_declaration (declaration.Function function) = declaration.Function (moved_function function)
   moved_declaration (declaration.Trait tr) = declaration.Trait (moved_trait tr)
   moved_declaration (declaration.Object object) = declaration.Object (moved_object object)
 
   -- a declaration with its `;`
   abbrev pub moved_declared : Declared → Declared
-  moved_declared x = record { declaration = moved_declaration x.declaration; semicolon = option_map (moved_spot g) x.semicolon }
+  moved_declared x =
+      record {
+        declaration = moved_declaration x.declaration;
+        semicolon = option_map (moved_spot g) x.semicolon;
+      }
 
   -- a component; its names and texts stay
   abbrev pub moved_component : Component → Component

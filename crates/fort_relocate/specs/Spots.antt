@@ -1,5 +1,5 @@
--- The chapter "Grammar", trees apart from places: the places of a tree's tokens moved, each by one map of places; the parts that
--- stand in trees. No code: a law joins the definitions.
+-- The chapter "Grammar", trees apart from places: the places of a tree's tokens moved, each by one
+-- map of places; the parts that stand in trees. No code: a law joins the definitions.
 use Rattle.fort_base.specs.declared.refusal.Place.{Place}
 use Rattle.fort_token.specs.declared.token.Token.{Token}
 use Rattle.fort_tree.specs.declared.spot.Spot.{Spot}

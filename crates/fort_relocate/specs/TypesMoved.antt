@@ -1,4 +1,5 @@
--- The chapter "Grammar", trees apart from places: types with their places moved, and lists of parameters.
+-- The chapter "Grammar", trees apart from places: types with their places moved, and lists of
+-- parameters.
 use Rattle.std.specs.Prelude.{map}
 use Rattle.fort_base.specs.declared.refusal.Place.{Place}
 use Rattle.fort_tree.specs.declared.declarations.NextParameter.{NextParameter}
@@ -17,13 +18,17 @@ module _ (g : Place → Place) {S T N L : Type 0} where
   -- one level of a simple type
   abbrev pub simple_type_level : SimpleType-F S T N L → SimpleType-F S T N L
   simple_type_level (SimpleType-F.Named n) = SimpleType-F.Named (moved_name g n)
-  simple_type_level (SimpleType-F.Array array left element comma index right) = SimpleType-F.Array (moved_name g array) (moved_spot g left) element (moved_spot g comma) (moved_name g index) (moved_spot g right)
-  simple_type_level (SimpleType-F.Parts left parts right) = SimpleType-F.Parts (moved_spot g left) parts (moved_spot g right)
+  simple_type_level (SimpleType-F.Array array left element comma index right) =
+      SimpleType-F.Array (moved_name g array) (moved_spot g left) element (moved_spot g comma)
+      (moved_name g index) (moved_spot g right)
+  simple_type_level (SimpleType-F.Parts left parts right) =
+      SimpleType-F.Parts (moved_spot g left) parts (moved_spot g right)
 
   -- one level of a type
   abbrev pub type_level : TypeTree-F S T N L → TypeTree-F S T N L
   type_level (TypeTree-F.Simple simple) = TypeTree-F.Simple simple
-  type_level (TypeTree-F.Arrow domain arrow result) = TypeTree-F.Arrow domain (moved_spot g arrow) result
+  type_level (TypeTree-F.Arrow domain arrow result) =
+      TypeTree-F.Arrow domain (moved_spot g arrow) result
 
   -- one level of a further type of a list
   abbrev pub next_type_level : NextType-F S T N L → NextType-F S T N L
@@ -54,31 +59,42 @@ module _ (g : Place → Place) where
 
   -- a simple type, at every depth
   unfoldable pub moved_simple_type : SimpleType → SimpleType
-  moved_simple_type = fold-SimpleType SimpleType TypeTree NextType TypeList move_simple_type move_type move_next_type move_type_list
+  moved_simple_type =
+      fold-SimpleType SimpleType TypeTree NextType TypeList move_simple_type move_type
+      move_next_type move_type_list
 
   -- a type, at every depth
   unfoldable pub moved_type : TypeTree → TypeTree
-  moved_type = fold-TypeTree SimpleType TypeTree NextType TypeList move_simple_type move_type move_next_type move_type_list
+  moved_type =
+      fold-TypeTree SimpleType TypeTree NextType TypeList move_simple_type move_type move_next_type
+      move_type_list
 
   -- a further type of a list, at every depth
   unfoldable pub moved_next_type : NextType → NextType
-  moved_next_type = fold-NextType SimpleType TypeTree NextType TypeList move_simple_type move_type move_next_type move_type_list
+  moved_next_type =
+      fold-NextType SimpleType TypeTree NextType TypeList move_simple_type move_type move_next_type
+      move_type_list
 
   -- a list of types, at every depth
   unfoldable pub moved_type_list : TypeList → TypeList
-  moved_type_list = fold-TypeList SimpleType TypeTree NextType TypeList move_simple_type move_type move_next_type move_type_list
+  moved_type_list =
+      fold-TypeList SimpleType TypeTree NextType TypeList move_simple_type move_type move_next_type
+      move_type_list
 
 -- ---- parameters
 
 module _ (g : Place → Place) where
   -- a parameter
   abbrev pub moved_parameter : Parameter → Parameter
-  moved_parameter p = record { name = moved_name g p.name; colon = moved_spot g p.colon; ty = moved_type g p.ty }
+  moved_parameter p =
+      record { name = moved_name g p.name; colon = moved_spot g p.colon; ty = moved_type g p.ty }
 
   -- a further parameter
   abbrev pub moved_next_parameter : NextParameter → NextParameter
-  moved_next_parameter next = record { comma = moved_spot g next.comma; parameter = moved_parameter next.parameter }
+  moved_next_parameter next =
+      record { comma = moved_spot g next.comma; parameter = moved_parameter next.parameter }
 
   -- a list of parameters
   abbrev pub moved_parameters : Parameters → Parameters
-  moved_parameters list = record { first = moved_parameter list.first; others = map moved_next_parameter list.others }
+  moved_parameters list =
+      record { first = moved_parameter list.first; others = map moved_next_parameter list.others }

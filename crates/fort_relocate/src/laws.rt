@@ -10,7 +10,9 @@ ghost use Rattle.fort_relocate.specs.DeclarationsMoved.{moved_component};
 /// moved; it obeys the rules on gaps and names as the component does, and what is too much in it
 /// stands where the map of places takes it. The chapter is "Grammar".
 pub fn moving_places_keeps_the_rest()
-    ensures tokens { (g : Place → Place) (c : Component) → yield (moved_component g c) ≡ map (moved_token g) (yield c) }
+    ensures tokens { (g : Place → Place) (c : Component)
+        → yield (moved_component g c) ≡ map (moved_token g) (yield c) }
     ensures gaps { (g : Place → Place) (c : Component) → obeys (moved_component g c) ≡ obeys c }
-    ensures limits { (g : Place → Place) (c : Component) → crowded (moved_component g c) ≡ map g (crowded c) }
+    ensures limits { (g : Place → Place) (c : Component)
+        → crowded (moved_component g c) ≡ map g (crowded c) }
 {}

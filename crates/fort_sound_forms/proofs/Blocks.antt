@@ -43,42 +43,62 @@ before_is (field ty o f) own rest h = refl
 before_is (element ty a ty1 i) own rest h = refl
 
 module _ (k : Knows) (g : Given) (p : Program) where
-  declares_nothing : (bs : List Binding) (x : TypedForm-F TypedForm) → Target k g p bs x → IsExpression (role_at (level k g p x))
+  declares_nothing : (bs : List Binding) (x : TypedForm-F TypedForm) → Target k g p bs x
+      → IsExpression (role_at (level k g p x))
   declares_nothing bs (TypedForm-F.Bind ty name mutable written e) h = absurd h
   declares_nothing bs (TypedForm-F.Binds ty xs e) h = absurd h
   declares_nothing bs _ h = tt
 
-  pub good_then : {bs : List Binding} {T : Ty} (u : TypedForm) (q : Part) (qs : List Part) → Plain k g p bs u → Good k p bs (block (q ∷ qs)) T → Good k p bs (block (part g u ∷ q ∷ qs)) T
+  pub good_then : {bs : List Binding} {T : Ty} (u : TypedForm) (q : Part) (qs : List Part)
+      → Plain k g p bs u → Good k p bs (block (q ∷ qs)) T
+      → Good k p bs (block (part g u ∷ q ∷ qs)) T
   good_then {bs} {T} u q qs h i =
       let r = part g u in
-      let e = before_is r.role r.maker (block (q ∷ qs)) (subst IsExpression (sym (role_is k g p u refl)) (declares_nothing bs (out-TypedForm u) h.target)) in
-      subst (λ m. Good k p bs m T) (sym e) (good_two k p Then (translated g u) (block (q ∷ qs)) (λ G a b x y. has-Then p (opening p) x y) h.maker i)
+      let e = before_is r.role r.maker (block (q ∷ qs))
+      (subst IsExpression (sym (role_is k g p u refl))
+      (declares_nothing bs (out-TypedForm u) h.target)) in
+      subst (λ m. Good k p bs m T) (sym e)
+      (good_two k p Then (translated g u) (block (q ∷ qs))
+      (λ G a b x y. has-Then p (opening p) x y) h.maker i)
 
-  bind_first : (name : NameId) (mutable : Bool) (ty : Ty) (e : Part) (qs : List Part) → block (part_at g (TypedForm-F.Bind unit name mutable ty e) ∷ qs) ≡ binding name mutable ty e.maker (block qs)
+  bind_first : (name : NameId) (mutable : Bool) (ty : Ty) (e : Part) (qs : List Part)
+      → block (part_at g (TypedForm-F.Bind unit name mutable ty e) ∷ qs)
+      ≡ binding name mutable ty e.maker (block qs)
   bind_first name mutable ty e [] = refl
   bind_first name mutable ty e (q ∷ qs) = refl
 
-  binds_first : (xs : List (NameId × Ty)) (e : Part) (qs : List Part) → block (part_at g (TypedForm-F.Binds unit xs e) ∷ qs) ≡ bindings xs e.maker (block qs)
+  binds_first : (xs : List (NameId × Ty)) (e : Part) (qs : List Part)
+      → block (part_at g (TypedForm-F.Binds unit xs e) ∷ qs) ≡ bindings xs e.maker (block qs)
   binds_first xs e [] = refl
   binds_first xs e (q ∷ qs) = refl
 
-  pub block_bind : (name : NameId) (mutable : Bool) (ty : Ty) (u : TypedForm) (qs : List Part) → block (part g (a_typed.Bind unit name mutable ty u) ∷ qs) ≡ binding name mutable ty (translated g u) (block qs)
+  pub block_bind : (name : NameId) (mutable : Bool) (ty : Ty) (u : TypedForm) (qs : List Part)
+      → block (part g (a_typed.Bind unit name mutable ty u) ∷ qs)
+      ≡ binding name mutable ty (translated g u) (block qs)
   block_bind name mutable ty u qs =
-      let is : out-TypedForm (a_typed.Bind unit name mutable ty u) ≡ TypedForm-F.Bind unit name mutable ty u = search (rules, the_lemmas) in
-      ap (λ (q : Part). block (q ∷ qs)) (part_is k g p (a_typed.Bind unit name mutable ty u) ∙ ap (λ x. part_at g (level k g p x)) is) ∙ bind_first name mutable ty (part g u) qs
+      let is : out-TypedForm (a_typed.Bind unit name mutable ty u)
+      ≡ TypedForm-F.Bind unit name mutable ty u = search (rules, the_lemmas) in
+      ap (λ (q : Part). block (q ∷ qs)) (part_is k g p (a_typed.Bind unit name mutable ty u)
+      ∙ ap (λ x. part_at g (level k g p x)) is) ∙ bind_first name mutable ty (part g u) qs
 
-  pub block_binds : (xs : List (NameId × Ty)) (u : TypedForm) (qs : List Part) → block (part g (a_typed.Binds unit xs u) ∷ qs) ≡ bindings xs (translated g u) (block qs)
+  pub block_binds : (xs : List (NameId × Ty)) (u : TypedForm) (qs : List Part)
+      → block (part g (a_typed.Binds unit xs u) ∷ qs) ≡ bindings xs (translated g u) (block qs)
   block_binds xs u qs =
-      let is : out-TypedForm (a_typed.Binds unit xs u) ≡ TypedForm-F.Binds unit xs u = search (rules, the_lemmas) in
-      ap (λ (q : Part). block (q ∷ qs)) (part_is k g p (a_typed.Binds unit xs u) ∙ ap (λ x. part_at g (level k g p x)) is) ∙ binds_first xs (part g u) qs
+      let is : out-TypedForm (a_typed.Binds unit xs u) ≡ TypedForm-F.Binds unit xs u =
+      search (rules, the_lemmas) in
+      ap (λ (q : Part). block (q ∷ qs)) (part_is k g p (a_typed.Binds unit xs u)
+      ∙ ap (λ x. part_at g (level k g p x)) is) ∙ binds_first xs (part g u) qs
 
   -- where there are items there are typed forms
-  pub items_more : {bs : List Binding} {j : Item} {more : List Item} {us : List TypedForm} {ty : Ty} → rule.HasItems k (Calls k) bs (j ∷ more) us ty → (v : TypedForm) × (vs : List TypedForm) × (us ≡ v ∷ vs)
+  pub items_more : {bs : List Binding} {j : Item} {more : List Item} {us : List TypedForm} {ty : Ty}
+      → rule.HasItems k (Calls k) bs (j ∷ more) us ty
+      → (v : TypedForm) × (vs : List TypedForm) × (us ≡ v ∷ vs)
   items_more (rule.no_item e1 e2 e3) = absurd cc
   items_more (rule.last_item i d u e1 e2 h e3 e4) = (u, [], e3)
   items_more (rule.expression i j more d u us e1 e2 h rest e3) = (u, us, e3)
   items_more (rule.declared i more q name mutable want d u us e1 e2 fresh h rest e3) = (_, us, e3)
-  items_more (rule.declared_all i more q names want d new inner u us e1 e2 parts b h rest e3) = (_, us, e3)
+  items_more (rule.declared_all i more q names want d new inner u us e1 e2 parts b h rest e3) =
+      (_, us, e3)
 
   -- ---- generators
 
@@ -88,11 +108,16 @@ module _ (k : Knows) (g : Given) (p : Program) where
   -- generators one after another, and what is bound behind them
   pub data Sources : List Binding → List Generator → List Binding → List TypedForm → Type 0 where
     no_more : {bs : List Binding} → Sources bs [] bs []
-    next : {bs inner : List Binding} {xs : List Generator} {us : List TypedForm} (x : Generator) (u : TypedForm) (ty : Ty) → bound bs (out-Generator x).name ≡ None → Plain k g p bs u → ItemsOf p (type_of u) ty
+    next : {bs inner : List Binding} {xs : List Generator} {us : List TypedForm} (x : Generator)
+        (u : TypedForm) (ty : Ty) → bound bs (out-Generator x).name ≡ None → Plain k g p bs u
+        → ItemsOf p (type_of u) ty
         → Sources (bs ++ generated x ty ∷ []) xs inner us → Sources bs (x ∷ xs) inner (u ∷ us)
 
-  pub good_loops : {bs inner : List Binding} {xs : List Generator} {us : List TypedForm} (body : Maker) → Sources bs xs inner us → Good k p inner body unit_type
+  pub good_loops : {bs inner : List Binding} {xs : List Generator} {us : List TypedForm}
+      (body : Maker) → Sources bs xs inner us → Good k p inner body unit_type
       → Good k p bs (loops (map rule.generator_name xs) (map (part g) us) body) unit_type
   good_loops body no_more h = h
   good_loops {us = us} body (next {xs = xs} {us = vs} x u ty f i w rest) h =
-      good_for k p (out-Generator x).place (out-Generator x).name ty (out-Generator x).sequential (translated g u) (loops (map rule.generator_name xs) (map (part g) vs) body) f w i.maker (good_loops body rest h)
+      good_for k p (out-Generator x).place (out-Generator x).name ty (out-Generator x).sequential
+      (translated g u) (loops (map rule.generator_name xs) (map (part g) vs) body) f w i.maker
+      (good_loops body rest h)

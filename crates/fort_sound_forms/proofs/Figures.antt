@@ -66,9 +66,12 @@ Layer (Form-F.Do p blocks) = AllFigured blocks
 Layer (Form-F.If p branches other) = AllByRecursion BranchFigured branches × MayBeFigured other
 Layer (Form-F.While p c b) = HasFigures c × HasFigures b
 Layer (Form-F.For p gs b) = AllByRecursion GeneratorFigured gs × HasFigures b
-Layer (Form-F.Case p s branches other) = HasFigures s × AllByRecursion BranchFigured branches × MayBeFigured other
-Layer (Form-F.Typecase p at name s branches other) = HasFigures s × AllByRecursion ClauseFigured branches × MayBeFigured other
-Layer (Form-F.Try p b name branches last) = HasFigures b × AllByRecursion ClauseFigured branches × MayBeFigured last
+Layer (Form-F.Case p s branches other) = HasFigures s × AllByRecursion BranchFigured branches
+    × MayBeFigured other
+Layer (Form-F.Typecase p at name s branches other) = HasFigures s
+    × AllByRecursion ClauseFigured branches × MayBeFigured other
+Layer (Form-F.Try p b name branches last) = HasFigures b × AllByRecursion ClauseFigured branches
+    × MayBeFigured last
 Layer (Form-F.Atomic p e) = HasFigures e
 Layer (Form-F.Tryatomic p e) = HasFigures e
 Layer (Form-F.Throw p e) = HasFigures e
@@ -85,41 +88,72 @@ back xs ys h = all_right IsRight xs ys h
 
 all-forms : (es : List Form) → AllByRecursion IsRight (together (map figures es)) → AllFigured es
 all-forms [] h = tt
-all-forms (e ∷ es) h = (front (figures e) (together (map figures es)) h, all-forms es (back (figures e) (together (map figures es)) h))
+all-forms (e ∷ es) h = (
+  front (figures e) (together (map figures es)) h,
+  all-forms es (back (figures e) (together (map figures es)) h),
+)
 
-all-items : (is : List Item) → AllByRecursion IsRight (together (map figures_item is)) → AllByRecursion ItemFigured is
+all-items : (is : List Item) → AllByRecursion IsRight (together (map figures_item is))
+    → AllByRecursion ItemFigured is
 all-items [] h = tt
-all-items (i ∷ is) h = (front (figures_item i) (together (map figures_item is)) h, all-items is (back (figures_item i) (together (map figures_item is)) h))
+all-items (i ∷ is) h = (
+  front (figures_item i) (together (map figures_item is)) h,
+  all-items is (back (figures_item i) (together (map figures_item is)) h),
+)
 
 one-branch : (b : Branch) → AllByRecursion IsRight (figures_branch b) → BranchFigured b
-one-branch b h = let i = subst (AllByRecursion IsRight) (branch-is b) h in (front (figures (test_of b)) (figures (value_of b)) i, back (figures (test_of b)) (figures (value_of b)) i)
+one-branch b h =
+    let i = subst (AllByRecursion IsRight) (branch-is b) h
+    in (
+      front (figures (test_of b)) (figures (value_of b)) i,
+      back (figures (test_of b)) (figures (value_of b)) i,
+    )
 
-all-branches : (bs : List Branch) → AllByRecursion IsRight (together (map figures_branch bs)) → AllByRecursion BranchFigured bs
+all-branches : (bs : List Branch) → AllByRecursion IsRight (together (map figures_branch bs))
+    → AllByRecursion BranchFigured bs
 all-branches [] h = tt
-all-branches (b ∷ bs) h = (one-branch b (front (figures_branch b) (together (map figures_branch bs)) h), all-branches bs (back (figures_branch b) (together (map figures_branch bs)) h))
+all-branches (b ∷ bs) h = (
+  one-branch b (front (figures_branch b) (together (map figures_branch bs)) h),
+  all-branches bs (back (figures_branch b) (together (map figures_branch bs)) h),
+)
 
 one-generator : (g : Generator) → AllByRecursion IsRight (figures_generator g) → GeneratorFigured g
 one-generator g h = subst (AllByRecursion IsRight) (generator-is g) h
 
-all-generators : (gs : List Generator) → AllByRecursion IsRight (together (map figures_generator gs)) → AllByRecursion GeneratorFigured gs
+all-generators : (gs : List Generator)
+    → AllByRecursion IsRight (together (map figures_generator gs))
+    → AllByRecursion GeneratorFigured gs
 all-generators [] h = tt
-all-generators (g ∷ gs) h = (one-generator g (front (figures_generator g) (together (map figures_generator gs)) h), all-generators gs (back (figures_generator g) (together (map figures_generator gs)) h))
+all-generators (g ∷ gs) h = (
+  one-generator g (front (figures_generator g) (together (map figures_generator gs)) h),
+  all-generators gs (back (figures_generator g) (together (map figures_generator gs)) h),
+)
 
 one-clause : (b : TypeBranch) → AllByRecursion IsRight (figures_clause b) → ClauseFigured b
 one-clause b h = subst (AllByRecursion IsRight) (clause-is b) h
 
-all-clauses : (bs : List TypeBranch) → AllByRecursion IsRight (together (map figures_clause bs)) → AllByRecursion ClauseFigured bs
+all-clauses : (bs : List TypeBranch) → AllByRecursion IsRight (together (map figures_clause bs))
+    → AllByRecursion ClauseFigured bs
 all-clauses [] h = tt
-all-clauses (b ∷ bs) h = (one-clause b (front (figures_clause b) (together (map figures_clause bs)) h), all-clauses bs (back (figures_clause b) (together (map figures_clause bs)) h))
+all-clauses (b ∷ bs) h = (
+  one-clause b (front (figures_clause b) (together (map figures_clause bs)) h),
+  all-clauses bs (back (figures_clause b) (together (map figures_clause bs)) h),
+)
 
-may-be : (o : Option Form) → AllByRecursion IsRight (if_there (option_map figures o)) → MayBeFigured o
+may-be : (o : Option Form) → AllByRecursion IsRight (if_there (option_map figures o))
+    → MayBeFigured o
 may-be None h = tt
 may-be (Some e) h = h
 
-abbrev mapped : Form-F Form Item Branch Generator TypeBranch → Form-F (List Figure) (List Figure) (List Figure) (List Figure) (List Figure)
-mapped x = map-Form Form Item Branch Generator TypeBranch (List Figure) (List Figure) (List Figure) (List Figure) (List Figure) figures figures_item figures_branch figures_generator figures_clause x
+abbrev mapped : Form-F Form Item Branch Generator TypeBranch
+    → Form-F (List Figure) (List Figure) (List Figure) (List Figure) (List Figure)
+mapped x =
+    map-Form Form Item Branch Generator TypeBranch (List Figure) (List Figure) (List Figure)
+    (List Figure) (List Figure) figures figures_item figures_branch figures_generator figures_clause
+    x
 
-layer : (x : Form-F Form Item Branch Generator TypeBranch) → AllByRecursion IsRight (figures_form (mapped x)) → Layer x
+layer : (x : Form-F Form Item Branch Generator TypeBranch)
+    → AllByRecursion IsRight (figures_form (mapped x)) → Layer x
 layer (Form-F.Number p n) h = h.0
 layer (Form-F.Text p n) h = tt
 layer (Form-F.Truth p b) h = tt
@@ -138,55 +172,107 @@ layer (Form-F.Method p at name es) h = all-forms es h
 layer (Form-F.Fill p ty n v) h = (front (figures n) (figures v) h, back (figures n) (figures v) h)
 layer (Form-F.Block p is) h = all-items is h
 layer (Form-F.Do p blocks) h = all-forms blocks h
-layer (Form-F.If p branches None) h = (all-branches branches (front (together (map figures_branch branches)) [] h), tt)
-layer (Form-F.If p branches (Some d)) h = (all-branches branches (front (together (map figures_branch branches)) (figures d) h), back (together (map figures_branch branches)) (figures d) h)
+layer (Form-F.If p branches None) h =
+    (all-branches branches (front (together (map figures_branch branches)) [] h), tt)
+layer (Form-F.If p branches (Some d)) h = (
+  all-branches branches (front (together (map figures_branch branches)) (figures d) h),
+  back (together (map figures_branch branches)) (figures d) h,
+)
 layer (Form-F.While p c b) h = (front (figures c) (figures b) h, back (figures c) (figures b) h)
-layer (Form-F.For p gs b) h = (all-generators gs (front (together (map figures_generator gs)) (figures b) h), back (together (map figures_generator gs)) (figures b) h)
+layer (Form-F.For p gs b) h = (
+  all-generators gs (front (together (map figures_generator gs)) (figures b) h),
+  back (together (map figures_generator gs)) (figures b) h,
+)
 layer (Form-F.Case p s branches None) h =
-    let r = front (figures s ++ together (map figures_branch branches)) [] h in
-    (front (figures s) (together (map figures_branch branches)) r, all-branches branches (back (figures s) (together (map figures_branch branches)) r), tt)
+    let r = front (figures s ++ together (map figures_branch branches)) [] h in (
+      front (figures s) (together (map figures_branch branches)) r,
+      all-branches branches (back (figures s) (together (map figures_branch branches)) r),
+      tt,
+    )
 layer (Form-F.Case p s branches (Some d)) h =
-    let r = front (figures s ++ together (map figures_branch branches)) (figures d) h in
-    (front (figures s) (together (map figures_branch branches)) r, all-branches branches (back (figures s) (together (map figures_branch branches)) r), back (figures s ++ together (map figures_branch branches)) (figures d) h)
+    let r = front (figures s ++ together (map figures_branch branches)) (figures d) h in (
+      front (figures s) (together (map figures_branch branches)) r,
+      all-branches branches (back (figures s) (together (map figures_branch branches)) r),
+      back (figures s ++ together (map figures_branch branches)) (figures d) h,
+    )
 layer (Form-F.Typecase p at name s branches None) h =
-    let r = front (figures s ++ together (map figures_clause branches)) [] h in
-    (front (figures s) (together (map figures_clause branches)) r, all-clauses branches (back (figures s) (together (map figures_clause branches)) r), tt)
+    let r = front (figures s ++ together (map figures_clause branches)) [] h in (
+      front (figures s) (together (map figures_clause branches)) r,
+      all-clauses branches (back (figures s) (together (map figures_clause branches)) r),
+      tt,
+    )
 layer (Form-F.Typecase p at name s branches (Some d)) h =
-    let r = front (figures s ++ together (map figures_clause branches)) (figures d) h in
-    (front (figures s) (together (map figures_clause branches)) r, all-clauses branches (back (figures s) (together (map figures_clause branches)) r), back (figures s ++ together (map figures_clause branches)) (figures d) h)
+    let r = front (figures s ++ together (map figures_clause branches)) (figures d) h in (
+      front (figures s) (together (map figures_clause branches)) r,
+      all-clauses branches (back (figures s) (together (map figures_clause branches)) r),
+      back (figures s ++ together (map figures_clause branches)) (figures d) h,
+    )
 layer (Form-F.Try p s name branches None) h =
-    let r = front (figures s ++ together (map figures_clause branches)) [] h in
-    (front (figures s) (together (map figures_clause branches)) r, all-clauses branches (back (figures s) (together (map figures_clause branches)) r), tt)
+    let r = front (figures s ++ together (map figures_clause branches)) [] h in (
+      front (figures s) (together (map figures_clause branches)) r,
+      all-clauses branches (back (figures s) (together (map figures_clause branches)) r),
+      tt,
+    )
 layer (Form-F.Try p s name branches (Some d)) h =
-    let r = front (figures s ++ together (map figures_clause branches)) (figures d) h in
-    (front (figures s) (together (map figures_clause branches)) r, all-clauses branches (back (figures s) (together (map figures_clause branches)) r), back (figures s ++ together (map figures_clause branches)) (figures d) h)
+    let r = front (figures s ++ together (map figures_clause branches)) (figures d) h in (
+      front (figures s) (together (map figures_clause branches)) r,
+      all-clauses branches (back (figures s) (together (map figures_clause branches)) r),
+      back (figures s ++ together (map figures_clause branches)) (figures d) h,
+    )
 layer (Form-F.Atomic p e) h = h
 layer (Form-F.Tryatomic p e) h = h
 layer (Form-F.Throw p e) h = h
 layer (Form-F.Fn p ps e) h = h
-layer (Form-F.Reduce p r g e) h = (one-generator g (front (figures_generator g) (figures e) h), back (figures_generator g) (figures e) h)
-layer (Form-F.Assign p t sign e) h = (front (figures t) (figures e) h, back (figures t) (figures e) h)
+layer (Form-F.Reduce p r g e) h = (
+  one-generator g (front (figures_generator g) (figures e) h),
+  back (figures_generator g) (figures e) h,
+)
+layer (Form-F.Assign p t sign e) h =
+    (front (figures t) (figures e) h, back (figures t) (figures e) h)
 
 figures-out : (e : Form) → figures e ≡ figures_form (mapped (out-Form e))
 unfolding figures figures_item figures_branch figures_generator figures_clause
-figures-out e = fold_out-Form (List Figure) (List Figure) (List Figure) (List Figure) (List Figure) figures_form figures_part figures_arm figures_source figures_case e
+figures-out e =
+    fold_out-Form (List Figure) (List Figure) (List Figure) (List Figure) (List Figure) figures_form
+    figures_part figures_arm figures_source figures_case e
 
 -- what is figures in a form is figures in its parts
-pub of-parts : (e : Form) {x : Form-F Form Item Branch Generator TypeBranch} → out-Form e ≡ x → HasFigures e → Layer x
-of-parts e {x = x} is h = layer x (subst (λ y. AllByRecursion IsRight (figures_form (mapped y))) is (subst (AllByRecursion IsRight) (figures-out e) h))
+pub of-parts : (e : Form) {x : Form-F Form Item Branch Generator TypeBranch} → out-Form e ≡ x
+    → HasFigures e → Layer x
+of-parts e {x = x} is h =
+    layer x (subst (λ y. AllByRecursion IsRight (figures_form (mapped y))) is
+    (subst (AllByRecursion IsRight) (figures-out e) h))
 
 item-layer : (x : Item-F Form Item Branch Generator TypeBranch)
-    → AllByRecursion IsRight (figures_part (map-Item Form Item Branch Generator TypeBranch (List Figure) (List Figure) (List Figure) (List Figure) (List Figure) figures figures_item figures_branch figures_generator figures_clause x)) → ItemLayer x
+    → AllByRecursion IsRight
+    (figures_part
+    (map-Item Form Item Branch Generator TypeBranch (List Figure) (List Figure) (List Figure)
+    (List Figure) (List Figure) figures figures_item figures_branch figures_generator
+    figures_clause x)) → ItemLayer x
 item-layer (Item-F.Local p name mutable ty e) h = h
 item-layer (Item-F.Locals p xs ty e) h = h
 item-layer (Item-F.Expression e) h = h
 
-item-out : (i : Item) → figures_item i ≡ figures_part (map-Item Form Item Branch Generator TypeBranch (List Figure) (List Figure) (List Figure) (List Figure) (List Figure) figures figures_item figures_branch figures_generator figures_clause (out-Item i))
+item-out : (i : Item)
+    → figures_item i
+    ≡ figures_part
+    (map-Item Form Item Branch Generator TypeBranch (List Figure) (List Figure) (List Figure)
+    (List Figure) (List Figure) figures figures_item figures_branch figures_generator
+    figures_clause (out-Item i))
 unfolding figures figures_item figures_branch figures_generator figures_clause
-item-out i = fold_out-Item (List Figure) (List Figure) (List Figure) (List Figure) (List Figure) figures_form figures_part figures_arm figures_source figures_case i
+item-out i =
+    fold_out-Item (List Figure) (List Figure) (List Figure) (List Figure) (List Figure) figures_form
+    figures_part figures_arm figures_source figures_case i
 
-pub of-item : (i : Item) {x : Item-F Form Item Branch Generator TypeBranch} → out-Item i ≡ x → ItemFigured i → ItemLayer x
-of-item i {x = x} is h = item-layer x (subst (λ y. AllByRecursion IsRight (figures_part (map-Item Form Item Branch Generator TypeBranch (List Figure) (List Figure) (List Figure) (List Figure) (List Figure) figures figures_item figures_branch figures_generator figures_clause y))) is
+pub of-item : (i : Item) {x : Item-F Form Item Branch Generator TypeBranch} → out-Item i ≡ x
+    → ItemFigured i → ItemLayer x
+of-item i {x = x} is h =
+    item-layer x
+    (subst (λ y. AllByRecursion IsRight
+    (figures_part
+    (map-Item Form Item Branch Generator TypeBranch (List Figure) (List Figure) (List Figure)
+    (List Figure) (List Figure) figures figures_item figures_branch figures_generator
+    figures_clause y))) is
     (subst (AllByRecursion IsRight) (item-out i) h))
 
 pub tests-of : (bs : List Branch) → AllByRecursion BranchFigured bs → AllFigured (map test_of bs)

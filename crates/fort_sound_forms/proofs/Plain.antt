@@ -71,15 +71,22 @@ module _ (k : Knows) (g : Given) (p : Program) where
 
   -- a field of a type, by its name
   abbrev pub IsField : Ty → NameId → Ty → Type 0
-  IsField T name ty = (o : TypeId) × (f : Field) × (T ≡ Named o) × (field_of k.facts o name ≡ Some f) × (f.ty ≡ ty)
+  IsField T name ty = (o : TypeId) × (f : Field) × (T ≡ Named o)
+      × (field_of k.facts o name ≡ Some f) × (f.ty ≡ ty)
 
-  -- What is to be known of a form's parts: where it may be assigned to, and of a tuple, whose parts may be arguments; a declaration of a block is no expression.
+  -- What is to be known of a form's parts: where it may be assigned to, and of a tuple, whose parts
+  -- may be arguments; a declaration of a block is no expression.
   abbrev pub Target : List Binding → TypedForm-F TypedForm → Type 0
-  Target bs (TypedForm-F.Local ty name mutable) = (b : Binding) × (bound bs name ≡ Some b) × (b.ty ≡ ty) × (b.mutable ≡ mutable)
+  Target bs (TypedForm-F.Local ty name mutable) = (b : Binding) × (bound bs name ≡ Some b)
+      × (b.ty ≡ ty) × (b.mutable ≡ mutable)
   Target bs (TypedForm-F.Top ty n) = opening p n ≡ Some ty
-  Target bs (TypedForm-F.ReadField ty o name) = Good k p bs (translated g o) (type_of o) × IsField (type_of o) name ty
-  Target bs (TypedForm-F.ReadElement ty a i) = Good k p bs (translated g a) (type_of a) × (type_of a ≡ Array ty) × Good k p bs (translated g i) (type_of i) × Below p (type_of i) (small_type p)
-  Target bs (TypedForm-F.Tuple ty ts) = EachGood k p bs (map maker_of (map (part g) ts)) (types_of ts)
+  Target bs (TypedForm-F.ReadField ty o name) = Good k p bs (translated g o) (type_of o)
+      × IsField (type_of o) name ty
+  Target bs (TypedForm-F.ReadElement ty a i) = Good k p bs (translated g a) (type_of a)
+      × (type_of a ≡ Array ty) × Good k p bs (translated g i) (type_of i)
+      × Below p (type_of i) (small_type p)
+  Target bs (TypedForm-F.Tuple ty ts) =
+      EachGood k p bs (map maker_of (map (part g) ts)) (types_of ts)
   Target bs (TypedForm-F.Bind ty name mutable written e) = ⊥
   Target bs (TypedForm-F.Binds ty xs e) = ⊥
   Target bs _ = Unit {0}
@@ -92,24 +99,31 @@ module _ (k : Knows) (g : Given) (p : Program) where
   abbrev pub AllPlain : List Binding → List TypedForm → Type 0
   AllPlain bs ts = AllByRecursion (Plain bs) ts
 
-  pub translated_is : (t : TypedForm) {x : TypedForm-F TypedForm} → out-TypedForm t ≡ x → translated g t ≡ made_at g (level x)
+  pub translated_is : (t : TypedForm) {x : TypedForm-F TypedForm} → out-TypedForm t ≡ x
+      → translated g t ≡ made_at g (level x)
   translated_is t is = ap (λ (q : Part). q.maker) (part_is t ∙ ap (λ y. part_at g (level y)) is)
 
-  pub role_is : (t : TypedForm) {x : TypedForm-F TypedForm} → out-TypedForm t ≡ x → (part g t).role ≡ role_at (level x)
+  pub role_is : (t : TypedForm) {x : TypedForm-F TypedForm} → out-TypedForm t ≡ x
+      → (part g t).role ≡ role_at (level x)
   role_is t is = ap (λ (q : Part). q.role) (part_is t ∙ ap (λ y. part_at g (level y)) is)
 
-  pub typed_is : (t : TypedForm) {x : TypedForm-F TypedForm} → out-TypedForm t ≡ x → type_of t ≡ type_at x
+  pub typed_is : (t : TypedForm) {x : TypedForm-F TypedForm} → out-TypedForm t ≡ x
+      → type_of t ≡ type_at x
   unfolding type_of
   typed_is t is = ap type_at is
 
-  pub plain_of : {bs : List Binding} (t : TypedForm) {x : TypedForm-F TypedForm} → out-TypedForm t ≡ x → Good k p bs (made_at g (level x)) (type_at x) → Target bs x → Plain bs t
+  pub plain_of : {bs : List Binding} (t : TypedForm) {x : TypedForm-F TypedForm}
+      → out-TypedForm t ≡ x → Good k p bs (made_at g (level x)) (type_at x) → Target bs x
+      → Plain bs t
   plain_of {bs} t {x = x} is h w = record {
-    maker = subst (λ m. Good k p bs m (type_of t)) (sym (translated_is t is)) (subst (Good k p bs (made_at g (level x))) (sym (typed_is t is)) h);
+    maker = subst (λ m. Good k p bs m (type_of t)) (sym (translated_is t is))
+        (subst (Good k p bs (made_at g (level x))) (sym (typed_is t is)) h);
     target = subst (Target bs) (sym is) w;
   }
 
   -- several
-  pub each_good : (bs : List Binding) (ts : List TypedForm) → AllPlain bs ts → EachGood k p bs (map maker_of (map (part g) ts)) (types_of ts)
+  pub each_good : (bs : List Binding) (ts : List TypedForm) → AllPlain bs ts
+      → EachGood k p bs (map maker_of (map (part g) ts)) (types_of ts)
   each_good bs [] h = tt
   each_good bs (t ∷ ts) h = (let i = h.0 in i.maker, each_good bs ts h.1)
 
@@ -120,10 +134,13 @@ module _ (k : Knows) (g : Given) (p : Program) where
   pub good_part : {bs : List Binding} (t : TypedForm) → Plain bs t → GoodPart bs (part g t)
   good_part {bs} t h = subst (Good k p bs (translated g t)) (sym (type_is t)) h.maker
 
-  pub good_parts : (bs : List Binding) (ts : List TypedForm) → AllPlain bs ts → AllByRecursion (GoodPart bs) (map (part g) ts)
+  pub good_parts : (bs : List Binding) (ts : List TypedForm) → AllPlain bs ts
+      → AllByRecursion (GoodPart bs) (map (part g) ts)
   good_parts bs [] h = tt
   good_parts bs (t ∷ ts) h = (good_part t h.0, good_parts bs ts h.1)
 
   pub types_are : (ts : List TypedForm) → map (λ (q : Part). q.ty) (map (part g) ts) ≡ types_of ts
   types_are [] = refl
-  types_are (t ∷ ts) = ap (λ ty. ty ∷ map (λ (q : Part). q.ty) (map (part g) ts)) (type_is t) ∙ ap (λ tys. type_of t ∷ tys) (types_are ts)
+  types_are (t ∷ ts) =
+      ap (λ ty. ty ∷ map (λ (q : Part). q.ty) (map (part g) ts)) (type_is t)
+      ∙ ap (λ tys. type_of t ∷ tys) (types_are ts)

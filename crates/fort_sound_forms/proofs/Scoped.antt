@@ -39,12 +39,14 @@ use Rattle.fort_sound_forms.proofs.Facts.{named_is, array_is, tuple_is}
 
 -- ---- types of several variables
 
-types_of_variables : (n : ℕ) (xs : List (NameId × Ty)) → map (λ (x : ℕ × Ty). x.1) (typed_variables n xs) ≡ map (λ (x : NameId × Ty). x.1) xs
+types_of_variables : (n : ℕ) (xs : List (NameId × Ty))
+    → map (λ (x : ℕ × Ty). x.1) (typed_variables n xs) ≡ map (λ (x : NameId × Ty). x.1) xs
 types_of_variables n [] = refl
 types_of_variables n (x ∷ xs) = ap (λ (ts : List Ty). x.1 ∷ ts) (types_of_variables (n + 1) xs)
 
 -- a function takes its one parameter, else the tuple of them
-pub domain_is : (n : ℕ) (xs : List (NameId × Ty)) → domain_of (typed_variables n xs) ≡ tuple_of (map (λ (x : NameId × Ty). x.1) xs)
+pub domain_is : (n : ℕ) (xs : List (NameId × Ty))
+    → domain_of (typed_variables n xs) ≡ tuple_of (map (λ (x : NameId × Ty). x.1) xs)
 domain_is n [] = refl
 domain_is n (x ∷ []) = refl
 domain_is n (x ∷ y ∷ xs) = ap Tuple (types_of_variables n (x ∷ y ∷ xs))
@@ -52,25 +54,35 @@ domain_is n (x ∷ y ∷ xs) = ap Tuple (types_of_variables n (x ∷ y ∷ xs))
 abbrev binding_type : Binding → Ty
 binding_type b = b.ty
 
-more_names : (place : Place) (name : NameId) (t : Ty) (o : Option (List Binding)) (new : List Binding)
-    → elim o [ Some bs ↦ Some (rule.binding place name t ∷ bs) | None ↦ None ] ≡ Some new → (bs : List Binding) × (o ≡ Some bs) × (rule.binding place name t ∷ bs ≡ new)
+more_names : (place : Place) (name : NameId) (t : Ty) (o : Option (List Binding))
+    (new : List Binding)
+    → elim o [ Some bs ↦ Some (rule.binding place name t ∷ bs) | None ↦ None ] ≡ Some new
+    → (bs : List Binding) × (o ≡ Some bs) × (rule.binding place name t ∷ bs ≡ new)
 more_names place name t None new e = absurd cc
 more_names place name t (Some bs) new e = (bs, refl, cc)
 
 -- names with the parts of a tuple: as many, with these types, none of which can be assigned to
-names_with : (names : List (Place × NameId)) (ts : List Ty) (new : List Binding) → rule.with_types names ts ≡ Some new
-    → (map (λ (x : NameId × Ty). x.1) (map rule.name_and_type new) ≡ ts) × (length new ≡ length names) × AllFixed new
-names_with [] [] new e = let z : [] ≡ new = cc in subst (λ (x : List Binding). (map (λ (x : NameId × Ty). x.1) (map rule.name_and_type x) ≡ []) × (length x ≡ 0) × AllFixed x) z (refl, refl, tt)
+names_with : (names : List (Place × NameId)) (ts : List Ty) (new : List Binding)
+    → rule.with_types names ts ≡ Some new
+    → (map (λ (x : NameId × Ty). x.1) (map rule.name_and_type new) ≡ ts)
+    × (length new ≡ length names) × AllFixed new
+names_with [] [] new e =
+    let z : [] ≡ new = cc
+    in subst (λ
+    (x : List Binding). (map (λ (x : NameId × Ty). x.1) (map rule.name_and_type x) ≡ [])
+    × (length x ≡ 0) × AllFixed x) z (refl, refl, tt)
 names_with [] (t ∷ ts) new e = absurd cc
 names_with ((place, name) ∷ names) [] new e = absurd cc
 names_with ((place, name) ∷ names) (t ∷ ts) new e =
     let m = more_names place name t (rule.with_types names ts) new e in
     let h = names_with names ts m.0 m.1 in
     let l = h.1 in
-    subst (λ (x : List Binding). (map (λ (x : NameId × Ty). x.1) (map rule.name_and_type x) ≡ t ∷ ts) × (length x ≡ length ((place, name) ∷ names)) × AllFixed x) m.2
+    subst (λ (x : List Binding). (map (λ (x : NameId × Ty). x.1) (map rule.name_and_type x)
+    ≡ t ∷ ts) × (length x ≡ length ((place, name) ∷ names)) × AllFixed x) m.2
     (ap (λ (us : List Ty). t ∷ us) h.0, omega arith, (refl, h.2))
 
-parts_at : (names : List (Place × NameId)) (want : Ty) (new : List Binding) (x : Ty-F Ty) → out-Ty want ≡ x → rule.named_parts_at names x ≡ Some new
+parts_at : (names : List (Place × NameId)) (want : Ty) (new : List Binding) (x : Ty-F Ty)
+    → out-Ty want ≡ x → rule.named_parts_at names x ≡ Some new
     → (ts : List Ty) × (want ≡ Tuple ts) × (rule.with_types names ts ≡ Some new)
 parts_at names want new (Ty-F.Tuple ts) e q = (ts, tuple_is want ts e, q)
 parts_at names want new Ty-F.Nothing e q = absurd cc
@@ -79,7 +91,8 @@ parts_at names want new (Ty-F.Named i) e q = absurd cc
 parts_at names want new (Ty-F.Arrow a b) e q = absurd cc
 parts_at names want new (Ty-F.Array a) e q = absurd cc
 
-two_or_more : (n : ℕ) (xs : List (NameId × Ty)) → 2 ≤ length xs → domain_of (typed_variables n xs) ≡ Tuple (map (λ (x : NameId × Ty). x.1) xs)
+two_or_more : (n : ℕ) (xs : List (NameId × Ty)) → 2 ≤ length xs
+    → domain_of (typed_variables n xs) ≡ Tuple (map (λ (x : NameId × Ty). x.1) xs)
 two_or_more n [] l = absurd (omega arith)
 two_or_more n (x ∷ []) l = absurd (omega arith)
 two_or_more n (x ∷ y ∷ xs) l = domain_is n (x ∷ y ∷ xs)
@@ -89,7 +102,8 @@ same_length [] = refl
 same_length (b ∷ new) = let h = same_length new in omega arith
 
 -- the names of a local tuple
-pub tuple_names : (names : List (Place × NameId)) (want : Ty) (new : List Binding) → 2 ≤ length names → rule.named_parts names want ≡ Some new
+pub tuple_names : (names : List (Place × NameId)) (want : Ty) (new : List Binding)
+    → 2 ≤ length names → rule.named_parts names want ≡ Some new
     → AllFixed new × ((n : ℕ) → domain_of (typed_variables n (map rule.name_and_type new)) ≡ want)
 tuple_names names want new l e =
     let q = parts_at names want new (out-Ty want) refl e in
@@ -102,26 +116,36 @@ pub parameters_fixed : (ps : List Parameter) → AllFixed (map rule.parameter_bi
 parameters_fixed [] = tt
 parameters_fixed (p ∷ ps) = (refl, parameters_fixed ps)
 
-pub parameters_are : (ps : List Parameter) → map rule.name_and_type (map rule.parameter_binding ps) ≡ map parameter ps
+pub parameters_are : (ps : List Parameter)
+    → map rule.name_and_type (map rule.parameter_binding ps) ≡ map parameter ps
 parameters_are [] = refl
 parameters_are (p ∷ ps) = ap (λ (xs : List (NameId × Ty)). parameter p ∷ xs) (parameters_are ps)
 
-pub parameter_types : (ps : List Parameter) → map (λ (x : NameId × Ty). x.1) (map parameter ps) ≡ map parameter_type ps
+pub parameter_types : (ps : List Parameter)
+    → map (λ (x : NameId × Ty). x.1) (map parameter ps) ≡ map parameter_type ps
 parameter_types [] = refl
 parameter_types (p ∷ ps) = ap (λ (ts : List Ty). p.ty ∷ ts) (parameter_types ps)
 
 module _ (k : Knows) (p : Program) where
   -- ---- locals
 
-  pub good_binding : {bs : List Binding} {T : Ty} (place : Place) (name : NameId) (mutable : Bool) (ty : Ty) (initial rest : Maker) → bound bs name ≡ None → Good k p bs initial ty
-      → Good k p (bs ++ record { name = name; place = place; ty = ty; mutable = mutable } ∷ []) rest T → Good k p bs (binding name mutable ty initial rest) T
+  pub good_binding : {bs : List Binding} {T : Ty} (place : Place) (name : NameId) (mutable : Bool)
+      (ty : Ty) (initial rest : Maker) → bound bs name ≡ None → Good k p bs initial ty
+      → Good k p (bs ++ record { name = name; place = place; ty = ty; mutable = mutable } ∷ []) rest
+      T → Good k p bs (binding name mutable ty initial rest) T
   good_binding place name false ty initial rest free h i =
-      good_naming k p (record { name = name; place = place; ty = ty; mutable = false }) initial (λ n. Let ((n, ty) ∷ [])) rest (λ G n t u f x y. has-Let p (opening p) ((n, ty) ∷ []) (refl, tt) f x y) free h i
+      good_naming k p (record { name = name; place = place; ty = ty; mutable = false }) initial
+      (λ n. Let ((n, ty) ∷ [])) rest
+      (λ G n t u f x y. has-Let p (opening p) ((n, ty) ∷ []) (refl, tt) f x y) free h i
   good_binding place name true ty initial rest free h i =
-      good_naming k p (record { name = name; place = place; ty = ty; mutable = true }) initial (λ n. Mutable n ty) rest (λ G n t u f x y. has-Mutable p (opening p) n ty f x y) free h i
+      good_naming k p (record { name = name; place = place; ty = ty; mutable = true }) initial
+      (λ n. Mutable n ty) rest (λ G n t u f x y. has-Mutable p (opening p) n ty f x y) free h i
 
-  pub good_bindings : {bs new all : List Binding} {T : Ty} (W : Ty) (initial rest : Maker) → rule.Binds k bs new all → AllFixed new → ((n : ℕ) → domain_of (typed_variables n (map rule.name_and_type new)) ≡ W)
-      → Good k p bs initial W → Good k p all rest T → Good k p bs (bindings (map rule.name_and_type new) initial rest) T
+  pub good_bindings : {bs new all : List Binding} {T : Ty} (W : Ty) (initial rest : Maker)
+      → rule.Binds k bs new all → AllFixed new
+      → ((n : ℕ) → domain_of (typed_variables n (map rule.name_and_type new)) ≡ W)
+      → Good k p bs initial W → Good k p all rest T
+      → Good k p bs (bindings (map rule.name_and_type new) initial rest) T
   good_bindings {new = new} W initial rest b f w h i s c G a =
       let xs = map rule.name_and_type new in
       let x = h s c G a in let m = initial s c in let n = m.counter.variable in let l = x.later in
@@ -131,14 +155,17 @@ module _ (k : Knows) (p : Program) where
       let D = binds (fixed_all v) G in
       let y = i z d D (names_next k n b f a l) in let e = y.later in
       record {
-        has = has-Let p (opening p) v (all_distinct xs n) (all_fresh k n xs a l) (subst (λ X. Has p (opening p) G m.term X) (sym (w n)) x.has) y.has;
+        has = has-Let p (opening p) v (all_distinct xs n) (all_fresh k n xs a l)
+            (subst (λ X. Has p (opening p) G m.term X) (sym (w n)) x.has) y.has;
         later = omega arith;
       }
 
   -- ---- functions
 
-  pub good_fn : {bs new all : List Binding} (R : Ty) (body : Maker) → Trans p → rule.Binds k bs new all → AllFixed new → Good k p all body R
-      → Good k p bs (fn (map rule.name_and_type new) R body) (Arrow (tuple_of (map (λ (x : NameId × Ty). x.1) (map rule.name_and_type new))) R)
+  pub good_fn : {bs new all : List Binding} (R : Ty) (body : Maker) → Trans p
+      → rule.Binds k bs new all → AllFixed new → Good k p all body R
+      → Good k p bs (fn (map rule.name_and_type new) R body)
+      (Arrow (tuple_of (map (λ (x : NameId × Ty). x.1) (map rule.name_and_type new))) R)
   good_fn {new = new} R body tr b f h s c G a =
       let xs = map rule.name_and_type new in
       let n = c.variable in
@@ -149,31 +176,49 @@ module _ (k : Knows) (p : Program) where
       let y = h z d D (names_next k n b f a (omega arith)) in let e = y.later in
       let m = body z d in
       let u = m.term in
-      let o : Closure = record { number = c.function; parameters = v; result = R; body = u; held = [] } in
+      let o : Closure =
+      record { number = c.function; parameters = v; result = R; body = u; held = [] } in
       let w = append-nil (fixed_all v) in
       record {
-        has = function_has p tr (itself p) (opening p) o [] vs0 (subst Distinct (sym w) (all_distinct xs n)) (subst (λ q. Fresh q G) (sym w) (all_fresh k n xs a (omega arith)))
-            (subst (λ q. Has p (opening p) (binds q G) u R) (sym w) y.has) (is_same (ap (λ X. Arrow X R) (domain_is n xs)));
+        has = function_has p tr (itself p) (opening p) o [] vs0
+            (subst Distinct (sym w) (all_distinct xs n))
+            (subst (λ q. Fresh q G) (sym w) (all_fresh k n xs a (omega arith)))
+            (subst (λ q. Has p (opening p) (binds q G) u R) (sym w) y.has)
+            (is_same (ap (λ X. Arrow X R) (domain_is n xs)));
         later = omega arith;
       }
 
   -- ---- generators
 
-  pub good_for : {bs : List Binding} {A : Ty} (place : Place) (name : NameId) (ty : Ty) (sequential : Bool) (source rest : Maker) → bound bs name ≡ None → ItemsOf p A ty → Good k p bs source A
-      → Good k p (bs ++ rule.binding place name ty ∷ []) rest unit_type → Good k p bs (naming name source (λ n. For (order_of sequential) span.Whole n) rest) unit_type
+  pub good_for : {bs : List Binding} {A : Ty} (place : Place) (name : NameId) (ty : Ty)
+      (sequential : Bool) (source rest : Maker) → bound bs name ≡ None → ItemsOf p A ty
+      → Good k p bs source A
+      → Good k p (bs ++ rule.binding place name ty ∷ []) rest unit_type
+      → Good k p bs (naming name source (λ n. For (order_of sequential) span.Whole n) rest)
+      unit_type
   good_for place name ty sequential source rest free w h i =
-      good_naming k p (rule.binding place name ty) source (λ n. For (order_of sequential) span.Whole n) rest (λ G n t u f x y. has-For p (opening p) (order_of sequential) n w f x y) free h i
+      good_naming k p (rule.binding place name ty) source
+      (λ n. For (order_of sequential) span.Whole n) rest
+      (λ G n t u f x y. has-For p (opening p) (order_of sequential) n w f x y) free h i
 
-  pub good_reduction : {bs : List Binding} {A T C : Ty} (place : Place) (name : NameId) (ty : Ty) (sequential : Bool) (set : SetId) (empty : Term) (source rest : Maker) → bound bs name ≡ None → ItemsOf p A ty
-      → Called p set (T ∷ T ∷ []) C → Below p C T → ((G : Env) → Has p (opening p) G empty T) → Good k p bs source A
-      → Good k p (bs ++ rule.binding place name ty ∷ []) rest T → Good k p bs (reduction set empty name sequential source rest) T
+  pub good_reduction : {bs : List Binding} {A T C : Ty} (place : Place) (name : NameId) (ty : Ty)
+      (sequential : Bool) (set : SetId) (empty : Term) (source rest : Maker) → bound bs name ≡ None
+      → ItemsOf p A ty
+      → Called p set (T ∷ T ∷ []) C → Below p C T → ((G : Env) → Has p (opening p) G empty T)
+      → Good k p bs source A
+      → Good k p (bs ++ rule.binding place name ty ∷ []) rest T
+      → Good k p bs (reduction set empty name sequential source rest) T
   good_reduction place name ty sequential set empty source rest free w c l e h i =
-      good_naming k p (rule.binding place name ty) source (λ n. Reduce (order_of sequential) span.Whole set empty n) rest (λ G n t u f x y. has-Reduce p (opening p) (order_of sequential) set n w f c l (e G) x y) free h i
+      good_naming k p (rule.binding place name ty) source
+      (λ n. Reduce (order_of sequential) span.Whole set empty n) rest
+      (λ G n t u f x y. has-Reduce p (opening p) (order_of sequential) set n w f c l (e G) x y)
+      free h i
 
 -- ---- what generators give
 
 module _ (k : Knows) (g : Given) (p : Program) (U : Suits k g p) where
-  is_range : (i : TypeId) (ty : Ty) (c : Bool) → nat_le i.0 RANGE.0 && nat_le RANGE.0 i.0 ≡ c → cond c (Some zz32) None ≡ Some ty → (i ≡ RANGE) × (ty ≡ zz32)
+  is_range : (i : TypeId) (ty : Ty) (c : Bool) → nat_le i.0 RANGE.0 && nat_le RANGE.0 i.0 ≡ c
+      → cond c (Some zz32) None ≡ Some ty → (i ≡ RANGE) × (ty ≡ zz32)
   is_range i ty false q e = absurd cc
   is_range i ty true q e = go (nat_le i.0 RANGE.0) (nat_le RANGE.0 i.0) refl refl q
     where
@@ -183,8 +228,10 @@ module _ (k : Knows) (g : Given) (p : Program) (U : Suits k g p) where
       same : (a b : TypeId) → a.0 ≡ b.0 → a ≡ b
       same a b r = ap (λ (n : ℕ). let z : TypeId = record { 0 = n } in z) r
 
-      go : (x y : Bool) → nat_le i.0 RANGE.0 ≡ x → nat_le RANGE.0 i.0 ≡ y → x && y ≡ true → (i ≡ RANGE) × (ty ≡ zz32)
-      go true true a b r = (same i RANGE (both i.0 RANGE.0 (leb-true i.0 RANGE.0 a) (leb-true RANGE.0 i.0 b)), cc)
+      go : (x y : Bool) → nat_le i.0 RANGE.0 ≡ x → nat_le RANGE.0 i.0 ≡ y → x && y ≡ true
+          → (i ≡ RANGE) × (ty ≡ zz32)
+      go true true a b r =
+          (same i RANGE (both i.0 RANGE.0 (leb-true i.0 RANGE.0 a) (leb-true RANGE.0 i.0 b)), cc)
       go true false a b r = absurd cc
       go false y a b r = absurd cc
 

@@ -25,11 +25,14 @@ module _ (k : Knows) (bs : List Binding) (name : NameId) where
   at_single (Some o) e = e
   at_single None e = by_function (is_function k.facts name)
 
-  found : (fs : List Field) (v : Field) → field_in fs name ≡ Some v → slice_get fs (number_in fs name) ≡ Some v
+  found : (fs : List Field) (v : Field) → field_in fs name ≡ Some v
+      → slice_get fs (number_in fs name) ≡ Some v
   found [] v e = absurd cc
   found (f ∷ fs) v e = go (nat_eq f.name.0 name.0) (λ q. found fs v q) e
     where
-      go : (c : Bool) → (field_in fs name ≡ Some v → slice_get fs (number_in fs name) ≡ Some v) → cond c (Some f) (field_in fs name) ≡ Some v → slice_get (f ∷ fs) (cond c 0 (suc (number_in fs name))) ≡ Some v
+      go : (c : Bool) → (field_in fs name ≡ Some v → slice_get fs (number_in fs name) ≡ Some v)
+          → cond c (Some f) (field_in fs name) ≡ Some v
+          → slice_get (f ∷ fs) (cond c 0 (suc (number_in fs name))) ≡ Some v
       go true r q = q
       go false r q = r q
 
@@ -37,7 +40,8 @@ module _ (k : Knows) (bs : List Binding) (name : NameId) where
   at_top (Some v) e = found k.facts.members.variables v e
   at_top None e = at_single (single k.facts name) refl
 
-  at_field : (t : TypeId) (o : Option Field) → k.facts.owner ≡ Some t → field_of k.facts t name ≡ o → Says (standing_field k.facts name t o)
+  at_field : (t : TypeId) (o : Option Field) → k.facts.owner ≡ Some t → field_of k.facts t name ≡ o
+      → Says (standing_field k.facts name t o)
   at_field t (Some f) q e = (q, e)
   at_field t None q e = at_top (variable k.facts name) refl
 

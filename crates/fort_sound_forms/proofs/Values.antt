@@ -32,48 +32,116 @@ large_within n l = lt-ltb n 9223372036854775808 (omega arith)
 
 module _ (k : Knows) (g : Given) (p : Program) (U : Suits k g p) where
   pub has_unit : (G : Env) → Has p (opening p) G unit_term unit_type
-  has_unit G = has_value p (opening p) (itself p) (has_v_at p (opening p) (outs-Tuple []) (record { own = unit_type; qs = []; ws = []; fits = refl; parts = parts0; values = vs0; below = is_same refl }))
+  has_unit G =
+      has_value p (opening p) (itself p)
+      (has_v_at p (opening p) (outs-Tuple [])
+      (record {
+        own = unit_type;
+        qs = [];
+        ws = [];
+        fits = refl;
+        parts = parts0;
+        values = vs0;
+        below = is_same refl;
+      }))
 
   pub has_small : (n : ℕ) → n ≤ 2147483647 → HasV p (opening p) (Small (pos n)) zz32
-  has_small n l = has_v_at p (opening p) (outs-Small (pos n)) (record { own = zz32; qs = []; ws = []; fits = (sym U.small, small_within n l); parts = parts0; values = vs0; below = is_same refl })
+  has_small n l =
+      has_v_at p (opening p) (outs-Small (pos n))
+      (record {
+        own = zz32;
+        qs = [];
+        ws = [];
+        fits = (sym U.small, small_within n l);
+        parts = parts0;
+        values = vs0;
+        below = is_same refl;
+      })
 
   pub has_large : (n : ℕ) → n ≤ 9223372036854775807 → HasV p (opening p) (Large (pos n)) zz64
-  has_large n l = has_v_at p (opening p) (outs-Large (pos n)) (record { own = zz64; qs = []; ws = []; fits = (sym U.large, large_within n l); parts = parts0; values = vs0; below = is_same refl })
+  has_large n l =
+      has_v_at p (opening p) (outs-Large (pos n))
+      (record {
+        own = zz64;
+        qs = [];
+        ws = [];
+        fits = (sym U.large, large_within n l);
+        parts = parts0;
+        values = vs0;
+        below = is_same refl;
+      })
 
   pub has_truth : (b : Bool) → HasV p (opening p) (Truth b) boolean
-  has_truth b = has_v_at p (opening p) (outs-Truth b) (record { own = boolean; qs = []; ws = []; fits = sym U.truth; parts = parts0; values = vs0; below = is_same refl })
+  has_truth b =
+      has_v_at p (opening p) (outs-Truth b)
+      (record {
+        own = boolean;
+        qs = [];
+        ws = [];
+        fits = sym U.truth;
+        parts = parts0;
+        values = vs0;
+        below = is_same refl;
+      })
 
   pub has_text : (s : List ℕ) → HasV p (opening p) (Text s) string
-  has_text s = has_v_at p (opening p) (outs-Text s) (record { own = string; qs = []; ws = []; fits = sym U.text; parts = parts0; values = vs0; below = is_same refl })
+  has_text s =
+      has_v_at p (opening p) (outs-Text s)
+      (record {
+        own = string;
+        qs = [];
+        ws = [];
+        fits = sym U.text;
+        parts = parts0;
+        values = vs0;
+        below = is_same refl;
+      })
 
-  pub has_number : (n : ℕ) → n ≤ 9223372036854775807 → HasV p (opening p) (number n (pos n)) (number_type n)
+  pub has_number : (n : ℕ) → n ≤ 9223372036854775807
+      → HasV p (opening p) (number n (pos n)) (number_type n)
   has_number n l = go (nat_le n 2147483647) refl
     where
-      go : (c : Bool) → nat_le n 2147483647 ≡ c → HasV p (opening p) (cond c (Small (pos n)) (Large (pos n))) (cond c zz32 zz64)
+      go : (c : Bool) → nat_le n 2147483647 ≡ c
+          → HasV p (opening p) (cond c (Small (pos n)) (Large (pos n))) (cond c zz32 zz64)
       go true e = has_small n (leb-true n 2147483647 e)
       go false e = has_large n l
 
-  pub as_term : (G : Env) {v : Value} {T : Ty} → HasV p (opening p) v T → Has p (opening p) G (term.Value v) T
+  pub as_term : (G : Env) {v : Value} {T : Ty} → HasV p (opening p) v T
+      → Has p (opening p) G (term.Value v) T
   as_term G h = has_value p (opening p) (itself p) h
 
   -- the throws have each type
   pub has_no_match : (G : Env) (T : Ty) → Has p (opening p) G (no_match g) T
-  has_no_match G T = has_thrown p (opening p) (itself p) (subst (λ X. HasV p (opening p) (single g MATCH_FAILURE) X) (sym U.thrown) U.no_match)
+  has_no_match G T =
+      has_thrown p (opening p) (itself p)
+      (subst (λ X. HasV p (opening p) (single g MATCH_FAILURE) X) (sym U.thrown) U.no_match)
 
   pub has_no_item : (G : Env) (T : Ty) → Has p (opening p) G (no_item g) T
-  has_no_item G T = has_thrown p (opening p) (itself p) (subst (λ X. HasV p (opening p) (single g EMPTY_REDUCTION) X) (sym U.thrown) U.no_item)
+  has_no_item G T =
+      has_thrown p (opening p) (itself p)
+      (subst (λ X. HasV p (opening p) (single g EMPTY_REDUCTION) X) (sym U.thrown) U.no_item)
 
-  number_at : (G : Env) (ty : Ty) (n : ℕ) → n ≤ 2147483647 → (ty ≡ zz32) ⊎ (ty ≡ zz64) → Has p (opening p) G (number_as ty n) ty
+  number_at : (G : Env) (ty : Ty) (n : ℕ) → n ≤ 2147483647 → (ty ≡ zz32) ⊎ (ty ≡ zz64)
+      → Has p (opening p) G (number_as ty n) ty
   number_at G ty n l (inl e) = subst (λ X. Has p (opening p) G (number_as X n) X) (sym e)
-      (subst (λ x. Has p (opening p) G (term.Value (cond (is_large_at x) (Large (pos n)) (Small (pos n)))) zz32) (sym (outs-Named _)) (as_term G (has_small n l)))
+      (subst (λ x. Has p (opening p) G
+      (term.Value (cond (is_large_at x) (Large (pos n)) (Small (pos n)))) zz32)
+      (sym (outs-Named _)) (as_term G (has_small n l)))
   number_at G ty n l (inr e) = subst (λ X. Has p (opening p) G (number_as X n) X) (sym e)
-      (subst (λ x. Has p (opening p) G (term.Value (cond (is_large_at x) (Large (pos n)) (Small (pos n)))) zz64) (sym (outs-Named _)) (as_term G (has_large n (omega arith))))
+      (subst (λ x. Has p (opening p) G
+      (term.Value (cond (is_large_at x) (Large (pos n)) (Small (pos n)))) zz64)
+      (sym (outs-Named _)) (as_term G (has_large n (omega arith))))
 
   -- what a reduction gives over no item
-  pub has_neutral : (G : Env) (r : Reduction) (ty : Ty) → rule.Suits k (rule.reduction_want r) ty → Has p (opening p) G (neutral g r ty) ty
+  pub has_neutral : (G : Env) (r : Reduction) (ty : Ty) → rule.Suits k (rule.reduction_want r) ty
+      → Has p (opening p) G (neutral g r ty) ty
   has_neutral G a_reduction.Sum ty w = number_at G ty 0 (omega arith) w
   has_neutral G a_reduction.Product ty w = number_at G ty 1 (omega arith) w
   has_neutral G a_reduction.Maximum ty w = has_no_item G ty
   has_neutral G a_reduction.Minimum ty w = has_no_item G ty
-  has_neutral G a_reduction.Conjunction ty w = subst (λ X. Has p (opening p) G (term.Value (Truth true)) X) (sym w) (as_term G (has_truth true))
-  has_neutral G a_reduction.Disjunction ty w = subst (λ X. Has p (opening p) G (term.Value (Truth false)) X) (sym w) (as_term G (has_truth false))
+  has_neutral G a_reduction.Conjunction ty w =
+      subst (λ X. Has p (opening p) G (term.Value (Truth true)) X) (sym w)
+      (as_term G (has_truth true))
+  has_neutral G a_reduction.Disjunction ty w =
+      subst (λ X. Has p (opening p) G (term.Value (Truth false)) X) (sym w)
+      (as_term G (has_truth false))

@@ -1,4 +1,5 @@
--- The chapter "Typing", forms: what the grammar gives of a form beside its shape. A file's numbers are ZZ64 at most, a chain has a relation or more, and a local tuple two names or more.
+-- The chapter "Typing", forms: what the grammar gives of a form beside its shape. A file's numbers
+-- are ZZ64 at most, a chain has a relation or more, and a local tuple two names or more.
 use Rattle.std.specs.Prelude.{ℕ, ◌≤◌, List, [], ◌∷◌, ◌++◌, length, Option, Some, None}
 use Rattle.std.specs.List.{AllByRecursion}
 use Rattle.fort_form.specs.declared.form.Form.{Form, fold-Form}
@@ -8,7 +9,8 @@ use Rattle.fort_form.specs.declared.form.Branch.{Branch, fold-Branch}
 use Rattle.fort_form.specs.declared.form.Generator.{Generator, fold-Generator}
 use Rattle.fort_form.specs.declared.form.TypeBranch.{TypeBranch, fold-TypeBranch}
 
--- What is counted in a form: a number that is written in it, how many relations a chain has, how many names a local tuple binds.
+-- What is counted in a form: a number that is written in it, how many relations a chain has, how
+-- many names a local tuple binds.
 pub data Figure : Type 0 where
   a_number : ℕ → Figure
   relations : ℕ → Figure
@@ -30,7 +32,8 @@ abbrev pub if_there : Option (List Figure) → List Figure
 if_there None = []
 if_there (Some ns) = ns
 
-abbrev pub figures_form : Form-F (List Figure) (List Figure) (List Figure) (List Figure) (List Figure) → List Figure
+abbrev pub figures_form : Form-F (List Figure) (List Figure) (List Figure) (List Figure)
+    (List Figure) → List Figure
 figures_form (Form-F.Number p n) = a_number n ∷ []
 figures_form (Form-F.Parens p e) = e
 figures_form (Form-F.Tuple p es) = together es
@@ -58,36 +61,50 @@ figures_form (Form-F.Reduce p r g e) = g ++ e
 figures_form (Form-F.Assign p t sign e) = t ++ e
 figures_form _ = []
 
-abbrev pub figures_part : Item-F (List Figure) (List Figure) (List Figure) (List Figure) (List Figure) → List Figure
+abbrev pub figures_part : Item-F (List Figure) (List Figure) (List Figure) (List Figure)
+    (List Figure) → List Figure
 figures_part (Item-F.Local p name mutable ty e) = e
 figures_part (Item-F.Locals p xs ty e) = names (length xs) ∷ e
 figures_part (Item-F.Expression e) = e
 
-abbrev pub figures_arm : Branch-F (List Figure) (List Figure) (List Figure) (List Figure) (List Figure) → List Figure
+abbrev pub figures_arm : Branch-F (List Figure) (List Figure) (List Figure) (List Figure)
+    (List Figure) → List Figure
 figures_arm b = b.test ++ b.value
 
-abbrev pub figures_source : Generator-F (List Figure) (List Figure) (List Figure) (List Figure) (List Figure) → List Figure
+abbrev pub figures_source : Generator-F (List Figure) (List Figure) (List Figure) (List Figure)
+    (List Figure) → List Figure
 figures_source g = g.source
 
-abbrev pub figures_case : TypeBranch-F (List Figure) (List Figure) (List Figure) (List Figure) (List Figure) → List Figure
+abbrev pub figures_case : TypeBranch-F (List Figure) (List Figure) (List Figure) (List Figure)
+    (List Figure) → List Figure
 figures_case b = b.value
 
 -- The figures of a form.
 unfoldable pub figures : Form → List Figure
-figures = fold-Form (List Figure) (List Figure) (List Figure) (List Figure) (List Figure) figures_form figures_part figures_arm figures_source figures_case
+figures =
+    fold-Form (List Figure) (List Figure) (List Figure) (List Figure) (List Figure) figures_form
+    figures_part figures_arm figures_source figures_case
 
 -- in an item, a clause, a generator
 unfoldable pub figures_item : Item → List Figure
-figures_item = fold-Item (List Figure) (List Figure) (List Figure) (List Figure) (List Figure) figures_form figures_part figures_arm figures_source figures_case
+figures_item =
+    fold-Item (List Figure) (List Figure) (List Figure) (List Figure) (List Figure) figures_form
+    figures_part figures_arm figures_source figures_case
 
 unfoldable pub figures_branch : Branch → List Figure
-figures_branch = fold-Branch (List Figure) (List Figure) (List Figure) (List Figure) (List Figure) figures_form figures_part figures_arm figures_source figures_case
+figures_branch =
+    fold-Branch (List Figure) (List Figure) (List Figure) (List Figure) (List Figure) figures_form
+    figures_part figures_arm figures_source figures_case
 
 unfoldable pub figures_generator : Generator → List Figure
-figures_generator = fold-Generator (List Figure) (List Figure) (List Figure) (List Figure) (List Figure) figures_form figures_part figures_arm figures_source figures_case
+figures_generator =
+    fold-Generator (List Figure) (List Figure) (List Figure) (List Figure) (List Figure)
+    figures_form figures_part figures_arm figures_source figures_case
 
 unfoldable pub figures_clause : TypeBranch → List Figure
-figures_clause = fold-TypeBranch (List Figure) (List Figure) (List Figure) (List Figure) (List Figure) figures_form figures_part figures_arm figures_source figures_case
+figures_clause =
+    fold-TypeBranch (List Figure) (List Figure) (List Figure) (List Figure) (List Figure)
+    figures_form figures_part figures_arm figures_source figures_case
 
 -- The figures of a form are as the grammar has them.
 abbrev pub HasFigures : Form → Type 0

@@ -1,4 +1,5 @@
--- The law: a form that has a type by the rules becomes a term that has this type as a term of the program.
+-- The law: a form that has a type by the rules becomes a term that has this type as a term of the
+-- program.
 use Rattle.std.specs.Prelude.{◌≡◌, ◌<◌, ℕ, Bool, true, false, List, Some}
 use Rattle.fort_base.specs.declared.ids.NameId.{NameId}
 use Rattle.fort_base.specs.declared.ids.TypeId.{TypeId}
@@ -30,14 +31,21 @@ abbrev pub sort : Bool → Ty → Sort
 sort true ty = cell ty
 sort false ty = fixed ty
 
--- The types of variables go with the bindings, by the numbers that the names have: each name's variable has its binding's type, the receiver has the enclosing type, and the next numbers from one on are free.
+-- The types of variables go with the bindings, by the numbers that the names have: each name's
+-- variable has its binding's type, the receiver has the enclosing type, and the next numbers from
+-- one on are free.
 pub record Agrees (k : Knows) (bs : List Binding) (s : Scope) (next : ℕ) (G : Env) : Type 0 where
-  pub names : (name : NameId) (b : Binding) → bound bs name ≡ Some b → G (number_of s.names name) ≡ Some (sort b.mutable b.ty)
+  pub names : (name : NameId) (b : Binding) → bound bs name ≡ Some b
+      → G (number_of s.names name) ≡ Some (sort b.mutable b.ty)
   pub receiver : (o : TypeId) → k.facts.owner ≡ Some o → G s.receiver ≡ Some (fixed (Named o))
   pub low : (z : ℕ) (B : Sort) → G z ≡ Some B → z < next
 
--- Of an accepted component and a program that suits it: where a form becomes a typed form by the rules, the term of the typed form has its type, over the types of the opening store, wherever the types of variables go with the bindings.
+-- Of an accepted component and a program that suits it: where a form becomes a typed form by the
+-- rules, the term of the typed form has its type, over the types of the opening store, wherever the
+-- types of variables go with the bindings.
 abbrev pub FormsHaveTypes : Type 0
-FormsHaveTypes = (k : Knows) → IsAccepted k → (g : Given) (p : Program) → Suits k g p → (bs : List Binding) → AreBound k bs
+FormsHaveTypes = (k : Knows) → IsAccepted k → (g : Given) (p : Program) → Suits k g p
+    → (bs : List Binding) → AreBound k bs
     → (e : Form) → IsWritten k e → HasFigures e → (t : TypedForm) → Has k (Calls k) bs e t
-    → (s : Scope) (c : Counter) (G : Env) → Agrees k bs s c.variable G → typed.Has p (opening p) G (let m = translated g t s c in m.term) (type_of t)
+    → (s : Scope) (c : Counter) (G : Env) → Agrees k bs s c.variable G
+    → typed.Has p (opening p) G (let m = translated g t s c in m.term) (type_of t)

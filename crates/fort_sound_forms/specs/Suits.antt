@@ -30,7 +30,8 @@ use Rattle.fort_typing_laws.specs.Deciding.{IsType}
 use Rattle.fort_translation.specs.Parts.{Given}
 use Rattle.fort_translation.specs.Values as translation
 
--- A declaration of a component's set stands in the program's set of the same number, with its parameters and its result.
+-- A declaration of a component's set stands in the program's set of the same number, with its
+-- parameters and its result.
 pub record Declares (p : Program) (set : SetId) (d : Member) : Type 0 where
   pub members : CoreSet
   pub number : DeclId
@@ -43,7 +44,8 @@ pub record Declares (p : Program) (set : SetId) (d : Member) : Type 0 where
 
 -- A program suits what is known of a component, and what the translation of its forms is given.
 pub record Suits (k : Knows) (g : Given) (p : Program) : Type 0 where
-  -- the rows say what is below what, of a type of the component and any other one; and they go through a third type
+  -- the rows say what is below what, of a type of the component and any other one; and they go
+  -- through a third type
   pub told : (a b : Ty) → IsType k a → IsBelow k a b → IsTrue (below p a b)
   pub through : RowsThrough p.types.below
   -- the built-in types have their numbers
@@ -54,17 +56,24 @@ pub record Suits (k : Knows) (g : Given) (p : Program) : Type 0 where
   pub range : range_type p ≡ Named RANGE
   pub thrown : thrown_type p ≡ exception
   -- each declaration of a set stands in the program's set of that number
-  pub declared : (set : SetId) (s : MemberSet) (i : ℕ) (d : Member) → set_at k set ≡ Some s → StandsAt s i d → Declares p set d
+  pub declared : (set : SetId) (s : MemberSet) (i : ℕ) (d : Member) → set_at k set ≡ Some s
+      → StandsAt s i d → Declares p set d
   -- `widen` takes a ZZ32 and gives a ZZ64
   pub widens : Called p g.widen (zz32 ∷ []) zz64
-  -- the operator of a reduction joins two of each type that the reduction may have to one of it; `AND` joins the comparisons of chains too
-  pub joins : (r : Reduction) (ty : Ty) → rule.Suits k (rule.reduction_want r) ty → Called p (operator_set k.facts (rule.reduction_operator r) 2) (ty ∷ ty ∷ []) ty
+  -- the operator of a reduction joins two of each type that the reduction may have to one of it;
+  -- `AND` joins the comparisons of chains too
+  pub joins : (r : Reduction) (ty : Ty) → rule.Suits k (rule.reduction_want r) ty
+      → Called p (operator_set k.facts (rule.reduction_operator r) 2) (ty ∷ ty ∷ []) ty
   -- the n-th variable at the top has the n-th location, with its type
-  pub tops : (n : ℕ) (v : Field) → slice_get k.facts.members.variables n ≡ Some v → opening p n ≡ Some v.ty
+  pub tops : (n : ℕ) (v : Field) → slice_get k.facts.members.variables n ≡ Some v
+      → opening p n ≡ Some v.ty
   -- a single object is a value of its type, and so are the two built-in exceptions that forms name
-  pub singles : (name : NameId) (o : TypeId) → single k.facts name ≡ Some o → HasV p (opening p) (translation.single g o) (Named o)
+  pub singles : (name : NameId) (o : TypeId) → single k.facts name ≡ Some o
+      → HasV p (opening p) (translation.single g o) (Named o)
   pub no_match : HasV p (opening p) (translation.single g MATCH_FAILURE) exception
   pub no_item : HasV p (opening p) (translation.single g EMPTY_REDUCTION) exception
   -- a type has its fields; one that can be assigned to belongs to a type that objects are made of
-  pub fields : (o : TypeId) (name : NameId) (f : Field) → field_of k.facts o name ≡ Some f → FieldOf p o name f.ty
-  pub mutable : (o : TypeId) (name : NameId) (f : Field) (s : CoreShape) → field_of k.facts o name ≡ Some f → f.mutable ≡ true → ShapeOf p o s → Makes s.kind
+  pub fields : (o : TypeId) (name : NameId) (f : Field) → field_of k.facts o name ≡ Some f
+      → FieldOf p o name f.ty
+  pub mutable : (o : TypeId) (name : NameId) (f : Field) (s : CoreShape)
+      → field_of k.facts o name ≡ Some f → f.mutable ≡ true → ShapeOf p o s → Makes s.kind

@@ -1,4 +1,5 @@
--- Where reading stops at a token, it stops there over each table of names that goes on from the file's own.
+-- Where reading stops at a token, it stops there over each table of names that goes on from the
+-- file's own.
 use Rattle.std.proofs.Common.{◌≡◌, ℕ, suc, ◌<◌, true, nat_lt, List, [], ◌∷◌, ◌++◌, length, refl, sym, subst, arith}
 use Rattle.std.proofs.lemmas.Bool.{ltb-true}
 use Rattle.std.proofs.lemmas.List.{get_or_append_left, append_cancel_right}
@@ -21,18 +22,30 @@ is_in names texts (kind.Name id) e = below id.0 names e
 is_in names texts _ e = tt
 
 -- the numbers of names, token by token
-pub all_in : (names : Spellings) (texts : List (List ℕ)) (ts : Row) → NumbersAreIn names texts ts → AllIn (length names) ts
+pub all_in : (names : Spellings) (texts : List (List ℕ)) (ts : Row) → NumbersAreIn names texts ts
+    → AllIn (length names) ts
 all_in names texts [] h = tt
-all_in names texts (t ∷ ts) h = (is_in (length names) (length texts) t.kind (h 0 t (omega arith)), all_in names texts ts (λ i d l. h (suc i) d (omega arith)))
+all_in names texts (t ∷ ts) h = (
+  is_in (length names) (length texts) t.kind (h 0 t (omega arith)),
+  all_in names texts ts (λ i d l. h (suc i) d (omega arith)),
+)
 
--- Where reading stops at a token, it stops there over each table that goes on, with whatever texts and whatever follows.
-pub stops_over : (names more : Spellings) (n : ℕ) (texts other_texts : List (List ℕ)) (front others : Row) (t : Token) → AllIn (length names) (front ++ t ∷ [])
+-- Where reading stops at a token, it stops there over each table that goes on, with whatever texts
+-- and whatever follows.
+pub stops_over : (names more : Spellings) (n : ℕ) (texts other_texts : List (List ℕ))
+    (front others : Row) (t : Token) → AllIn (length names) (front ++ t ∷ [])
     → ((rest : Row) → (whole names n texts).run (front ++ t ∷ rest) ≡ Failed Syntax (t ∷ rest))
     → (whole (names ++ more) n other_texts).run (front ++ t ∷ others) ≡ Failed Syntax (t ∷ others)
-stops_over names more n texts other_texts front others t all stops = seen (whole_fails names (names ++ more) (λ id l. sym (get_or_append_left names more [] id l)) n texts other_texts (front ++ t ∷ []) (t ∷ []) Syntax all (stops []))
+stops_over names more n texts other_texts front others t all stops =
+    seen (whole_fails names (names ++ more) (λ id l. sym (get_or_append_left names more [] id l)) n
+    texts other_texts (front ++ t ∷ []) (t ∷ []) Syntax all (stops []))
   where
-    seen : (whole (names ++ more) n other_texts).run (front ++ t ∷ []) ≡ Failed Syntax (t ∷ []) → (whole (names ++ more) n other_texts).run (front ++ t ∷ others) ≡ Failed Syntax (t ∷ others)
+    seen : (whole (names ++ more) n other_texts).run (front ++ t ∷ []) ≡ Failed Syntax (t ∷ [])
+        → (whole (names ++ more) n other_texts).run (front ++ t ∷ others)
+        ≡ Failed Syntax (t ∷ others)
     seen h =
-        let s = subst (λ o. Locally (whole (names ++ more) n other_texts).run (front ++ t ∷ []) o) h ((whole (names ++ more) n other_texts).local (front ++ t ∷ [])) in
+        let s = subst (λ o. Locally (whole (names ++ more) n other_texts).run (front ++ t ∷ []) o) h
+        ((whole (names ++ more) n other_texts).local (front ++ t ∷ [])) in
         let one : front ≡ s.front = append_cancel_right front s.front (t ∷ []) s.whole in
-        subst (λ (f : Row). (whole (names ++ more) n other_texts).run (f ++ t ∷ others) ≡ Failed Syntax (t ∷ others)) (sym one) (s.same t [] others refl)
+        subst (λ (f : Row). (whole (names ++ more) n other_texts).run (f ++ t ∷ others)
+        ≡ Failed Syntax (t ∷ others)) (sym one) (s.same t [] others refl)

@@ -1,5 +1,5 @@
--- The chapter "Grammar": what reading a token list answers: its one component, or the first broken rule of 202, 201 and 203 with
--- its place. The code reads the tokens once, from left to right.
+-- The chapter "Grammar": what reading a token list answers: its one component, or the first broken
+-- rule of 202, 201 and 203 with its place. The code reads the tokens once, from left to right.
 use Rattle.std.specs.Prelude.{◌≡◌, ◌⊎◌, ℕ, List, [], ◌∷◌, ◌++◌, Option, Some, None, Result, Ok, Err}
 use Rattle.fort_base.specs.declared.rules.TheConstants.{SYNTAX, TOO_DEEP, TOO_MANY}
 use Rattle.fort_base.specs.declared.refusal.Place.{Place}
@@ -18,18 +18,21 @@ use Rattle.fort_tree.specs.Limits.{BreaksLimit, KeepsLimits}
 abbrev pub HasNone : Tokens → Type 0
 HasNone tokens = (c : Component) → HasTree tokens c → ⊥
 
--- No component begins with these tokens: over no table of names that goes on from the file's own, with whatever texts and whatever follows.
+-- No component begins with these tokens: over no table of names that goes on from the file's own,
+-- with whatever texts and whatever follows.
 abbrev pub BeginsNone : Tokens → List Token → Type 0
 BeginsNone tokens front = (more : Spellings) (texts : List (List ℕ)) (others : List Token)
     → HasNone (record { list = front ++ others; names = tokens.names ++ more; texts = texts })
 
--- A token stands at that place up to which, itself included, no component begins, where the numbers up to it are in the file's tables.
+-- A token stands at that place up to which, itself included, no component begins, where the numbers
+-- up to it are in the file's tables.
 pub record StopsAt (tokens : Tokens) (at : Place) : Type 0 where
   pub front : List Token
   pub token : Token
   pub rest : List Token
   pub whole : tokens.list ≡ front ++ token ∷ rest
-  pub none : NumbersAreIn tokens.names tokens.texts (front ++ token ∷ []) → BeginsNone tokens (front ++ token ∷ [])
+  pub none : NumbersAreIn tokens.names tokens.texts (front ++ token ∷ [])
+      → BeginsNone tokens (front ++ token ∷ [])
   pub place : token.place ≡ at
 
 -- The last token stands at that place.
@@ -44,7 +47,8 @@ pub record IsEmpty (tokens : Tokens) (at : Place) : Type 0 where
   pub none : tokens.list ≡ []
   pub place : at ≡ record { line = 1; column = 1 }
 
--- The places of a token list that is no component: that of a token up to which none begins, or the last one's, or 1:1 without tokens.
+-- The places of a token list that is no component: that of a token up to which none begins, or the
+-- last one's, or 1:1 without tokens.
 abbrev pub IsFault : Tokens → Place → Type 0
 IsFault tokens at = StopsAt tokens at ⊎ (EndsAt tokens at ⊎ IsEmpty tokens at)
 
@@ -55,17 +59,22 @@ pub record IsComponent (tokens : Tokens) (c : Component) : Type 0 where
   pub only : (other : Component) → HasTree tokens other → other ≡ c
   pub small : KeepsLimits c
 
--- The token list breaks this rule, at this place: 202 where a token stands too deep; else 201 where it has no tree; else 203 where
--- its tree passes a limit.
+-- The token list breaks this rule, at this place: 202 where a token stands too deep; else 201 where
+-- it has no tree; else 203 where its tree passes a limit.
 pub data Breaks (tokens : Tokens) : ℕ → Place → Type 0 where
   TooDeep : {at : Place} → FirstDeep tokens.list at → Breaks tokens TOO_DEEP.0 at
-  Syntax : {at : Place} → AllShallow tokens.list → HasNone tokens → IsFault tokens at → Breaks tokens SYNTAX.0 at
-  TooMany : {at : Place} → AllShallow tokens.list → (c : Component) → HasTree tokens c → BreaksLimit c at → Breaks tokens TOO_MANY.0 at
+  Syntax : {at : Place} → AllShallow tokens.list → HasNone tokens → IsFault tokens at
+      → Breaks tokens SYNTAX.0 at
+  TooMany : {at : Place} → AllShallow tokens.list → (c : Component) → HasTree tokens c
+      → BreaksLimit c at → Breaks tokens TOO_MANY.0 at
 
--- What reading answers, depth and limits aside: the one tree, or 201 at a fault of tokens that have none.
+-- What reading answers, depth and limits aside: the one tree, or 201 at a fault of tokens that have
+-- none.
 abbrev pub Reading : Tokens → Result Parsed CheckFault → Type 0
-Reading tokens (Ok p) = HasTree tokens p.component × ((other : Component) → HasTree tokens other → other ≡ p.component)
-Reading tokens (Err (a_fault.Refused rule at)) = (rule.0 ≡ SYNTAX.0) × HasNone tokens × IsFault tokens at
+Reading tokens (Ok p) = HasTree tokens p.component
+    × ((other : Component) → HasTree tokens other → other ≡ p.component)
+Reading tokens (Err (a_fault.Refused rule at)) = (rule.0 ≡ SYNTAX.0) × HasNone tokens
+    × IsFault tokens at
 Reading tokens (Err a_fault.Memory) = Unit {0}
 
 -- the last of some tokens

@@ -17,13 +17,15 @@ const MOST_NESTED: usize = 400;
 /// Where the file begins.
 const BEGINNING: Place = Place { line: 1, column: 1 };
 
-/// The component that a file's tokens are, which has their names and texts too. The chapter is "Grammar".
+/// The component that a file's tokens are, which has their names and texts too. The chapter is
+/// "Grammar".
 ///
-/// It answers `Refused` with 202 and the place of the first token that stands inside more than 100 openers; else with
-/// 201 where the tokens are no component, at a token up to which none begins, at the last one where they end
-/// too early, or at 1:1 where there are none; else with 203 at the earliest place of what passes a limit. Its only
-/// other error is want of memory, which it also answers where runs stand more than 400 deep in one another, as they
-/// can in the headers of `while` and `for`.
+/// It answers `Refused` with 202 and the place of the first token that stands inside more than 100
+/// openers; else with 201 where the tokens are no component, at a token up to which none begins, at
+/// the last one where they end too early, or at 1:1 where there are none; else with 203 at the
+/// earliest place of what passes a limit. Its only other error is want of memory, which it also
+/// answers where runs stand more than 400 deep in one another, as they can in the headers of
+/// `while` and `for`.
 pub fn component(alloc: Global, tokens: &Tokens) -> Result<Parsed, CheckFault>
     ensures { Answers tokens.now result }
 {

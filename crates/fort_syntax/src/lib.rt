@@ -1,4 +1,5 @@
-//! The one component that a file's tokens are, or the first broken rule of the grammar, with its place.
+//! The one component that a file's tokens are, or the first broken rule of the grammar, with its
+//! place.
 #![tactic(auto)]
 
 mod answer;

@@ -1,4 +1,5 @@
-//! Each function puts its token at the end of a list; its one error is want of memory. The chapter is "Grammar".
+//! Each function puts its token at the end of a list; its one error is want of memory. The chapter
+//! is "Grammar".
 ghost use Rattle.std.specs.Prelude.{◌≡◌, ◌++◌, [], ◌∷◌, OnOk};
 ghost use Rattle.fort_tree.specs.Tokens.{token, word, marked, operator, named};
 ghost use Rattle.fort_tree.specs.Said.{semicolon_tokens};

@@ -1,4 +1,5 @@
--- Passes, as clauses speak of them. Who calls the turn hands these words on and doesn't look inside.
+-- Passes, as clauses speak of them. Who calls the turn hands these words on and doesn't look
+-- inside.
 use Rattle.std.specs.Prelude.{◌≡◌, ℕ, ◌<◌, Bool, true, List, [], ◌∷◌, Option, Some, None}
 use Rattle.fort_turn.specs.declared.view.Stage.TheVariants.{Idle, Waiting, Holding}
 use Rattle.fort_turn.specs.declared.held.Pass.{Pass}
@@ -39,11 +40,13 @@ module _ {B : Type 0} where
 
   -- a pass of this turn that has drawn a place
   abbrev pub IsWaiting : Turn B → Pass B → Type 0
-  IsWaiting t p = IsOf t p × (p.seat.me.0.stage ≡ Waiting p.place) × (p.seat.me.1 ≡ []) × (p.place < 9223372036854775808)
+  IsWaiting t p = IsOf t p × (p.seat.me.0.stage ≡ Waiting p.place) × (p.seat.me.1 ≡ [])
+      × (p.place < 9223372036854775808)
 
   -- a pass of this turn to which the slot has come, with this in it
   abbrev pub HasSlot : Turn B → Pass B → Option B → Type 0
-  HasSlot t p content = IsOf t p × (p.seat.me.0.stage ≡ Holding p.place) × (p.seat.me.1 ≡ (0, content) ∷ []) × (p.place < 9223372036854775808)
+  HasSlot t p content = IsOf t p × (p.seat.me.0.stage ≡ Holding p.place)
+      × (p.seat.me.1 ≡ (0, content) ∷ []) × (p.place < 9223372036854775808)
 
   -- a pass of this turn that holds the book b as `take` handed it out
   abbrev pub Holds : Turn B → Pass B → B → Type 0
@@ -51,4 +54,5 @@ module _ {B : Type 0} where
 
   -- its numbers are as they were, and so is how many passes it made
   abbrev pub IsSame : Pass B → Pass B → Type 0
-  IsSame old new = (number_of new ≡ number_of old) × (made_by new ≡ made_by old) × (numbers_of new ≡ numbers_of old) × (is_first new ≡ is_first old)
+  IsSame old new = (number_of new ≡ number_of old) × (made_by new ≡ made_by old)
+      × (numbers_of new ≡ numbers_of old) × (is_first new ≡ is_first old)

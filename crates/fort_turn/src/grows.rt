@@ -3,8 +3,8 @@ ghost use Rattle.std.specs.Prelude.{◌≡◌, ℕ, List, length};
 
 /// A book with a history, which is a list of entries, and an origin, which no entry changes.
 ///
-/// Its holders add entries at the end of the history, and each entry names the pass of the holder that added it.
-/// A book need not be `Send`: a turn crosses threads where its book may.
+/// Its holders add entries at the end of the history, and each entry names the pass of the holder
+/// that added it. A book need not be `Send`: a turn crosses threads where its book may.
 pub trait Grows {
     ghost Entry: { Type 0 };
 

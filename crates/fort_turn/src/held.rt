@@ -13,10 +13,11 @@ pub(crate) const NEXT: usize = 0;
 
 pub(crate) const SERVING: usize = 1;
 
-/// A book that threads take in turn. It is shared by reference, and each thread has a pass of its own.
+/// A book that threads take in turn. It is shared by reference, and each thread has a pass of its
+/// own.
 ///
-/// The table has two words, the next place and the place that is served, and one slot, in which the book lies while
-/// nobody holds it.
+/// The table has two words, the next place and the place that is served, and one slot, in which the
+/// book lies while nobody holds it.
 #[derive(Drop)]
 pub struct Turn<B: Grows> {
     pub(crate) table: Table<Option<B>, View<B>, Snapshot<B>, InTurn, Global>,

@@ -18,15 +18,17 @@ const LOOKS: u32 = 64;
 impl<B: Grows> Turn<B> {
     /// Waits until the book comes to this pass, and hands it out. The pass holds it from then on.
     ///
-    /// The book has the origin of what the pass has seen. Its history begins with what the pass has seen, and of the
-    /// pass's own numbers it has no entry more. The pass must be of this turn and hold nothing. It takes no memory.
+    /// The book has the origin of what the pass has seen. Its history begins with what the pass has
+    /// seen, and of the pass's own numbers it has no entry more. The pass must be of this turn and
+    /// hold nothing. It takes no memory.
     ///
     /// The call doesn't return where 2^63 places were drawn before.
     pub fn take<R: Wait>(&self, rt: &R, pass: &mut Pass<B>) -> B
         requires { IsIdle self.now pass.old }
         ensures same { IsSame pass.old pass.new }
         ensures holds { Holds self.now pass.new result }
-        ensures book { Follows B.history B.origin B.by (seen_by pass.old) (numbers_of pass.old) result }
+        ensures book { Follows B.history B.origin B.by (seen_by pass.old) (numbers_of pass.old)
+            result }
     {
         self.draw(rt, pass);
         self.enter(rt, pass);
@@ -57,7 +59,8 @@ impl<B: Grows> Turn<B> {
     fn enter<R: Wait>(&self, rt: &R, pass: &mut Pass<B>)
         requires { IsWaiting self.now pass.old }
         ensures same { IsSame pass.old pass.new }
-        ensures holds { (b : B) × HasSlot self.now pass.new (Some b) × (seen_by pass.new ≡ Some b) × Follows B.history B.origin B.by (seen_by pass.old) (numbers_of pass.old) b }
+        ensures holds { (b : B) × HasSlot self.now pass.new (Some b) × (seen_by pass.new ≡ Some b)
+            × Follows B.history B.origin B.by (seen_by pass.old) (numbers_of pass.old) b }
     {
         let mut looks = 0u32;
         for _ in rt.forever() {
@@ -95,10 +98,12 @@ impl<B: Grows> Turn<B> {
 
     /// Gives the book back, and lets the next pass have it.
     ///
-    /// The book must have the origin of the one that `take` handed out, and a history that continues that one's with
-    /// entries that name this pass. From now on the pass has seen it. It takes no memory and waits for nobody.
+    /// The book must have the origin of the one that `take` handed out, and a history that
+    /// continues that one's with entries that name this pass. From now on the pass has seen it. It
+    /// takes no memory and waits for nobody.
     pub fn give(&self, pass: &mut Pass<B>, book: B)
-        requires { (taken : B) × Holds self.now pass.old taken × Continues B.history B.origin B.by (number_of pass.old) taken book }
+        requires { (taken : B) × Holds self.now pass.old taken
+            × Continues B.history B.origin B.by (number_of pass.old) taken book }
         ensures same { IsSame pass.old pass.new }
         ensures idle { IsIdle self.now pass.new }
         ensures seen { seen_by pass.new ≡ Some book }

@@ -1,5 +1,5 @@
-//! A turn: a ticket lock over one book, in which each pass knows from hold to hold what the book's history has become.
-//! docs/THREADS.md.
+//! A turn: a ticket lock over one book, in which each pass knows from hold to hold what the book's
+//! history has become. docs/THREADS.md.
 #![tactic(auto)]
 
 mod grows;

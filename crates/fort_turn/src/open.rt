@@ -8,7 +8,8 @@ use atomic_table::{Refused, Table};
 use std::alloc::Global;
 use std::snapshot::Snapshot;
 
-/// A turn over a book whose history is empty, and its first pass, which has number 0, has seen the book and holds nothing.
+/// A turn over a book whose history is empty, and its first pass, which has number 0, has seen the
+/// book and holds nothing.
 ///
 /// # Errors
 ///

@@ -22,7 +22,8 @@ facts k o = let t = through k.types.below o.through in record {
   signatures = o.primitives;
   primitives = λ S d decl f vs e q h.
       let i = o.primitives d decl f e q in
-      subst (λ R. AnswerFits k S f vs R) (sym i.1) (answers_fit k S f vs (subst (HasVs k S vs) i.0 h));
+      subst (λ R. AnswerFits k S f vs R) (sym i.1)
+      (answers_fit k S f vs (subst (HasVs k S vs) i.0 h));
   constructors = o.constructors;
   opened = o.opened;
   first = o.first;

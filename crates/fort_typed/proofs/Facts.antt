@@ -26,7 +26,8 @@ use Rattle.fort_typed.specs.Sound.{opening, numbered, IsFailure, NewFits, StoreO
 use Rattle.fort_typed.proofs.Shapes.{AllBelow, Shape}
 
 -- what a built-in declaration answers to typed values
-pub record AnswerFits (k : Program) (S : Sig) (f : Primitive) (vs : List Value) (R : Ty) : Type 0 where
+pub record AnswerFits (k : Program) (S : Sig) (f : Primitive) (vs : List Value)
+    (R : Ty) : Type 0 where
   pub given : (v : Value) → answer_of k f vs ≡ gives v → HasV k S v R
   pub text : (s : List ℕ) → answer_of k f vs ≡ makes_text s → Below k (Named k.built_in.text) R
   pub printed : (s : List ℕ) → answer_of k f vs ≡ prints s → Below k unit_type R
@@ -38,16 +39,26 @@ pub record Facts (k : Program) : Type 0 where
   pub shape : (A B : Ty) → Below k A B → Shape k (out-Ty A) (out-Ty B)
   pub absorbs : (A B C : Ty) → Below k A B → IsTrue (below k B C) → IsTrue (below k A C)
   pub tuples : (As Bs : List Ty) → AllBelow k As Bs → Below k (Tuple As) (Tuple Bs)
-  pub leaf : (i j : TypeId) (s : CoreShape) → ShapeOf k j s → Makes s.kind → Below k (Named i) (Named j) → i ≡ j
-  pub fields : (i j : TypeId) (f : NameId) (A : Ty) (s : CoreShape) → FieldOf k j f A → ShapeOf k i s → Makes s.kind → Below k (Named i) (Named j) → (B : Ty) × FieldOf k i f B × Below k B A
-  pub results : (set : SetId) (ts us : List Ty) (d e : DeclId) (decl other : CoreDecl) → IsApplicable k set ts d decl → IsApplicable k set us e other
+  pub leaf : (i j : TypeId) (s : CoreShape) → ShapeOf k j s → Makes s.kind
+      → Below k (Named i) (Named j) → i ≡ j
+  pub fields : (i j : TypeId) (f : NameId) (A : Ty) (s : CoreShape) → FieldOf k j f A
+      → ShapeOf k i s → Makes s.kind → Below k (Named i) (Named j)
+      → (B : Ty) × FieldOf k i f B × Below k B A
+  pub results : (set : SetId) (ts us : List Ty) (d e : DeclId) (decl other : CoreDecl)
+      → IsApplicable k set ts d decl → IsApplicable k set us e other
       → IsMoreSpecific k decl other → Below k decl.result other.result
-  pub bodies : (d : DeclId) (decl : CoreDecl) (t : Term) → slice_get k.decls d.0 ≡ Some decl → decl.body ≡ body.Plain t → Has k (opening k) (binds (numbered 0 decl.parameters) none) t decl.result
-  pub signatures : (d : DeclId) (decl : CoreDecl) (f : Primitive) → slice_get k.decls d.0 ≡ Some decl → decl.body ≡ body.Primitive f
+  pub bodies : (d : DeclId) (decl : CoreDecl) (t : Term) → slice_get k.decls d.0 ≡ Some decl
+      → decl.body ≡ body.Plain t
+      → Has k (opening k) (binds (numbered 0 decl.parameters) none) t decl.result
+  pub signatures : (d : DeclId) (decl : CoreDecl) (f : Primitive)
+      → slice_get k.decls d.0 ≡ Some decl → decl.body ≡ body.Primitive f
       → (decl.parameters ≡ parameters_of k f) × (decl.result ≡ result_of k f)
-  pub primitives : (S : Sig) (d : DeclId) (decl : CoreDecl) (f : Primitive) (vs : List Value) → slice_get k.decls d.0 ≡ Some decl → decl.body ≡ body.Primitive f
+  pub primitives : (S : Sig) (d : DeclId) (decl : CoreDecl) (f : Primitive) (vs : List Value)
+      → slice_get k.decls d.0 ≡ Some decl → decl.body ≡ body.Primitive f
       → HasVs k S vs decl.parameters → AnswerFits k S f vs decl.result
-  pub constructors : (d : DeclId) (decl : CoreDecl) (id : TypeId) → slice_get k.decls d.0 ≡ Some decl → decl.body ≡ body.New id → NewFits k id decl
+  pub constructors : (d : DeclId) (decl : CoreDecl) (id : TypeId)
+      → slice_get k.decls d.0 ≡ Some decl → decl.body ≡ body.New id → NewFits k id decl
   pub opened : StoreOk k (opening k) (opening_store k)
   pub first : Has k (opening k) none k.first unit_type
-  pub failures : (id : TypeId) (v : Value) → IsFailure k id → single k id ≡ Some v → HasV k (opening k) v (thrown_type k)
+  pub failures : (id : TypeId) (v : Value) → IsFailure k id → single k id ≡ Some v
+      → HasV k (opening k) v (thrown_type k)

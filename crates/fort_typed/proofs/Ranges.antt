@@ -26,7 +26,8 @@ one_part (pos n) = inr refl
 one_part (negsuc n) = inl refl
 
 -- from one number on, up to another one
-pub steps : (a : ℤ) (n m : ℕ) → n ≤ m → is_within w32 a ≡ true → is_within w32 (a +ℤ pos m) ≡ true → is_within w32 (a +ℤ pos n) ≡ true
+pub steps : (a : ℤ) (n m : ℕ) → n ≤ m → is_within w32 a ≡ true → is_within w32 (a +ℤ pos m) ≡ true
+    → is_within w32 (a +ℤ pos n) ≡ true
 steps a n m l h e =
     let i = within_out a h in
     let j = within_out (a +ℤ pos m) e in
@@ -36,7 +37,8 @@ steps a n m l h e =
     within_in (a +ℤ pos n) (omega (arith, ints, x, y, o)) (omega (arith, ints, x, y, o))
 
 -- the numbers up to the last one
-pub up_to_last : (a : ℤ) (m n : ℕ) → n < m → is_within w32 a ≡ true → is_within w32 (last_of a m) ≡ true → is_within w32 (a +ℤ pos n) ≡ true
+pub up_to_last : (a : ℤ) (m n : ℕ) → n < m → is_within w32 a ≡ true
+    → is_within w32 (last_of a m) ≡ true → is_within w32 (a +ℤ pos n) ≡ true
 up_to_last a m n l h e =
     let i = within_out a h in
     let j = within_out (last_of a m) e in
@@ -47,10 +49,12 @@ up_to_last a m n l h e =
     within_in (a +ℤ pos n) (omega (arith, ints, x, y, z, o)) (omega (arith, ints, x, y, z, o))
 
 -- the numbers from one to another
-pub up_to : (a b : ℤ) (n : ℕ) → n < count_to a b → is_within w32 a ≡ true → is_within w32 b ≡ true → is_within w32 (a +ℤ pos n) ≡ true
+pub up_to : (a b : ℤ) (n : ℕ) → n < count_to a b → is_within w32 a ≡ true → is_within w32 b ≡ true
+    → is_within w32 (a +ℤ pos n) ≡ true
 up_to a b n l h e = go (int_lt b a) refl l
   where
-    go : (x : Bool) → int_lt b a ≡ x → n < (if x then 0 else unsigned_abs ((b -ℤ a) +ℤ pos 1)) → is_within w32 (a +ℤ pos n) ≡ true
+    go : (x : Bool) → int_lt b a ≡ x → n < (if x then 0 else unsigned_abs ((b -ℤ a) +ℤ pos 1))
+        → is_within w32 (a +ℤ pos n) ≡ true
     go true q l = absurd (omega arith)
     go false q l =
         let m : n < unsigned_abs ((b -ℤ a) +ℤ pos 1) = l in
@@ -61,4 +65,5 @@ up_to a b n l h e = go (int_lt b a) refl l
         let z = sum_is_lem (b -ℤ a) (pos 1) in
         let o = one_part (a +ℤ pos n) in
         let u = one_part ((b -ℤ a) +ℤ pos 1) in
-        within_in (a +ℤ pos n) (omega (arith, ints, x, y, z, o, u, neg_is)) (omega (arith, ints, x, y, z, o, u, neg_is))
+        within_in (a +ℤ pos n) (omega (arith, ints, x, y, z, o, u, neg_is))
+        (omega (arith, ints, x, y, z, o, u, neg_is))

@@ -1,4 +1,5 @@
--- Chapter "Types of closed terms": what each built-in declaration takes and gives. The check of a component has it from the table of built-in declarations.
+-- Chapter "Types of closed terms": what each built-in declaration takes and gives. The check of a
+-- component has it from the table of built-in declarations.
 use Rattle.std.specs.Prelude.{List, [], ◌∷◌}
 use Rattle.fort_base.specs.declared.ty.Ty.{Ty}
 use Rattle.fort_base.specs.declared.ty.Ty.TheVariants.{Any, Named}

@@ -1,4 +1,5 @@
--- Chapters "Accepted programs" and "What runs keep": what is taken of a program, and what its runs keep. The check of a component gives the first; the code of a run rests on the second.
+-- Chapters "Accepted programs" and "What runs keep": what is taken of a program, and what its runs
+-- keep. The check of a component gives the first; the code of a run rests on the second.
 use Rattle.std.specs.Prelude.{◌≡◌, ℕ, ◌+◌, ◌==◌, if◌then◌else◌, ◌⊎◌, IsTrue, List, [], ◌∷◌, ◌++◌, map, slice_get, Some, None}
 use Rattle.fort_base.specs.declared.ids.DeclId.{DeclId}
 use Rattle.fort_base.specs.declared.ids.Loc.{Loc}
@@ -50,10 +51,12 @@ numbered n (A ∷ As) = (n, fixed A) ∷ numbered (n + 1) As
 -- The exceptions that steps and built-in declarations throw.
 abbrev pub IsFailure : Program → TypeId → Type 0
 IsFailure p id = let b = p.built_in in
-    (id ≡ b.integer_overflow) ⊎ (id ≡ b.division_by_zero) ⊎ (id ≡ b.negative_exponent) ⊎ (id ≡ b.index_out_of_range) ⊎ (id ≡ b.negative_size)
+    (id ≡ b.integer_overflow) ⊎ (id ≡ b.division_by_zero) ⊎ (id ≡ b.negative_exponent)
+    ⊎ (id ≡ b.index_out_of_range) ⊎ (id ≡ b.negative_size)
     ⊎ (id ≡ b.depth_exceeded) ⊎ (id ≡ b.try_atomic_failure) ⊎ (id ≡ b.abort_outside)
 
--- A constructor makes objects of its type: the fields' types are those of its parameters, then those of the constants, which have them; and its result is above the type.
+-- A constructor makes objects of its type: the fields' types are those of its parameters, then
+-- those of the constants, which have them; and its result is above the type.
 pub record NewFits (p : Program) (id : TypeId) (decl : CoreDecl) : Type 0 where
   pub shape : CoreShape
   pub is_shape : ShapeOf p id shape
@@ -63,7 +66,8 @@ pub record NewFits (p : Program) (id : TypeId) (decl : CoreDecl) : Type 0 where
   pub fields : map (λ (c : CoreField). c.ty) shape.fields ≡ decl.parameters ++ types
   pub result : Below p (Named id) decl.result
 
--- A store is typed: the types of its locations go on from those of the opening store; each location that has a type holds a value of it; and each that holds a value has a type.
+-- A store is typed: the types of its locations go on from those of the opening store; each location
+-- that has a type holds a value of it; and each that holds a value has a type.
 pub record StoreOk (p : Program) (S : Sig) (s : Store) : Type 0 where
   pub opened : Up (opening p) S
   pub holds : (l : ℕ) (F : Ty) → S l ≡ Some F → (v : Value) × (s l ≡ Some v) × HasV p S v F
@@ -75,22 +79,35 @@ Under p i j = (i ≡ j) ⊎ IsTrue (is_set p.types.below i.0 j.0)
 
 -- What the rows say goes through a third type.
 abbrev pub RowsThrough : List (List Bool) → Type 0
-RowsThrough rows = (i j n : ℕ) → IsTrue (is_set rows i j) → IsTrue (is_set rows j n) → IsTrue (is_set rows i n)
+RowsThrough rows = (i j n : ℕ) → IsTrue (is_set rows i j) → IsTrue (is_set rows j n)
+    → IsTrue (is_set rows i n)
 
--- What the typing of an accepted program gives: its rows go through; nothing is below a type that objects are made of; an object has each field of the types above it, at their types or below; of two declarations that may run in one call, the more specific one's result is below the other's; bodies have their results' types, over the opening store's types; built-in declarations have their signatures; constructors make objects of their types; the opening store has its types; the first term is of type `()`; and the exceptions that steps throw are below `Exception`.
+-- What the typing of an accepted program gives: its rows go through; nothing is below a type that
+-- objects are made of; an object has each field of the types above it, at their types or below; of
+-- two declarations that may run in one call, the more specific one's result is below the other's;
+-- bodies have their results' types, over the opening store's types; built-in declarations have
+-- their signatures; constructors make objects of their types; the opening store has its types; the
+-- first term is of type `()`; and the exceptions that steps throw are below `Exception`.
 pub record Sound (p : Program) : Type 0 where
   pub through : RowsThrough p.types.below
   pub leaf : (i j : TypeId) (s : CoreShape) → ShapeOf p j s → Makes s.kind → Under p i j → i ≡ j
-  pub fields : (i j : TypeId) (f : NameId) (A : Ty) (s : CoreShape) → FieldOf p j f A → ShapeOf p i s → Makes s.kind → Under p i j → (B : Ty) × FieldOf p i f B × Below p B A
-  pub results : (set : SetId) (ts us : List Ty) (d e : DeclId) (decl other : CoreDecl) → IsApplicable p set ts d decl → IsApplicable p set us e other
+  pub fields : (i j : TypeId) (f : NameId) (A : Ty) (s : CoreShape) → FieldOf p j f A
+      → ShapeOf p i s → Makes s.kind → Under p i j → (B : Ty) × FieldOf p i f B × Below p B A
+  pub results : (set : SetId) (ts us : List Ty) (d e : DeclId) (decl other : CoreDecl)
+      → IsApplicable p set ts d decl → IsApplicable p set us e other
       → IsMoreSpecific p decl other → Below p decl.result other.result
-  pub bodies : (d : DeclId) (decl : CoreDecl) (t : Term) → slice_get p.decls d.0 ≡ Some decl → decl.body ≡ body.Plain t → Has p (opening p) (binds (numbered 0 decl.parameters) none) t decl.result
-  pub primitives : (d : DeclId) (decl : CoreDecl) (f : Primitive) → slice_get p.decls d.0 ≡ Some decl → decl.body ≡ body.Primitive f
+  pub bodies : (d : DeclId) (decl : CoreDecl) (t : Term) → slice_get p.decls d.0 ≡ Some decl
+      → decl.body ≡ body.Plain t
+      → Has p (opening p) (binds (numbered 0 decl.parameters) none) t decl.result
+  pub primitives : (d : DeclId) (decl : CoreDecl) (f : Primitive)
+      → slice_get p.decls d.0 ≡ Some decl → decl.body ≡ body.Primitive f
       → (decl.parameters ≡ parameters_of p f) × (decl.result ≡ result_of p f)
-  pub constructors : (d : DeclId) (decl : CoreDecl) (id : TypeId) → slice_get p.decls d.0 ≡ Some decl → decl.body ≡ body.New id → NewFits p id decl
+  pub constructors : (d : DeclId) (decl : CoreDecl) (id : TypeId)
+      → slice_get p.decls d.0 ≡ Some decl → decl.body ≡ body.New id → NewFits p id decl
   pub opened : StoreOk p (opening p) (opening_store p)
   pub first : Has p (opening p) none p.first unit_type
-  pub failures : (id : TypeId) (v : Value) → IsFailure p id → single p id ≡ Some v → HasV p (opening p) v (thrown_type p)
+  pub failures : (id : TypeId) (v : Value) → IsFailure p id → single p id ≡ Some v
+      → HasV p (opening p) v (thrown_type p)
 
 -- A closed term and its store are typed, the term at a type.
 pub record Typed (p : Program) (t : Term) (s : Store) (T : Ty) : Type 0 where
@@ -98,7 +115,8 @@ pub record Typed (p : Program) (t : Term) (s : Store) (T : Ty) : Type 0 where
   pub store : StoreOk p types s
   pub term : Has p types none t T
 
--- What a step leaves: the types of the store have grown, and store and term are typed by them, the term at the type that it had.
+-- What a step leaves: the types of the store have grown, and store and term are typed by them, the
+-- term at the type that it had.
 pub record Kept (p : Program) (S : Sig) (b : Term) (s' : Store) (T : Ty) : Type 0 where
   pub types : Sig
   pub up : Up S types
@@ -112,24 +130,34 @@ pub record KeptRun (p : Program) (S : Sig) (r : Ended) (s' : Store) (T : Ty) : T
   pub store : StoreOk p types s'
   pub term : (t : Term) → r ≡ goes t → Has p types none t T
 
--- Each run from what is typed, one of an attempt's machine or of the root's, keeps its type, through attempts at any depth.
+-- Each run from what is typed, one of an attempt's machine or of the root's, keeps its type,
+-- through attempts at any depth.
 abbrev pub RunsKeep : Type 0
-RunsKeep = (p : Program) → Sound p → (inner strict : Bool) (S : Sig) (s : Store) (picks : List Pick) (t : Term) (r : Ended) (d : Effect) (T : Ty)
-    → StoreOk p S s → Has p S none t T → Runs p inner strict s picks t r d → KeptRun p S r (afterwards d s) T
+RunsKeep = (p : Program) → Sound p
+    → (inner strict : Bool) (S : Sig) (s : Store) (picks : List Pick) (t : Term) (r : Ended)
+    (d : Effect) (T : Ty)
+    → StoreOk p S s → Has p S none t T → Runs p inner strict s picks t r d
+    → KeptRun p S r (afterwards d s) T
 
 -- So what is typed stays typed.
 abbrev pub StaysTyped : Type 0
-StaysTyped = (p : Program) → Sound p → (inner strict : Bool) (s : Store) (picks : List Pick) (t u : Term) (d : Effect) (T : Ty)
+StaysTyped = (p : Program) → Sound p
+    → (inner strict : Bool) (s : Store) (picks : List Pick) (t u : Term) (d : Effect) (T : Ty)
     → Typed p t s T → Runs p inner strict s picks t (goes u) d → Typed p u (afterwards d s) T
 
--- What the rules on overload sets give: where some declaration of a set is applicable to types of values, one declaration is the one that the values run, and it isn't abstract.
+-- What the rules on overload sets give: where some declaration of a set is applicable to types of
+-- values, one declaration is the one that the values run, and it isn't abstract.
 abbrev pub Defined : Program → Type 0
-Defined p = (S : Sig) (set : SetId) (vs : List Value) (As : List Ty) (d : DeclId) (decl : CoreDecl) → HasVs p S vs As → IsApplicable p set As d decl → HasDefinition p set vs
+Defined p = (S : Sig) (set : SetId) (vs : List Value) (As : List Ty) (d : DeclId) (decl : CoreDecl)
+    → HasVs p S vs As → IsApplicable p set As d decl → HasDefinition p set vs
 
--- Each call of values in a typed term, wherever it stands in it or in its values, has one definition.
+-- Each call of values in a typed term, wherever it stands in it or in its values, has one
+-- definition.
 abbrev pub OneDefinition : Type 0
-OneDefinition = (p : Program) → Sound p → Defined p → (S : Sig) (G : Env) (t : Term) (T : Ty) → Has p S G t T → IsOne p t
+OneDefinition = (p : Program) → Sound p → Defined p → (S : Sig) (G : Env) (t : Term) (T : Ty)
+    → Has p S G t T → IsOne p t
 
 -- Each run of an accepted program comes to a term and a store that are typed, the term at `()`.
 abbrev pub RunIsTyped : Type 0
-RunIsTyped = (p : Program) → Sound p → (picks : List Pick) (t : Term) (d : Effect) → IsRun p picks t d → Typed p t (afterwards d (opening_store p)) unit_type
+RunIsTyped = (p : Program) → Sound p → (picks : List Pick) (t : Term) (d : Effect)
+    → IsRun p picks t d → Typed p t (afterwards d (opening_store p)) unit_type

@@ -43,7 +43,8 @@ pub fn stays_finite()
     ensures { StaysFinite }
 {}
 
-/// Wherever a machine of an accepted program comes to, the root's or an attempt's, its term and store are typed.
+/// Wherever a machine of an accepted program comes to, the root's or an attempt's, its term and
+/// store are typed.
 pub fn reached_is_typed()
     ensures { ReachedIsTyped }
 {}
@@ -68,12 +69,14 @@ pub fn rules_define()
     ensures { RulesDefine }
 {}
 
-/// Where a machine of an accepted program isn't at its end, it isn't so that nobody may go on, sleeping forms included.
+/// Where a machine of an accepted program isn't at its end, it isn't so that nobody may go on,
+/// sleeping forms included.
 pub fn someone_may_go()
     ensures { SomeoneMayGo }
 {}
 
-/// The rows of an accepted hierarchy go through a third type, and have nothing below an object or a leaf but itself.
+/// The rows of an accepted hierarchy go through a third type, and have nothing below an object or a
+/// leaf but itself.
 pub fn rows_of_hierarchy()
     ensures { RowsOfHierarchy }
 {}

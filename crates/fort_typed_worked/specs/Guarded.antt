@@ -1,4 +1,5 @@
--- Chapter "A worked program": an object with a field, which an atomic form adds to, with all built-in types. Nothing in the code is like it.
+-- Chapter "A worked program": an object with a field, which an atomic form adds to, with all
+-- built-in types. Nothing in the code is like it.
 use Rattle.std.specs.Prelude.{◌++◌, pos}
 use Rattle.std.specs.Prelude.{ℕ, Bool, true, false, List, [], ◌∷◌, map, None}
 use Rattle.fort_base.specs.declared.ids.Loc.{Loc}
@@ -26,7 +27,8 @@ use Rattle.fort_typed.specs.Sound.{Sound}
 use Rattle.fort_typed.specs.Goes.{Complete, Goes}
 use Rattle.fort_typed.specs.Overloads.{KeepsRules}
 
--- The rows of the built-in types and of `Counter`: each is below itself and `Object`, and the exceptions are below `Exception`.
+-- The rows of the built-in types and of `Counter`: each is below itself and `Object`, and the
+-- exceptions are below `Exception`.
 abbrev pub rows : List (List Bool)
 rows =
     (true ∷ [])
@@ -40,13 +42,20 @@ rows =
     ∷ (true ∷ true ∷ false ∷ false ∷ false ∷ false ∷ false ∷ false ∷ true ∷ [])
     ∷ (true ∷ true ∷ false ∷ false ∷ false ∷ false ∷ false ∷ false ∷ false ∷ true ∷ [])
     ∷ (true ∷ true ∷ false ∷ false ∷ false ∷ false ∷ false ∷ false ∷ false ∷ false ∷ true ∷ [])
-    ∷ (true ∷ true ∷ false ∷ false ∷ false ∷ false ∷ false ∷ false ∷ false ∷ false ∷ false ∷ true ∷ [])
-    ∷ (true ∷ true ∷ false ∷ false ∷ false ∷ false ∷ false ∷ false ∷ false ∷ false ∷ false ∷ false ∷ true ∷ [])
-    ∷ (true ∷ true ∷ false ∷ false ∷ false ∷ false ∷ false ∷ false ∷ false ∷ false ∷ false ∷ false ∷ false ∷ true ∷ [])
-    ∷ (true ∷ true ∷ false ∷ false ∷ false ∷ false ∷ false ∷ false ∷ false ∷ false ∷ false ∷ false ∷ false ∷ false ∷ true ∷ [])
-    ∷ (true ∷ true ∷ false ∷ false ∷ false ∷ false ∷ false ∷ false ∷ false ∷ false ∷ false ∷ false ∷ false ∷ false ∷ false ∷ true ∷ [])
-    ∷ (true ∷ true ∷ false ∷ false ∷ false ∷ false ∷ false ∷ false ∷ false ∷ false ∷ false ∷ false ∷ false ∷ false ∷ false ∷ false ∷ true ∷ [])
-    ∷ (true ∷ false ∷ false ∷ false ∷ false ∷ false ∷ false ∷ false ∷ false ∷ false ∷ false ∷ false ∷ false ∷ false ∷ false ∷ false ∷ false ∷ true ∷ [])
+    ∷ (true ∷ true ∷ false ∷ false ∷ false ∷ false ∷ false ∷ false ∷ false ∷ false ∷ false ∷ true
+    ∷ [])
+    ∷ (true ∷ true ∷ false ∷ false ∷ false ∷ false ∷ false ∷ false ∷ false ∷ false ∷ false ∷ false
+    ∷ true ∷ [])
+    ∷ (true ∷ true ∷ false ∷ false ∷ false ∷ false ∷ false ∷ false ∷ false ∷ false ∷ false ∷ false
+    ∷ false ∷ true ∷ [])
+    ∷ (true ∷ true ∷ false ∷ false ∷ false ∷ false ∷ false ∷ false ∷ false ∷ false ∷ false ∷ false
+    ∷ false ∷ false ∷ true ∷ [])
+    ∷ (true ∷ true ∷ false ∷ false ∷ false ∷ false ∷ false ∷ false ∷ false ∷ false ∷ false ∷ false
+    ∷ false ∷ false ∷ false ∷ true ∷ [])
+    ∷ (true ∷ true ∷ false ∷ false ∷ false ∷ false ∷ false ∷ false ∷ false ∷ false ∷ false ∷ false
+    ∷ false ∷ false ∷ false ∷ false ∷ true ∷ [])
+    ∷ (true ∷ false ∷ false ∷ false ∷ false ∷ false ∷ false ∷ false ∷ false ∷ false ∷ false ∷ false
+    ∷ false ∷ false ∷ false ∷ false ∷ false ∷ true ∷ [])
     ∷ []
 
 -- The locations of the ten exceptions, which are single objects.
@@ -87,7 +96,8 @@ counter_type = Named (type 17)
 
 -- Two traits, the five leaves, the ten exceptions, `Counter`.
 abbrev pub shapes : List CoreShape
-shapes = plain Trait ∷ plain Trait ∷ plain Leaf ∷ plain Leaf ∷ plain Leaf ∷ plain Leaf ∷ plain Leaf ∷ (map single_at locations ++ counter ∷ [])
+shapes = plain Trait ∷ plain Trait ∷ plain Leaf ∷ plain Leaf ∷ plain Leaf ∷ plain Leaf ∷ plain Leaf
+    ∷ (map single_at locations ++ counter ∷ [])
 
 -- A number as a term.
 abbrev pub figure : ℕ → Term
@@ -136,7 +146,8 @@ guarded = record {
   built_in = numbered;
   type_names = [];
   shapes = shapes;
-  sets = record { decls = decl 0 ∷ [] } ∷ record { decls = decl 1 ∷ [] } ∷ record { decls = decl 2 ∷ [] } ∷ record { decls = decl 3 ∷ [] } ∷ [];
+  sets = record { decls = decl 0 ∷ [] } ∷ record { decls = decl 1 ∷ [] }
+      ∷ record { decls = decl 2 ∷ [] } ∷ record { decls = decl 3 ∷ [] } ∷ [];
   decls = run_decl ∷ println_decl ∷ plus_decl ∷ counter_decl ∷ [];
   first = Call (set 0) [];
   opening = map holding locations;
@@ -149,4 +160,5 @@ GuardedIsAccepted = Sound guarded × KeepsRules guarded × Complete guarded
 
 -- So no machine of it is stuck.
 abbrev pub GuardedGoesOn : Type 0
-GuardedGoesOn = (inner : Bool) (s : Store) (t : Term) → Reached guarded inner s t → Goes guarded inner s t
+GuardedGoesOn = (inner : Bool) (s : Store) (t : Term) → Reached guarded inner s t
+    → Goes guarded inner s t

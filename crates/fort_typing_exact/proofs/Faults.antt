@@ -24,10 +24,14 @@ ordered (suc m) (suc n) = by (ordered m n)
     by (over l) = over (omega arith)
 
 same-place : (a b : Place) → a.line ≡ b.line → a.column ≡ b.column → a ≡ b
-same-place a b l c = ap (λ (n : ℕ). let p : Place = record { line = n; column = a.column } in p) l ∙ ap (λ (n : ℕ). let p : Place = record { line = b.line; column = n } in p) c
+same-place a b l c =
+    ap (λ (n : ℕ). let p : Place = record { line = n; column = a.column } in p) l ∙ ap (λ
+    (n : ℕ). let p : Place = record { line = b.line; column = n } in p) c
 
 same-fault : (a b : Fault) → a.rule.0 ≡ b.rule.0 → a.place ≡ b.place → a ≡ b
-same-fault a b r p = ap (λ (n : ℕ). let f : Fault = record { rule = record { 0 = n }; place = a.place } in f) r ∙ ap (λ (q : Place). let f : Fault = record { rule = b.rule; place = q } in f) p
+same-fault a b r p =
+    ap (λ (n : ℕ). let f : Fault = record { rule = record { 0 = n }; place = a.place } in f) r
+    ∙ ap (λ (q : Place). let f : Fault = record { rule = b.rule; place = q } in f) p
 
 earlier-is : (a b : Fault) → a.place.line < b.place.line → goes_first a b ≡ true
 unfolding goes_first
@@ -37,23 +41,28 @@ later-is : (a b : Fault) → b.place.line < a.place.line → goes_first a b ≡ 
 unfolding goes_first
 later-is a b l = grind (arith, nat_tests)
 
-left-is : (a b : Fault) → a.place.line ≡ b.place.line → a.place.column < b.place.column → goes_first a b ≡ true
+left-is : (a b : Fault) → a.place.line ≡ b.place.line → a.place.column < b.place.column
+    → goes_first a b ≡ true
 unfolding goes_first
 left-is a b l c = grind (arith, nat_tests)
 
-right-is : (a b : Fault) → a.place.line ≡ b.place.line → b.place.column < a.place.column → goes_first a b ≡ false
+right-is : (a b : Fault) → a.place.line ≡ b.place.line → b.place.column < a.place.column
+    → goes_first a b ≡ false
 unfolding goes_first
 right-is a b l c = grind (arith, nat_tests)
 
-lower-is : (a b : Fault) → a.place.line ≡ b.place.line → a.place.column ≡ b.place.column → a.rule.0 < b.rule.0 → goes_first a b ≡ true
+lower-is : (a b : Fault) → a.place.line ≡ b.place.line → a.place.column ≡ b.place.column
+    → a.rule.0 < b.rule.0 → goes_first a b ≡ true
 unfolding goes_first
 lower-is a b l c r = grind (arith, nat_tests)
 
-higher-is : (a b : Fault) → a.place.line ≡ b.place.line → a.place.column ≡ b.place.column → b.rule.0 < a.rule.0 → goes_first a b ≡ false
+higher-is : (a b : Fault) → a.place.line ≡ b.place.line → a.place.column ≡ b.place.column
+    → b.rule.0 < a.rule.0 → goes_first a b ≡ false
 unfolding goes_first
 higher-is a b l c r = grind (arith, nat_tests)
 
-even-is : (a b : Fault) → a.place.line ≡ b.place.line → a.place.column ≡ b.place.column → a.rule.0 ≡ b.rule.0 → goes_first a b ≡ false
+even-is : (a b : Fault) → a.place.line ≡ b.place.line → a.place.column ≡ b.place.column
+    → a.rule.0 ≡ b.rule.0 → goes_first a b ≡ false
 unfolding goes_first
 even-is a b l c r = grind (arith, nat_tests)
 
@@ -64,13 +73,15 @@ not-both t f = absurd cc
 pub before-is : (a b : Fault) → GoesBefore a b → goes_first a b ≡ true
 before-is a b (earlier (inl l)) = earlier-is a b l
 before-is a b (earlier (inr (l, c))) = left-is a b l c
-before-is a b (lower p r) = lower-is a b (ap (λ (q : Place). q.line) p) (ap (λ (q : Place). q.column) p) r
+before-is a b (lower p r) =
+    lower-is a b (ap (λ (q : Place). q.line) p) (ap (λ (q : Place). q.column) p) r
 
 -- and the other way round
 pub before-told : (a b : Fault) → goes_first a b ≡ true → GoesBefore a b
 before-told a b t = lines (ordered a.place.line b.place.line)
   where
-    rules : a.place.line ≡ b.place.line → a.place.column ≡ b.place.column → Ordered a.rule.0 b.rule.0 → GoesBefore a b
+    rules : a.place.line ≡ b.place.line → a.place.column ≡ b.place.column
+        → Ordered a.rule.0 b.rule.0 → GoesBefore a b
     rules l c (under r) = lower (same-place a.place b.place l c) r
     rules l c (alike r) = not-both t (even-is a b l c r)
     rules l c (over r) = not-both t (higher-is a b l c r)
@@ -89,7 +100,8 @@ before-told a b t = lines (ordered a.place.line b.place.line)
 pub neither-first : (a b : Fault) → goes_first a b ≡ false → goes_first b a ≡ false → a ≡ b
 neither-first a b f g = lines (ordered a.place.line b.place.line)
   where
-    rules : a.place.line ≡ b.place.line → a.place.column ≡ b.place.column → Ordered a.rule.0 b.rule.0 → a ≡ b
+    rules : a.place.line ≡ b.place.line → a.place.column ≡ b.place.column
+        → Ordered a.rule.0 b.rule.0 → a ≡ b
     rules l c (under r) = not-both (lower-is a b l c r) f
     rules l c (alike r) = same-fault a b r (same-place a.place b.place l c)
     rules l c (over r) = not-both (lower-is b a (sym l) (sym c) r) g

@@ -33,7 +33,8 @@ any-told : (ms : List Member) → any_unit ms ≡ true → UnitAt ms
 any-told [] e = absurd (let z : false ≡ true = e in cc)
 any-told (m ∷ ms) e = by (λ h. any-told ms h) (is_unit_at (out-Ty m.result)) refl e
   where
-    by : (any_unit ms ≡ true → UnitAt ms) → (c : Bool) → is_unit_at (out-Ty m.result) ≡ c → cond c true (any_unit ms) ≡ true → UnitAt (m ∷ ms)
+    by : (any_unit ms ≡ true → UnitAt ms) → (c : Bool) → is_unit_at (out-Ty m.result) ≡ c
+        → cond c true (any_unit ms) ≡ true → UnitAt (m ∷ ms)
     by more true u h = (0, m, refl, unit-told m.result u)
     by more false u h = let r = more h in (suc r.0, r.1, r.2, r.3)
 
@@ -41,10 +42,15 @@ always : (c : Bool) → cond c true true ≡ true
 always true = refl
 always false = refl
 
-any-is : (ms : List Member) (n : ℕ) (m : Member) → slice_get ms n ≡ Some m → m.result ≡ unit → any_unit ms ≡ true
+any-is : (ms : List Member) (n : ℕ) (m : Member) → slice_get ms n ≡ Some m → m.result ≡ unit
+    → any_unit ms ≡ true
 any-is [] n m e u = absurd cc
-any-is (c ∷ ms) zero m e u = let q : c ≡ m = cc in ap (λ b. cond b true (any_unit ms)) (unit-is c.result (ap (λ (z : Member). z.result) q ∙ u))
-any-is (c ∷ ms) (suc n) m e u = ap (λ b. cond (is_unit_at (out-Ty c.result)) true b) (any-is ms n m e u) ∙ always (is_unit_at (out-Ty c.result))
+any-is (c ∷ ms) zero m e u =
+    let q : c ≡ m = cc
+    in ap (λ b. cond b true (any_unit ms)) (unit-is c.result (ap (λ (z : Member). z.result) q ∙ u))
+any-is (c ∷ ms) (suc n) m e u =
+    ap (λ b. cond (is_unit_at (out-Ty c.result)) true b) (any-is ms n m e u)
+    ∙ always (is_unit_at (out-Ty c.result))
 
 pub run-is : (k : Knows) → HasRun k → has_run k.facts ≡ true
 unfolding has_run
@@ -54,6 +60,9 @@ pub run-told : (k : Knows) → has_run k.facts ≡ true → HasRun k
 unfolding has_run
 run-told k e = by (set_at k (set_of k.facts (codes "run") false 0)) refl e
   where
-    by : (o : Option MemberSet) → set_at k (set_of k.facts (codes "run") false 0) ≡ o → runs_in o ≡ true → HasRun k
+    by : (o : Option MemberSet) → set_at k (set_of k.facts (codes "run") false 0) ≡ o
+        → runs_in o ≡ true → HasRun k
     by None q h = absurd (let z : false ≡ true = h in cc)
-    by (Some s) q h = let r = any-told s.members h in record { set = s; is = q; at = r.0; declaration = r.1; stands = r.2; result = r.3 }
+    by (Some s) q h =
+        let r = any-told s.members h
+        in record { set = s; is = q; at = r.0; declaration = r.1; stands = r.2; result = r.3 }

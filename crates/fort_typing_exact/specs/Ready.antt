@@ -11,8 +11,9 @@ use Rattle.fort_known.specs.Known.{Knows}
 use Rattle.fort_typing_laws.specs.Deciding.{IsType, IsAccepted}
 use Rattle.fort_typing_laws.specs.Written.{IsWritten}
 
--- A function or a method with a body: its types, those that are written in its body, and the type in whose declaration it stands, are the component's, and
--- its body is an expression of a shape that the grammar gives.
+-- A function or a method with a body: its types, those that are written in its body, and the type
+-- in whose declaration it stands, are the component's, and its body is an expression of a shape
+-- that the grammar gives.
 pub record IsBodyReady (k : Knows) (b : BodyForm) : Type 0 where
   pub owner : (t : TypeId) → b.owner ≡ Some t → t.0 < length k.declared
   pub parameters : AllByRecursion (λ (p : Parameter). IsType k p.ty) b.parameters
@@ -20,7 +21,8 @@ pub record IsBodyReady (k : Knows) (b : BodyForm) : Type 0 where
   pub written : IsWritten k b.body
   pub shaped : IsShaped b.body
 
--- The component is accepted, and so are its forms: the written types of variables and fields are the component's, and its bodies are as above.
+-- The component is accepted, and so are its forms: the written types of variables and fields are
+-- the component's, and its bodies are as above.
 pub record IsReady (k : Knows) (forms : Forms) : Type 0 where
   pub accepted : IsAccepted k
   pub initials : AllByRecursion (λ (i : InitialForm). IsType k i.ty) forms.initials

@@ -1,4 +1,5 @@
-//! Laws of typing: what a whole component becomes by the rules, or the broken rule that is reported, is what is computed.
+//! Laws of typing: what a whole component becomes by the rules, or the broken rule that is
+//! reported, is what is computed.
 #![tactic(auto)]
 
 mod laws;

@@ -1,4 +1,5 @@
--- A juxtaposition of some elements, none of which is a postfix, answers exactly where its elements do.
+-- A juxtaposition of some elements, none of which is a postfix, answers exactly where its elements
+-- do.
 use Rattle.std.proofs.Common.{◌≡◌, ◌⊎◌, inl, inr, ℕ, zero, true, false, List, [], ◌∷◌, map, Option, Some, None, Result, Ok, Err, refl, ap, ◌∙◌, subst}
 use Rattle.std.specs.List.{AllByRecursion}
 use Rattle.fort_base.specs.declared.refusal.CheckFault.{CheckFault}
@@ -56,63 +57,92 @@ module _ (k : Knows) (A : IsAccepted k) (ps : List Part) (T : AreTyped k ps) whe
 
   -- What a juxtaposition answers.
   pub data BesideTold (found : Option Fault) (o : Outcome) : Type 0 where
-    beside_becomes : (t : TypedForm) (new : Option Fault) → element.Stands k (Calls k) ps t → IsFirst found BesideBreaks new → o ≡ value t new → BesideTold found o
-    beside_broken : (f : Fault) (new : Option Fault) → BesideBreaks f → IsFirst found BesideBreaks new → o ≡ untyped new → BesideTold found o
-    beside_unknown : (new : Option Fault) → HasUnknown ps → IsFirst found BesideBreaks new → o ≡ untyped new → BesideTold found o
+    beside_becomes : (t : TypedForm) (new : Option Fault) → element.Stands k (Calls k) ps t
+        → IsFirst found BesideBreaks new → o ≡ value t new → BesideTold found o
+    beside_broken : (f : Fault) (new : Option Fault) → BesideBreaks f
+        → IsFirst found BesideBreaks new → o ≡ untyped new → BesideTold found o
+    beside_unknown : (new : Option Fault) → HasUnknown ps → IsFirst found BesideBreaks new
+        → o ≡ untyped new → BesideTold found o
 
   module _ (g : Grouping) (h : loose.Groups (element.elements ps) (Ok g)) where
     group-of : (f : Fault) → BesideBreaks f → element.GroupBreaks k (Calls k) ps g f
-    group-of f (element.name_alone r at i e) = let z = one_grouping (element.elements ps) _ _ i h in absurd cc
-    group-of f (element.in_group g2 i b) = let z = one_grouping (element.elements ps) _ _ i h in let q : g2 ≡ g = cc in subst (λ (x : Grouping). element.GroupBreaks k (Calls k) ps x f) q b
+    group-of f (element.name_alone r at i e) =
+        let z = one_grouping (element.elements ps) _ _ i h in absurd cc
+    group-of f (element.in_group g2 i b) =
+        let z = one_grouping (element.elements ps) _ _ i h in let q : g2 ≡ g = cc
+        in subst (λ (x : Grouping). element.GroupBreaks k (Calls k) ps x f) q b
 
-    grouped-told : (found : Option Fault) (o : Outcome) → GroupTold k A ps T g found → o ≡ grown_outcome (grows k.facts ps g found) → BesideTold found o
+    grouped-told : (found : Option Fault) (o : Outcome) → GroupTold k A ps T g found
+        → o ≡ grown_outcome (grows k.facts ps g found) → BesideTold found o
     grouped-told found o (group_told q new G P i e why) is = by P
       where
         all : IsFirst found BesideBreaks new
-        all = alike found (element.GroupBreaks k (Calls k) ps g) BesideBreaks new (λ f b. element.in_group g h b) group-of i
+        all = alike found (element.GroupBreaks k (Calls k) ps g) BesideBreaks new
+            (λ f b. element.in_group g h b) group-of i
 
         so : (m : Meaning) → q.meaning ≡ m → o ≡ record { seen = m; found = new }
         so m z = is ∙ ap grown_outcome e ∙ ap (λ (x : Meaning). record { seen = x; found = new }) z
 
-        caused : o ≡ untyped new → ((f : Fault) × element.GroupBreaks k (Calls k) ps g f) ⊎ HasUnknown ps → BesideTold found o
+        caused : o ≡ untyped new
+            → ((f : Fault) × element.GroupBreaks k (Calls k) ps g f) ⊎ HasUnknown ps
+            → BesideTold found o
         caused z (inl (f, b)) = beside_broken f new (element.in_group g h b) all z
         caused z (inr u) = beside_unknown new u all z
 
         by : Plain q → BesideTold found o
-        by (a_value u z) = beside_becomes u new (element.grouped g q h G z) all (so (a_meaning.Value u) z)
+        by (a_value u z) =
+            beside_becomes u new (element.grouped g q h G z) all (so (a_meaning.Value u) z)
         by (no_type z) = caused (so a_meaning.Unknown z) (why z)
 
   -- a name that ends its chunk
-  only-refused : (r : Rule) (at : Place) → loose.Groups (element.elements ps) (Err (a_fault.Refused r at)) → (f : Fault) → BesideBreaks f → f ≡ fault r at
+  only-refused : (r : Rule) (at : Place)
+      → loose.Groups (element.elements ps) (Err (a_fault.Refused r at)) → (f : Fault)
+      → BesideBreaks f → f ≡ fault r at
   only-refused r at h f (element.name_alone r2 at2 i e) =
       let z = one_grouping (element.elements ps) _ _ i h in
       let p : r2 ≡ r = cc in
       let q : at2 ≡ at = cc in
       e ∙ ap (λ (x : Rule). fault x at2) p ∙ ap (λ (x : Place). fault r x) q
-  only-refused r at h f (element.in_group g i b) = absurd (let z = one_grouping (element.elements ps) _ _ i h in cc)
+  only-refused r at h f (element.in_group g i b) =
+      absurd (let z = one_grouping (element.elements ps) _ _ i h in cc)
 
-  name-told : (r : Rule) (at : Place) → loose.Groups (element.elements ps) (Err (a_fault.Refused r at)) → (found : Option Fault) → BesideTold found (refused r at found)
+  name-told : (r : Rule) (at : Place)
+      → loose.Groups (element.elements ps) (Err (a_fault.Refused r at)) → (found : Option Fault)
+      → BesideTold found (refused r at found)
   unfolding breaks
-  name-told r at h found = beside_broken (fault r at) (with_fault (fault r at) found) (element.name_alone r at h refl)
-      (alike found (λ f. f ≡ fault r at) BesideBreaks (with_fault (fault r at) found) (λ f e. element.name_alone r at h e) (only-refused r at h) (one_more (fault r at) found)) refl
+  name-told r at h found =
+      beside_broken (fault r at) (with_fault (fault r at) found) (element.name_alone r at h refl)
+      (alike found (λ f. f
+      ≡ fault r at) BesideBreaks (with_fault (fault r at) found)
+      (λ f e. element.name_alone r at h e) (only-refused r at h)
+      (one_more (fault r at) found)) refl
 
-  pub beside-told : AllFit ps → NoPostfix ps → (element.elements ps ≡ [] → ⊥) → (found : Option Fault) → BesideTold found (beside k.facts ps found)
+  pub beside-told : AllFit ps → NoPostfix ps → (element.elements ps ≡ [] → ⊥)
+      → (found : Option Fault) → BesideTold found (beside k.facts ps found)
   unfolding beside grouping_of
   beside-told F N filled found = by (first_place loose.name_ends zero (element.elements ps)) refl
     where
-      by : (o : Option (ℕ × List Element)) → first_place loose.name_ends zero (element.elements ps) ≡ o → BesideTold found (grouped_by k.facts ps (grouping_by (element.elements ps) o) found)
-      by (Some (n, [])) e = let m = first-told loose.name_ends zero n (element.elements ps) [] e in absurd (let z : false ≡ true = m.2.met in cc)
+      by : (o : Option (ℕ × List Element))
+          → first_place loose.name_ends zero (element.elements ps) ≡ o
+          → BesideTold found (grouped_by k.facts ps (grouping_by (element.elements ps) o) found)
+      by (Some (n, [])) e =
+          let m = first-told loose.name_ends zero n (element.elements ps) [] e in absurd
+          (let z : false ≡ true = m.2.met in cc)
       by (Some (n, x ∷ after)) e =
           let m = first-told loose.name_ends zero n (element.elements ps) (x ∷ after) e in
           name-told FUNCTION_AS_VALUE x.place (loose.name_alone m.0 after x m.2 refl) found
       by None e =
           let never = nowhere-told loose.name_ends zero (element.elements ps) e in
-          let G = grouping-good k A ps T F N never filled (chunks_of (element.elements ps)) (divided (element.elements ps)) in
-          grouped-told G.0 (loose.grouped never (chunks_of (element.elements ps)) (divided (element.elements ps)) G.0 G.1 refl) found _ (good-told k A ps T G.2 found)
+          let G = grouping-good k A ps T F N never filled (chunks_of (element.elements ps))
+          (divided (element.elements ps)) in
+          grouped-told G.0
+          (loose.grouped never (chunks_of (element.elements ps)) (divided (element.elements ps))
+          G.0 G.1 refl) found _ (good-told k A ps T G.2 found)
           (ap (λ (r : Result Grouping CheckFault). grouped_by k.facts ps r found) (ap first_of G.1))
 
 module _ (k : Knows) where
-  no-postfixes : (es : List Form) → AreExact k es → AllByRecursion (λ (d : Form). rule.postfix_at (out-Form d) ≡ false) es
+  no-postfixes : (es : List Form) → AreExact k es
+      → AllByRecursion (λ (d : Form). rule.postfix_at (out-Form d) ≡ false) es
   no-postfixes [] X = tt
   no-postfixes (d ∷ ds) X = (X.0.0, no-postfixes ds X.1)
 
@@ -120,8 +150,10 @@ module _ (k : Knows) where
   exact-each [] X = tt
   exact-each (d ∷ ds) X = (X.0.1, exact-each ds X.1)
 
-module _ (k : Knows) (A : IsAccepted k) (bs : List Binding) (B : AreBound k bs) (e : Form) (found : Option Fault) (p : Place) (d : Form) (ds : List Form)
-    (is : out-Form e ≡ Form-F.Beside p (d ∷ ds)) (W : AllWritten k (d ∷ ds)) (X : AreExact k (d ∷ ds)) where
+module _ (k : Knows) (A : IsAccepted k) (bs : List Binding) (B : AreBound k bs) (e : Form)
+    (found : Option Fault) (p : Place) (d : Form) (ds : List Form)
+    (is : out-Form e ≡ Form-F.Beside p (d ∷ ds)) (W : AllWritten k (d ∷ ds))
+    (X : AreExact k (d ∷ ds)) where
   abbrev Goal : Type 0
   Goal = Answers k bs e found ((judged k.facts e).answer bs found)
 
@@ -131,8 +163,10 @@ module _ (k : Knows) (A : IsAccepted k) (bs : List Binding) (B : AreBound k bs) 
   each : EachExact k A bs B (d ∷ ds)
   each = exact-each k (d ∷ ds) X
 
-  module _ (ps : List Part) (mid : Option Fault) (asked : breaking.AsksParts k bs (d ∷ ds) ps) (T : AreTyped k ps) (i : IsFirst found (breaking.BreaksParts k bs (d ∷ ds)) mid)
-      (eq : elements (map (judged k.facts) (d ∷ ds)) (st opened bs found) ≡ st (record opened { parts = ps }) bs mid) where
+  module _ (ps : List Part) (mid : Option Fault) (asked : breaking.AsksParts k bs (d ∷ ds) ps)
+      (T : AreTyped k ps) (i : IsFirst found (breaking.BreaksParts k bs (d ∷ ds)) mid)
+      (eq : elements (map (judged k.facts) (d ∷ ds)) (st opened bs found)
+      ≡ st (record opened { parts = ps }) bs mid) where
     to : (f : Fault) → Inside ps f → FormBreaks k bs e f
     to f (inl b) = inl (breaking.in_beside p (d ∷ ds) is b)
     to f (inr b) = inl (breaking.no_beside p (d ∷ ds) ps is asked b)
@@ -140,38 +174,55 @@ module _ (k : Knows) (A : IsAccepted k) (bs : List Binding) (B : AreBound k bs) 
     from : (f : Fault) → FormBreaks k bs e f → Inside ps f
     from f b = by (only-left k A (of-layer k A bs e f is b))
       where
-        by : breaking.BreaksParts k bs (d ∷ ds) f ⊎ ((qs : List Part) × breaking.AsksParts k bs (d ∷ ds) qs × element.BesideBreaks k (Calls k) qs f) → Inside ps f
+        by : breaking.BreaksParts k bs (d ∷ ds) f
+            ⊎ ((qs : List Part) × breaking.AsksParts k bs (d ∷ ds) qs
+            × element.BesideBreaks k (Calls k) qs f) → Inside ps f
         by (inl x) = inl x
-        by (inr (qs, h, x)) = inr (subst (λ (zs : List Part). element.BesideBreaks k (Calls k) zs f) (one-asked k A bs B (d ∷ ds) qs ps W each h asked) x)
+        by (inr (qs, h, x)) =
+            inr (subst (λ
+            (zs : List Part). element.BesideBreaks k (Calls k) zs f)
+            (one-asked k A bs B (d ∷ ds) qs ps W each h asked) x)
 
     so : (o : Outcome) → beside k.facts ps mid ≡ o → (judged k.facts e).answer bs found ≡ o
     so o q = at k A e bs found (st (record opened { parts = ps }) bs mid) is eq q
 
-    all : (new : Option Fault) → IsFirst mid (element.BesideBreaks k (Calls k) ps) new → IsFirst found (Inside ps) new
-    all new j = both found mid new (breaking.BreaksParts k bs (d ∷ ds)) (element.BesideBreaks k (Calls k) ps) i j
+    all : (new : Option Fault) → IsFirst mid (element.BesideBreaks k (Calls k) ps) new
+        → IsFirst found (Inside ps) new
+    all new j =
+        both found mid new (breaking.BreaksParts k bs (d ∷ ds))
+        (element.BesideBreaks k (Calls k) ps) i j
 
     told : BesideTold k A ps T mid (beside k.facts ps mid)
-    told = beside-told k A ps T (asked-fit k bs (d ∷ ds) ps asked) (asked-plain k bs (d ∷ ds) ps (no-postfixes k (d ∷ ds) X) asked) (asked-filled k bs d ds ps asked) mid
+    told = beside-told k A ps T (asked-fit k bs (d ∷ ds) ps asked)
+        (asked-plain k bs (d ∷ ds) ps (no-postfixes k (d ∷ ds) X) asked)
+        (asked-filled k bs d ds ps asked) mid
 
     known-beside : rule.HasParts k (Calls k) bs (d ∷ ds) ps → Goal
     known-beside hs = by told
       where
         by : BesideTold k A ps T mid (beside k.facts ps mid) → Goal
-        by (beside_becomes t new b j q) = typed-so k A bs e found new (Inside ps) _ (all new j) to t (rule.beside p (d ∷ ds) ps is hs b) from (so _ q)
-        by (beside_broken f new b j q) = broken-so k A bs e found new (Inside ps) _ (all new j) to f (inr b) from (so _ q)
+        by (beside_becomes t new b j q) =
+            typed-so k A bs e found new (Inside ps) _ (all new j) to t
+            (rule.beside p (d ∷ ds) ps is hs b) from (so _ q)
+        by (beside_broken f new b j q) =
+            broken-so k A bs e found new (Inside ps) _ (all new j) to f (inr b) from (so _ q)
         by (beside_unknown new u j q) = absurd (parts-known k hs u)
 
     unknown-beside : (f : Fault) → breaking.BreaksParts k bs (d ∷ ds) f → Goal
     unknown-beside f x = by told
       where
         by : BesideTold k A ps T mid (beside k.facts ps mid) → Goal
-        by (beside_becomes t new b j q) = absurd (unknown-stands k A ps t b (asked-unknown k A bs B (d ∷ ds) ps W each asked f x))
-        by (beside_broken g new b j q) = broken-so k A bs e found new (Inside ps) _ (all new j) to g (inr b) from (so _ q)
-        by (beside_unknown new u j q) = broken-so k A bs e found new (Inside ps) _ (all new j) to f (inl x) from (so _ q)
+        by (beside_becomes t new b j q) =
+            absurd (unknown-stands k A ps t b (asked-unknown k A bs B (d ∷ ds) ps W each asked f x))
+        by (beside_broken g new b j q) =
+            broken-so k A bs e found new (Inside ps) _ (all new j) to g (inr b) from (so _ q)
+        by (beside_unknown new u j q) =
+            broken-so k A bs e found new (Inside ps) _ (all new j) to f (inl x) from (so _ q)
 
   pub beside-exact : Goal
   beside-exact = by (elements-exact k A bs B (d ∷ ds) opened found W each)
     where
-      by : Elements k A bs B (d ∷ ds) opened found (elements (map (judged k.facts) (d ∷ ds)) (st opened bs found)) → Goal
+      by : Elements k A bs B (d ∷ ds) opened found
+          (elements (map (judged k.facts) (d ∷ ds)) (st opened bs found)) → Goal
       by (all_known ps mid hs asked T i eq) = known-beside ps mid asked T i eq hs
       by (one_unknown f ps mid x asked T i eq) = unknown-beside ps mid asked T i eq f x

@@ -71,9 +71,12 @@ module _ (k : Knows) where
   Layer (Form-F.If p branches other) = AllByRecursion BranchWritten branches × MayBeWritten other
   Layer (Form-F.While p c b) = IsWritten k c × IsWritten k b
   Layer (Form-F.For p gs b) = AllByRecursion GeneratorWritten gs × IsWritten k b
-  Layer (Form-F.Case p s branches other) = IsWritten k s × AllByRecursion BranchWritten branches × MayBeWritten other
-  Layer (Form-F.Typecase p at name s branches other) = IsWritten k s × AllByRecursion ClauseWritten branches × MayBeWritten other
-  Layer (Form-F.Try p b name branches last) = IsWritten k b × AllByRecursion ClauseWritten branches × MayBeWritten last
+  Layer (Form-F.Case p s branches other) = IsWritten k s × AllByRecursion BranchWritten branches
+      × MayBeWritten other
+  Layer (Form-F.Typecase p at name s branches other) = IsWritten k s
+      × AllByRecursion ClauseWritten branches × MayBeWritten other
+  Layer (Form-F.Try p b name branches last) = IsWritten k b × AllByRecursion ClauseWritten branches
+      × MayBeWritten last
   Layer (Form-F.Atomic p e) = IsWritten k e
   Layer (Form-F.Tryatomic p e) = IsWritten k e
   Layer (Form-F.Throw p e) = IsWritten k e
@@ -90,45 +93,74 @@ module _ (k : Knows) where
 
   all-forms : (es : List Form) → AreTypes k (together (map written es)) → AllWritten es
   all-forms [] h = tt
-  all-forms (e ∷ es) h = (front (written e) (together (map written es)) h, all-forms es (back (written e) (together (map written es)) h))
+  all-forms (e ∷ es) h = (
+    front (written e) (together (map written es)) h,
+    all-forms es (back (written e) (together (map written es)) h),
+  )
 
-  all-items : (is : List Item) → AreTypes k (together (map written_item is)) → AllByRecursion ItemWritten is
+  all-items : (is : List Item) → AreTypes k (together (map written_item is))
+      → AllByRecursion ItemWritten is
   all-items [] h = tt
-  all-items (i ∷ is) h = (front (written_item i) (together (map written_item is)) h, all-items is (back (written_item i) (together (map written_item is)) h))
+  all-items (i ∷ is) h = (
+    front (written_item i) (together (map written_item is)) h,
+    all-items is (back (written_item i) (together (map written_item is)) h),
+  )
 
   one-branch : (b : Branch) → AreTypes k (written_branch b) → BranchWritten b
-  one-branch b h = let i = subst (AreTypes k) (branch-is b) h in (front (written (test_of b)) (written (value_of b)) i, back (written (test_of b)) (written (value_of b)) i)
+  one-branch b h =
+      let i = subst (AreTypes k) (branch-is b) h
+      in (
+        front (written (test_of b)) (written (value_of b)) i,
+        back (written (test_of b)) (written (value_of b)) i,
+      )
 
-  all-branches : (bs : List Branch) → AreTypes k (together (map written_branch bs)) → AllByRecursion BranchWritten bs
+  all-branches : (bs : List Branch) → AreTypes k (together (map written_branch bs))
+      → AllByRecursion BranchWritten bs
   all-branches [] h = tt
-  all-branches (b ∷ bs) h = (one-branch b (front (written_branch b) (together (map written_branch bs)) h), all-branches bs (back (written_branch b) (together (map written_branch bs)) h))
+  all-branches (b ∷ bs) h = (
+    one-branch b (front (written_branch b) (together (map written_branch bs)) h),
+    all-branches bs (back (written_branch b) (together (map written_branch bs)) h),
+  )
 
   one-generator : (g : Generator) → AreTypes k (written_generator g) → GeneratorWritten g
   one-generator g h = subst (AreTypes k) (generator-is g) h
 
-  all-generators : (gs : List Generator) → AreTypes k (together (map written_generator gs)) → AllByRecursion GeneratorWritten gs
+  all-generators : (gs : List Generator) → AreTypes k (together (map written_generator gs))
+      → AllByRecursion GeneratorWritten gs
   all-generators [] h = tt
-  all-generators (g ∷ gs) h = (one-generator g (front (written_generator g) (together (map written_generator gs)) h), all-generators gs (back (written_generator g) (together (map written_generator gs)) h))
+  all-generators (g ∷ gs) h = (
+    one-generator g (front (written_generator g) (together (map written_generator gs)) h),
+    all-generators gs (back (written_generator g) (together (map written_generator gs)) h),
+  )
 
   one-clause : (b : TypeBranch) → AreTypes k (written_clause b) → ClauseWritten b
   one-clause b h = subst (AreTypes k) (clause-is b) h
 
-  all-clauses : (bs : List TypeBranch) → AreTypes k (together (map written_clause bs)) → AllByRecursion ClauseWritten bs
+  all-clauses : (bs : List TypeBranch) → AreTypes k (together (map written_clause bs))
+      → AllByRecursion ClauseWritten bs
   all-clauses [] h = tt
-  all-clauses (b ∷ bs) h = (one-clause b (front (written_clause b) (together (map written_clause bs)) h), all-clauses bs (back (written_clause b) (together (map written_clause bs)) h))
+  all-clauses (b ∷ bs) h = (
+    one-clause b (front (written_clause b) (together (map written_clause bs)) h),
+    all-clauses bs (back (written_clause b) (together (map written_clause bs)) h),
+  )
 
   may-be : (o : Option Form) → AreTypes k (if_there (option_map written o)) → MayBeWritten o
   may-be None h = tt
   may-be (Some e) h = h
 
-  all-parameters : (ps : List Parameter) → AreTypes k (map parameter_type ps) → AllByRecursion (λ (q : Parameter). IsType k q.ty) ps
+  all-parameters : (ps : List Parameter) → AreTypes k (map parameter_type ps)
+      → AllByRecursion (λ (q : Parameter). IsType k q.ty) ps
   all-parameters [] h = tt
   all-parameters (p ∷ ps) h = (h.0, all-parameters ps h.1)
 
-  abbrev mapped : Form-F Form Item Branch Generator TypeBranch → Form-F (List Ty) (List Ty) (List Ty) (List Ty) (List Ty)
-  mapped x = map-Form Form Item Branch Generator TypeBranch (List Ty) (List Ty) (List Ty) (List Ty) (List Ty) written written_item written_branch written_generator written_clause x
+  abbrev mapped : Form-F Form Item Branch Generator TypeBranch
+      → Form-F (List Ty) (List Ty) (List Ty) (List Ty) (List Ty)
+  mapped x =
+      map-Form Form Item Branch Generator TypeBranch (List Ty) (List Ty) (List Ty) (List Ty)
+      (List Ty) written written_item written_branch written_generator written_clause x
 
-  layer : (x : Form-F Form Item Branch Generator TypeBranch) → AreTypes k (written_form (mapped x)) → Layer x
+  layer : (x : Form-F Form Item Branch Generator TypeBranch) → AreTypes k (written_form (mapped x))
+      → Layer x
   layer (Form-F.Number p n) h = tt
   layer (Form-F.Text p n) h = tt
   layer (Form-F.Truth p b) h = tt
@@ -144,64 +176,120 @@ module _ (k : Knows) where
   layer (Form-F.Subscript p e) h = h
   layer (Form-F.Power p e) h = h
   layer (Form-F.Method p at name es) h = all-forms es h
-  layer (Form-F.Fill p ty n v) h = (h.0, front (written n) (written v) h.1, back (written n) (written v) h.1)
+  layer (Form-F.Fill p ty n v) h =
+      (h.0, front (written n) (written v) h.1, back (written n) (written v) h.1)
   layer (Form-F.Block p is) h = all-items is h
   layer (Form-F.Do p blocks) h = all-forms blocks h
-  layer (Form-F.If p branches None) h = (all-branches branches (front (together (map written_branch branches)) [] h), tt)
-  layer (Form-F.If p branches (Some d)) h = (all-branches branches (front (together (map written_branch branches)) (written d) h), back (together (map written_branch branches)) (written d) h)
+  layer (Form-F.If p branches None) h =
+      (all-branches branches (front (together (map written_branch branches)) [] h), tt)
+  layer (Form-F.If p branches (Some d)) h = (
+    all-branches branches (front (together (map written_branch branches)) (written d) h),
+    back (together (map written_branch branches)) (written d) h,
+  )
   layer (Form-F.While p c b) h = (front (written c) (written b) h, back (written c) (written b) h)
-  layer (Form-F.For p gs b) h = (all-generators gs (front (together (map written_generator gs)) (written b) h), back (together (map written_generator gs)) (written b) h)
+  layer (Form-F.For p gs b) h = (
+    all-generators gs (front (together (map written_generator gs)) (written b) h),
+    back (together (map written_generator gs)) (written b) h,
+  )
   layer (Form-F.Case p s branches None) h =
-      let r = front (written s ++ together (map written_branch branches)) [] h in
-      (front (written s) (together (map written_branch branches)) r, all-branches branches (back (written s) (together (map written_branch branches)) r), tt)
+      let r = front (written s ++ together (map written_branch branches)) [] h in (
+        front (written s) (together (map written_branch branches)) r,
+        all-branches branches (back (written s) (together (map written_branch branches)) r),
+        tt,
+      )
   layer (Form-F.Case p s branches (Some d)) h =
-      let r = front (written s ++ together (map written_branch branches)) (written d) h in
-      (front (written s) (together (map written_branch branches)) r, all-branches branches (back (written s) (together (map written_branch branches)) r), back (written s ++ together (map written_branch branches)) (written d) h)
+      let r = front (written s ++ together (map written_branch branches)) (written d) h in (
+        front (written s) (together (map written_branch branches)) r,
+        all-branches branches (back (written s) (together (map written_branch branches)) r),
+        back (written s ++ together (map written_branch branches)) (written d) h,
+      )
   layer (Form-F.Typecase p at name s branches None) h =
-      let r = front (written s ++ together (map written_clause branches)) [] h in
-      (front (written s) (together (map written_clause branches)) r, all-clauses branches (back (written s) (together (map written_clause branches)) r), tt)
+      let r = front (written s ++ together (map written_clause branches)) [] h in (
+        front (written s) (together (map written_clause branches)) r,
+        all-clauses branches (back (written s) (together (map written_clause branches)) r),
+        tt,
+      )
   layer (Form-F.Typecase p at name s branches (Some d)) h =
-      let r = front (written s ++ together (map written_clause branches)) (written d) h in
-      (front (written s) (together (map written_clause branches)) r, all-clauses branches (back (written s) (together (map written_clause branches)) r), back (written s ++ together (map written_clause branches)) (written d) h)
+      let r = front (written s ++ together (map written_clause branches)) (written d) h in (
+        front (written s) (together (map written_clause branches)) r,
+        all-clauses branches (back (written s) (together (map written_clause branches)) r),
+        back (written s ++ together (map written_clause branches)) (written d) h,
+      )
   layer (Form-F.Try p s name branches None) h =
-      let r = front (written s ++ together (map written_clause branches)) [] h in
-      (front (written s) (together (map written_clause branches)) r, all-clauses branches (back (written s) (together (map written_clause branches)) r), tt)
+      let r = front (written s ++ together (map written_clause branches)) [] h in (
+        front (written s) (together (map written_clause branches)) r,
+        all-clauses branches (back (written s) (together (map written_clause branches)) r),
+        tt,
+      )
   layer (Form-F.Try p s name branches (Some d)) h =
-      let r = front (written s ++ together (map written_clause branches)) (written d) h in
-      (front (written s) (together (map written_clause branches)) r, all-clauses branches (back (written s) (together (map written_clause branches)) r), back (written s ++ together (map written_clause branches)) (written d) h)
+      let r = front (written s ++ together (map written_clause branches)) (written d) h in (
+        front (written s) (together (map written_clause branches)) r,
+        all-clauses branches (back (written s) (together (map written_clause branches)) r),
+        back (written s ++ together (map written_clause branches)) (written d) h,
+      )
   layer (Form-F.Atomic p e) h = h
   layer (Form-F.Tryatomic p e) h = h
   layer (Form-F.Throw p e) h = h
-  layer (Form-F.Fn p ps e) h = (all-parameters ps (front (map parameter_type ps) (written e) h), back (map parameter_type ps) (written e) h)
-  layer (Form-F.Reduce p r g e) h = (one-generator g (front (written_generator g) (written e) h), back (written_generator g) (written e) h)
-  layer (Form-F.Assign p t sign e) h = (front (written t) (written e) h, back (written t) (written e) h)
+  layer (Form-F.Fn p ps e) h = (
+    all-parameters ps (front (map parameter_type ps) (written e) h),
+    back (map parameter_type ps) (written e) h,
+  )
+  layer (Form-F.Reduce p r g e) h = (
+    one-generator g (front (written_generator g) (written e) h),
+    back (written_generator g) (written e) h,
+  )
+  layer (Form-F.Assign p t sign e) h =
+      (front (written t) (written e) h, back (written t) (written e) h)
 
   written-out : (e : Form) → written e ≡ written_form (mapped (out-Form e))
   unfolding written written_item written_branch written_generator written_clause
-  written-out e = fold_out-Form (List Ty) (List Ty) (List Ty) (List Ty) (List Ty) written_form written_part written_arm written_source written_case e
+  written-out e =
+      fold_out-Form (List Ty) (List Ty) (List Ty) (List Ty) (List Ty) written_form written_part
+      written_arm written_source written_case e
 
   -- what is written in a form is written in its parts
-  pub of-parts : (e : Form) {x : Form-F Form Item Branch Generator TypeBranch} → out-Form e ≡ x → IsWritten k e → Layer x
-  of-parts e {x = x} is h = layer x (subst (λ y. AreTypes k (written_form (mapped y))) is (subst (AreTypes k) (written-out e) h))
+  pub of-parts : (e : Form) {x : Form-F Form Item Branch Generator TypeBranch} → out-Form e ≡ x
+      → IsWritten k e → Layer x
+  of-parts e {x = x} is h =
+      layer x (subst (λ y. AreTypes k (written_form (mapped y))) is
+      (subst (AreTypes k) (written-out e) h))
 
   item-layer : (x : Item-F Form Item Branch Generator TypeBranch)
-      → AreTypes k (written_part (map-Item Form Item Branch Generator TypeBranch (List Ty) (List Ty) (List Ty) (List Ty) (List Ty) written written_item written_branch written_generator written_clause x)) → ItemLayer x
+      → AreTypes k
+      (written_part
+      (map-Item Form Item Branch Generator TypeBranch (List Ty) (List Ty) (List Ty) (List Ty)
+      (List Ty) written written_item written_branch written_generator written_clause x))
+      → ItemLayer x
   item-layer (Item-F.Local p name mutable ty e) h = h
   item-layer (Item-F.Locals p names ty e) h = h
   item-layer (Item-F.Expression e) h = h
 
-  item-out : (i : Item) → written_item i ≡ written_part (map-Item Form Item Branch Generator TypeBranch (List Ty) (List Ty) (List Ty) (List Ty) (List Ty) written written_item written_branch written_generator written_clause (out-Item i))
+  item-out : (i : Item)
+      → written_item i
+      ≡ written_part
+      (map-Item Form Item Branch Generator TypeBranch (List Ty) (List Ty) (List Ty) (List Ty)
+      (List Ty) written written_item written_branch written_generator written_clause
+      (out-Item i))
   unfolding written written_item written_branch written_generator written_clause
-  item-out i = fold_out-Item (List Ty) (List Ty) (List Ty) (List Ty) (List Ty) written_form written_part written_arm written_source written_case i
+  item-out i =
+      fold_out-Item (List Ty) (List Ty) (List Ty) (List Ty) (List Ty) written_form written_part
+      written_arm written_source written_case i
 
-  pub of-item : (i : Item) {x : Item-F Form Item Branch Generator TypeBranch} → out-Item i ≡ x → ItemWritten i → ItemLayer x
-  of-item i {x = x} is h = item-layer x (subst (λ y. AreTypes k (written_part (map-Item Form Item Branch Generator TypeBranch (List Ty) (List Ty) (List Ty) (List Ty) (List Ty) written written_item written_branch written_generator written_clause y))) is
+  pub of-item : (i : Item) {x : Item-F Form Item Branch Generator TypeBranch} → out-Item i ≡ x
+      → ItemWritten i → ItemLayer x
+  of-item i {x = x} is h =
+      item-layer x
+      (subst (λ y. AreTypes k
+      (written_part
+      (map-Item Form Item Branch Generator TypeBranch (List Ty) (List Ty) (List Ty) (List Ty)
+      (List Ty) written written_item written_branch written_generator written_clause y))) is
       (subst (AreTypes k) (item-out i) h))
 
   pub tests-of : (bs : List Branch) → AllByRecursion BranchWritten bs → AllWritten (map test_of bs)
   tests-of [] h = tt
   tests-of (b ∷ bs) h = (h.0.0, tests-of bs h.1)
 
-  pub values-of : (bs : List Branch) → AllByRecursion BranchWritten bs → AllWritten (map value_of bs)
+  pub values-of : (bs : List Branch) → AllByRecursion BranchWritten bs
+      → AllWritten (map value_of bs)
   values-of [] h = tt
   values-of (b ∷ bs) h = (h.0.1, values-of bs h.1)

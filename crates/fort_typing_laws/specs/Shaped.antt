@@ -6,6 +6,8 @@ use Rattle.fort_typing_laws.specs.Deciding.{IsAccepted}
 use Rattle.fort_typing_laws.specs.Written.{IsWritten}
 use Rattle.fort_typing_laws.specs.Exact.{IsExactExpression}
 
--- Of an accepted component: an expression of a shape that the grammar gives answers exactly, where the types that are written in it are the component's.
+-- Of an accepted component: an expression of a shape that the grammar gives answers exactly, where
+-- the types that are written in it are the component's.
 abbrev pub ShapedAreExact : Type 0
-ShapedAreExact = (k : Knows) → IsAccepted k → (e : Form) → IsWritten k e → IsShaped e → IsExactExpression k e
+ShapedAreExact = (k : Knows) → IsAccepted k → (e : Form) → IsWritten k e → IsShaped e
+    → IsExactExpression k e

@@ -66,20 +66,30 @@ written_case b = b.ty ∷ b.value
 
 -- The types that are written in a form.
 unfoldable pub written : Form → List Ty
-written = fold-Form (List Ty) (List Ty) (List Ty) (List Ty) (List Ty) written_form written_part written_arm written_source written_case
+written =
+    fold-Form (List Ty) (List Ty) (List Ty) (List Ty) (List Ty) written_form written_part
+    written_arm written_source written_case
 
 -- in an item, a clause, a generator
 unfoldable pub written_item : Item → List Ty
-written_item = fold-Item (List Ty) (List Ty) (List Ty) (List Ty) (List Ty) written_form written_part written_arm written_source written_case
+written_item =
+    fold-Item (List Ty) (List Ty) (List Ty) (List Ty) (List Ty) written_form written_part
+    written_arm written_source written_case
 
 unfoldable pub written_branch : Branch → List Ty
-written_branch = fold-Branch (List Ty) (List Ty) (List Ty) (List Ty) (List Ty) written_form written_part written_arm written_source written_case
+written_branch =
+    fold-Branch (List Ty) (List Ty) (List Ty) (List Ty) (List Ty) written_form written_part
+    written_arm written_source written_case
 
 unfoldable pub written_generator : Generator → List Ty
-written_generator = fold-Generator (List Ty) (List Ty) (List Ty) (List Ty) (List Ty) written_form written_part written_arm written_source written_case
+written_generator =
+    fold-Generator (List Ty) (List Ty) (List Ty) (List Ty) (List Ty) written_form written_part
+    written_arm written_source written_case
 
 unfoldable pub written_clause : TypeBranch → List Ty
-written_clause = fold-TypeBranch (List Ty) (List Ty) (List Ty) (List Ty) (List Ty) written_form written_part written_arm written_source written_case
+written_clause =
+    fold-TypeBranch (List Ty) (List Ty) (List Ty) (List Ty) (List Ty) written_form written_part
+    written_arm written_source written_case
 
 -- The types that are written in a form are those of the component.
 abbrev pub IsWritten : Knows → Form → Type 0

@@ -44,13 +44,20 @@ body_bare : Bare passing_body
 body_bare = bare-Also _ _ (bare-Throw _ (bare-Value exception)) (printing_bare (98 ∷ []))
 
 first_step : Local passing false 0 (Call (set 0) []) passing_body (paid 1)
-first_step = steps (enters passing_body passing_body) (by_call (calls_none passing (set 0)) (dispatches passing 0 (decl 0) (plain_decl passing_body) [] refl refl refl) refl) (body_bare, refl, refl, refl)
+first_step =
+    steps (enters passing_body passing_body)
+    (by_call (calls_none passing (set 0))
+    (dispatches passing 0 (decl 0) (plain_decl passing_body) [] refl refl refl) refl)
+    (body_bare, refl, refl, refl)
 
 -- the group goes on, since block 1 took no step
 second_step : Local passing false 0 passing_body (throw_of exception) (paid 1)
 second_step = steps (becomes (throw_of exception))
     (by_itself (ap (act_at passing) (outs-Also _)
-    ∙ (λ i. by_together (with_first (standing-throw exception i) (has_stepped (throw_of exception)) (with_first (printing_open (98 ∷ []) i) (printing_unmarked (98 ∷ []) i) (at_values []))) (λ vs. becomes (term.Value unit)))))
+    ∙ (λ i. by_together
+    (with_first (standing-throw exception i) (has_stepped (throw_of exception))
+    (with_first (printing_open (98 ∷ []) i) (printing_unmarked (98 ∷ []) i) (at_values [])))
+    (λ vs. becomes (term.Value unit)))))
     (refl, refl, refl)
 
 abbrev done : Effect
@@ -61,7 +68,8 @@ throw_passes = (
   done,
   record {
     is_run = record {
-      runs = step [] refl refl refl first_step (λ l. tt) (step [] refl refl refl second_step (λ l. tt) (none refl refl refl) refl) refl;
+      runs = step [] refl refl refl first_step (λ l. tt)
+          (step [] refl refl refl second_step (λ l. tt) (none refl refl refl) refl) refl;
       bounded = λ l v e. absurd cc;
     };
     within_fuel = omega arith;
@@ -72,7 +80,9 @@ throw_passes = (
 )
 
 -- part 1 of these blocks is passed over
-second_of : (before behind : List Term) (x : Term) (ns : List ℕ) → throw_of exception ∷ printing (98 ∷ []) ∷ [] ≡ before ++ x ∷ behind → 1 ∷ [] ≡ length before ∷ ns
+second_of : (before behind : List Term) (x : Term) (ns : List ℕ)
+    → throw_of exception ∷ printing (98 ∷ []) ∷ [] ≡ before ++ x ∷ behind
+    → 1 ∷ [] ≡ length before ∷ ns
     → (list_any is_thrown (before ++ behind) && is_still x) ≡ false → ⊥
 second_of [] behind x ns e q n = let z : ◌≡◌ {A = ℕ} 1 0 = cc in absurd (omega arith)
 second_of (c ∷ []) behind x ns e q n =
@@ -84,18 +94,25 @@ second_of (c ∷ []) behind x ns e q n =
 second_of (c ∷ d ∷ []) behind x ns e q n = absurd cc
 second_of (c ∷ d ∷ f ∷ more) behind x ns e q n = absurd cc
 
-second_block : (f : Frame) (x : Term) (ns : List ℕ) → Term-F.Also (throw_of exception ∷ printing (98 ∷ []) ∷ []) ≡ on_layer f x → 1 ∷ [] ≡ part_number f ++ ns → passes f x ≡ false → ⊥
+second_block : (f : Frame) (x : Term) (ns : List ℕ)
+    → Term-F.Also (throw_of exception ∷ printing (98 ∷ []) ∷ []) ≡ on_layer f x
+    → 1 ∷ [] ≡ part_number f ++ ns → passes f x ≡ false → ⊥
 second_block (in_block before behind) x ns e q n = second_of before behind x ns (cc) q n
 second_block in_throw x ns e q n = cc
 second_block _ x ns e q n = cc
 
-kept : (gs : List Frame) (a : Term) → passing_body ≡ plug gs a → 1 ∷ [] ≡ road gs → Ready a → passed gs a ≡ false → ⊥
+kept : (gs : List Frame) (a : Term) → passing_body ≡ plug gs a → 1 ∷ [] ≡ road gs → Ready a
+    → passed gs a ≡ false → ⊥
 kept [] a e q r n = cc
 kept (f ∷ gs) a e q r n =
     let o = plug_open gs a (ready_open a r) in
-    second_block f (plug gs a) (road gs) (sym (outs-Also _) ∙ ap out-Term e ∙ out_on f (plug gs a) o) q (or_false (passes f (plug gs a)) (passed gs a) n).0
+    second_block f (plug gs a) (road gs) (sym (outs-Also _) ∙ ap out-Term e
+    ∙ out_on f (plug gs a) o) q (or_false (passes f (plug gs a)) (passed gs a) n).0
 
 pub passed_is_no_thread : PassedIsNoThread
 passed_is_no_thread fuel more ending j =
-    let one = goes_on passing [] _ _ (Call (set 0) []) passing_body _ j.1.0 (paid 1) first_step (λ l. tt) j.1.1.is_run.runs in
-    none_begins passing (in_block (throw_of exception ∷ []) [] ∷ []) _ _ passing_body _ one.0 kept one.1
+    let one =
+    goes_on passing [] _ _ (Call (set 0) []) passing_body _ j.1.0 (paid 1) first_step (λ l. tt)
+    j.1.1.is_run.runs in
+    none_begins passing (in_block (throw_of exception ∷ []) [] ∷ []) _ _ passing_body _ one.0 kept
+    one.1

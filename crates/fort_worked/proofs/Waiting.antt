@@ -23,7 +23,13 @@ use Rattle.fort_worked.proofs.SleepingRun.{bare_waiting, first_step, second_step
 
 -- the first block sleeps while its mark holds
 sleeps : (s : Store) → s 9 ≡ Some (number 0) → Sleeps s (Asleep marks (waiting_body nine))
-sleeps s e = record { marks = marks; body = waiting_body nine; is_asleep = refl; unchanged = λ l v h. unchanged l v h }
+sleeps s e =
+    record {
+      marks = marks;
+      body = waiting_body nine;
+      is_asleep = refl;
+      unchanged = λ l v h. unchanged l v h;
+    }
   where
     unchanged : (l : ℕ) (v : Value) → In l v marks → s l ≡ Some v
     unchanged l v (inl q) = ap s q.0 ∙ e ∙ ap Some (sym q.1)
@@ -41,7 +47,9 @@ second_awake s = record {
   sleepless = awake s mode.Atomic (setting_body nine);
 }
 
-may_not : (s : Store) → s 9 ≡ Some (number 0) → MayTry true s one_asleep (in_block [] (setting nine ∷ []) ∷ in_stepped ∷ []) (Asleep marks (waiting_body nine)) → ⊥
+may_not : (s : Store) → s 9 ≡ Some (number 0)
+    → MayTry true s one_asleep (in_block [] (setting nine ∷ []) ∷ in_stepped ∷ [])
+    (Asleep marks (waiting_body nine)) → ⊥
 may_not s e (inl k) = k (sleeps s e)
 may_not s e (inr k) = let z : ◌≡◌ {A = List ℕ} (1 ∷ []) (0 ∷ []) = k (1 ∷ []) (second_awake s) in cc
 
@@ -53,25 +61,48 @@ sleeper_waits within more t d k =
     let s3 : Store = afterwards (aborting abort_effect) s2 in
     let one = single_step sleeping false true 0 s0 [] _ _ _ refl first_step (λ l. tt) in
     let two = single_step sleeping false true 9 s1 [] _ _ _ refl second_step nine_made in
-    let three = attempt_is_one_pick sleeping false true mode.Atomic (in_block [] (setting nine ∷ []) ∷ []) s2 (onward ∷ onward ∷ onward ∷ onward ∷ []) _ (Asleep marks (waiting_body nine)) (waiting_body nine) _
-    abort_effect (aborting abort_effect) first_reached (fresh refl) (bare_waiting nine) (inl (awake s2 mode.Atomic (waiting_body nine))) (abort_run s2 refl) (fell_asleep marks refl refl marks_read (tt, tt) refl refl) in
-    let a = picks_add_up sleeping false true s0 (up_to_sleep (again within ∷ more)) (Call (set 0) []) (goes t) d k.runs in
-    let b = behind_pick sleeping false true s0 onward (makes_nine ∷ aborted ∷ again within ∷ more) (Call (set 0) []) sleeping_body (goes t) (paid 1) a.0 one a.1 in
-    let c = behind_pick sleeping false true s1 makes_nine (aborted ∷ again within ∷ more) sleeping_body (blocks nine) (goes t) (making 9 (number 0 ∷ []) 1) b.0 two b.1 in
-    let e = behind_pick sleeping false true s2 aborted (again within ∷ more) (blocks nine) one_asleep (goes t) (aborting abort_effect) c.0 three c.1 in
+    let three =
+    attempt_is_one_pick sleeping false true mode.Atomic (in_block [] (setting nine ∷ []) ∷ [])
+    s2 (onward ∷ onward ∷ onward ∷ onward ∷ []) _ (Asleep marks (waiting_body nine))
+    (waiting_body nine) _
+    abort_effect (aborting abort_effect) first_reached (fresh refl) (bare_waiting nine)
+    (inl (awake s2 mode.Atomic (waiting_body nine))) (abort_run s2 refl)
+    (fell_asleep marks refl refl marks_read (tt, tt) refl refl) in
+    let a = picks_add_up sleeping false true s0 (up_to_sleep (again within ∷ more))
+    (Call (set 0) []) (goes t) d k.runs in
+    let b = behind_pick sleeping false true s0 onward (makes_nine ∷ aborted ∷ again within ∷ more)
+    (Call (set 0) []) sleeping_body (goes t) (paid 1) a.0 one a.1 in
+    let c = behind_pick sleeping false true s1 makes_nine (aborted ∷ again within ∷ more)
+    sleeping_body (blocks nine) (goes t) (making 9 (number 0 ∷ []) 1) b.0 two b.1 in
+    let e = behind_pick sleeping false true s2 aborted (again within ∷ more) (blocks nine)
+    one_asleep (goes t) (aborting abort_effect) c.0 three c.1 in
     let f = first_pick sleeping false true s3 (again within) more one_asleep (goes t) e.0 e.1 in
-    let o = tried sleeping false true s3 (in_block [] (setting nine ∷ []) ∷ in_stepped ∷ []) mode.Atomic (Asleep marks (waiting_body nine)) (waiting_body nine) within [] f.0 f.1.0 (slept marks refl refl) f.1.1 in
+    let o = tried sleeping false true s3 (in_block [] (setting nine ∷ []) ∷ in_stepped ∷ [])
+    mode.Atomic (Asleep marks (waiting_body nine)) (waiting_body nine) within [] f.0 f.1.0
+    (slept marks refl refl) f.1.1 in
     may_not s3 refl o.may_try
 
-not_next : (s : Store) → s 9 ≡ Some (number 0) → (within : List Pick) (e : Effect) → ((r : Ended) × Runs sleeping false true s (again within ∷ []) one_asleep r e) ⊎ Begun sleeping true s (again within) one_asleep e → ⊥
+not_next : (s : Store) → s 9 ≡ Some (number 0) → (within : List Pick) (e : Effect)
+    → ((r : Ended) × Runs sleeping false true s (again within ∷ []) one_asleep r e)
+    ⊎ Begun sleeping true s (again within) one_asleep e → ⊥
 not_next s q within e (inl k) =
-    may_not s q (tried sleeping false true s (in_block [] (setting nine ∷ []) ∷ in_stepped ∷ []) mode.Atomic (Asleep marks (waiting_body nine)) (waiting_body nine) within [] k.0 e (slept marks refl refl) k.1).may_try
+    may_not s q
+    (tried sleeping false true s (in_block [] (setting nine ∷ []) ∷ in_stepped ∷ []) mode.Atomic
+    (Asleep marks (waiting_body nine)) (waiting_body nine) within [] k.0 e
+    (slept marks refl refl) k.1).may_try
 not_next s q within e (inr k) =
-    may_not s q (begun sleeping true s (in_block [] (setting nine ∷ []) ∷ in_stepped ∷ []) mode.Atomic (Asleep marks (waiting_body nine)) (waiting_body nine) within e (slept marks refl refl) k)
+    may_not s q
+    (begun sleeping true s (in_block [] (setting nine ∷ []) ∷ in_stepped ∷ []) mode.Atomic
+    (Asleep marks (waiting_body nine)) (waiting_body nine) within e (slept marks refl refl)
+    k)
 
 pub sleeper_is_not_next : SleeperIsNotNext
 sleeper_is_not_next within t d e k n =
     let s0 : Store = opening_store sleeping in
-    let one = one_run sleeping false true s0 (up_to_sleep []) (Call (set 0) []) (goes t) (goes one_asleep) d asleep_effect k.runs asleep_run.runs in
+    let one =
+    one_run sleeping false true s0 (up_to_sleep []) (Call (set 0) []) (goes t) (goes one_asleep)
+    d asleep_effect k.runs asleep_run.runs in
     not_next (afterwards asleep_effect s0) refl within e
-    (subst (λ x. IsNext sleeping (afterwards x s0) one_asleep (again within) e) one.1 (subst (λ x. IsNext sleeping (afterwards d s0) x (again within) e) (goes_one t one_asleep one.0) n))
+    (subst (λ x. IsNext sleeping (afterwards x s0) one_asleep (again within) e) one.1
+    (subst (λ x. IsNext sleeping (afterwards d s0) x (again within) e)
+    (goes_one t one_asleep one.0) n))

@@ -72,7 +72,8 @@ failing = record {
 abbrev pub inner_picks : List Pick
 inner_picks = onward ∷ onward ∷ []
 
--- The outer attempt, with some picks of the inner one: it writes, goes on to the `try`, makes the inner attempt, and goes on to the clause.
+-- The outer attempt, with some picks of the inner one: it writes, goes on to the `try`, makes the
+-- inner attempt, and goes on to the clause.
 abbrev pub outer_picks : List Pick → List Pick
 outer_picks within = onward ∷ onward ∷ Attempt (thread []) within ∷ onward ∷ []
 
@@ -84,22 +85,32 @@ all_picks within more = onward ∷ makes_nine ∷ Attempt (thread []) (outer_pic
 abbrev pub nested : Journal
 nested = record { fuel = 9; picks = all_picks inner_picks []; ending = Completed }
 
--- The inner attempt, from a store that has the location 9: it fails with the throw of E, costs 3, and the location has the value that it had.
+-- The inner attempt, from a store that has the location 9: it fails with the throw of E, costs 3,
+-- and the location has the value that it had.
 abbrev pub InnerFails : Type 0
 InnerFails = (s : Store) (v : Value) → s 9 ≡ Some v
-    → (d : Effect) × Runs failing true true s (Attempt (thread []) inner_picks ∷ []) (inner nine) (goes (throw_of exception)) d
+    → (d : Effect)
+    × Runs failing true true s (Attempt (thread []) inner_picks ∷ []) (inner nine)
+    (goes (throw_of exception)) d
     × (d.cells 9 ≡ found None None) × (d.cost ≡ 3) × (afterwards d s 9 ≡ Some v)
 
--- The outer attempt, from such a store: it is one pick of cost 7, whose effect is that 9 was there and holds 1.
+-- The outer attempt, from such a store: it is one pick of cost 7, whose effect is that 9 was there
+-- and holds 1.
 abbrev pub OuterCompletes : Type 0
 OuterCompletes = (s : Store) (v : Value) → s 9 ≡ Some v
-    → (d : Effect) × Runs failing false true s (Attempt (thread []) (outer_picks inner_picks) ∷ []) (outer nine) (goes (term.Value unit)) d
+    → (d : Effect)
+    × Runs failing false true s (Attempt (thread []) (outer_picks inner_picks) ∷ []) (outer nine)
+    (goes (term.Value unit)) d
     × (d.cells 9 ≡ found None (Some (number 1))) × (d.output ≡ []) × (d.cost ≡ 7)
 
--- The journal is a run of the program, ends at `()`, prints nothing, costs 9, and leaves 1 in the location 9.
+-- The journal is a run of the program, ends at `()`, prints nothing, costs 9, and leaves 1 in the
+-- location 9.
 abbrev pub Recovers : Type 0
-Recovers = (d : Effect) × Records failing nested (term.Value unit) d × (d.output ≡ []) × (d.cost ≡ 9) × (d.cells 9 ≡ made (Some (number 1)))
+Recovers = (d : Effect) × Records failing nested (term.Value unit) d × (d.output ≡ [])
+    × (d.cost ≡ 9) × (d.cells 9 ≡ made (Some (number 1)))
 
--- An inner attempt that is left before its throw hasn't ended: with its last pick left out the picks are none of a run, whatever comes behind.
+-- An inner attempt that is left before its throw hasn't ended: with its last pick left out the
+-- picks are none of a run, whatever comes behind.
 abbrev pub InnerMustEnd : Type 0
-InnerMustEnd = (more : List Pick) (t : Term) (d : Effect) → IsRun failing (all_picks (onward ∷ []) more) t d → ⊥
+InnerMustEnd = (more : List Pick) (t : Term) (d : Effect)
+    → IsRun failing (all_picks (onward ∷ []) more) t d → ⊥

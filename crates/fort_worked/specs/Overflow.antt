@@ -1,4 +1,5 @@
--- Chapter "Worked runs": run 2, of `run(): () = println(2147483647 + 1)`. Nothing in the code is like it.
+-- Chapter "Worked runs": run 2, of `run(): () = println(2147483647 + 1)`. Nothing in the code is
+-- like it.
 use Rattle.std.specs.Prelude.{◌≡◌, ℕ, true, false, List, [], ◌∷◌, pos}
 use Rattle.fort_base.specs.declared.ty.Ty.{Tuple}
 use Rattle.fort_base.specs.declared.ty.Ty.TheVariants.{Named}
@@ -38,7 +39,12 @@ run_decl = record { parameters = []; result = Tuple []; body = body.Plain printi
 
 -- The declaration of `+` on two ZZ32.
 abbrev pub plus_decl : CoreDecl
-plus_decl = record { parameters = Named numbered.small ∷ Named numbered.small ∷ []; result = Named numbered.small; body = body.Primitive AddSmall }
+plus_decl =
+    record {
+      parameters = Named numbered.small ∷ Named numbered.small ∷ [];
+      result = Named numbered.small;
+      body = body.Primitive AddSmall;
+    }
 
 -- The object `IntegerOverflow`.
 abbrev pub overflow : Value
@@ -48,32 +54,45 @@ overflow = Object numbered.integer_overflow (location 0)
 abbrev pub plain : CoreKind → CoreShape
 plain kind = record { kind = kind; fields = [] }
 
--- The program `run(): () = println(2147483647 + 1)`. Two traits and the five leaves come before `IntegerOverflow`, which is a single object; of the leaves ZZ32 is asked for, and is below itself.
+-- The program `run(): () = println(2147483647 + 1)`. Two traits and the five leaves come before
+-- `IntegerOverflow`, which is a single object; of the leaves ZZ32 is asked for, and is below
+-- itself.
 abbrev pub overflowing : Program
 overflowing = record {
   types = record { below = [] ∷ [] ∷ (false ∷ false ∷ true ∷ []) ∷ []; apart = [] };
   built_in = numbered;
   type_names = [];
-  shapes = plain Trait ∷ plain Trait ∷ plain Leaf ∷ plain Leaf ∷ plain Leaf ∷ plain Leaf ∷ plain Leaf ∷ plain (Single (location 0)) ∷ [];
-  sets = record { decls = decl 0 ∷ [] } ∷ record { decls = decl 1 ∷ [] } ∷ record { decls = decl 2 ∷ [] } ∷ [];
+  shapes = plain Trait ∷ plain Trait ∷ plain Leaf ∷ plain Leaf ∷ plain Leaf ∷ plain Leaf
+      ∷ plain Leaf ∷ plain (Single (location 0)) ∷ [];
+  sets = record { decls = decl 0 ∷ [] } ∷ record { decls = decl 1 ∷ [] }
+      ∷ record { decls = decl 2 ∷ [] } ∷ [];
   decls = run_decl ∷ println_decl ∷ plus_decl ∷ [];
   first = Call (set 0) [];
   opening = (location 0, unit) ∷ [];
   opening_types = (location 0, Tuple []) ∷ [];
 }
 
--- A step of the root thread, one of part 0, one of the root thread, with a fuel of 3; it ends with the object uncaught.
+-- A step of the root thread, one of part 0, one of the root thread, with a fuel of 3; it ends with
+-- the object uncaught.
 abbrev pub three_steps : Journal
-three_steps = record { fuel = 3; picks = step_at [] ∷ step_at (0 ∷ []) ∷ step_at [] ∷ []; ending = Uncaught overflow }
+three_steps =
+    record {
+      fuel = 3;
+      picks = step_at [] ∷ step_at (0 ∷ []) ∷ step_at [] ∷ [];
+      ending = Uncaught overflow;
+    }
 
 -- It is a run of that program, ends at a throw of `IntegerOverflow`, prints nothing, and costs 3.
 abbrev pub Overflows : Type 0
-Overflows = (d : Effect) × Records overflowing three_steps (throw_of overflow) d × (d.output ≡ []) × (d.cost ≡ 3)
+Overflows = (d : Effect) × Records overflowing three_steps (throw_of overflow) d × (d.output ≡ [])
+    × (d.cost ≡ 3)
 
 -- The same picks but for the second one, which is the root thread.
 abbrev pub all_at_root : List Pick
 all_at_root = step_at [] ∷ step_at [] ∷ step_at [] ∷ []
 
--- Those picks are those of no run of that program, whatever the fuel and the ending: the root thread waits for the sum.
+-- Those picks are those of no run of that program, whatever the fuel and the ending: the root
+-- thread waits for the sum.
 abbrev pub SumIsPartZero : Type 0
-SumIsPartZero = (fuel : ℕ) (ending : Ending) → IsJournal overflowing (record { fuel = fuel; picks = all_at_root; ending = ending }) → ⊥
+SumIsPartZero = (fuel : ℕ) (ending : Ending)
+    → IsJournal overflowing (record { fuel = fuel; picks = all_at_root; ending = ending }) → ⊥

@@ -1,4 +1,5 @@
--- Chapter "Worked runs": run 6, of `run(): () = do throw E also do println("b") end`. Nothing in the code is like it.
+-- Chapter "Worked runs": run 6, of `run(): () = do throw E also do println("b") end`. Nothing in
+-- the code is like it.
 use Rattle.std.specs.Prelude.{◌≡◌, ℕ, true, List, [], ◌∷◌}
 use Rattle.fort_base.specs.declared.ty.Ty.{Tuple}
 use Rattle.fort_core.specs.declared.journal.Ending.{Ending}
@@ -41,10 +42,14 @@ passing = record {
 abbrev pub two_picks : Journal
 two_picks = record { fuel = 2; picks = step_at [] ∷ step_at [] ∷ []; ending = Uncaught exception }
 
--- It is a run of that program, ends at the throw of E, prints nothing, and costs 2: block 0 is a throw from the start, so block 1 is passed over.
+-- It is a run of that program, ends at the throw of E, prints nothing, and costs 2: block 0 is a
+-- throw from the start, so block 1 is passed over.
 abbrev pub ThrowPasses : Type 0
-ThrowPasses = (d : Effect) × Records passing two_picks (throw_of exception) d × (d.output ≡ []) × (d.cost ≡ 2)
+ThrowPasses = (d : Effect) × Records passing two_picks (throw_of exception) d × (d.output ≡ [])
+    × (d.cost ≡ 2)
 
 -- Picks that begin block 1 are those of no run, whatever comes behind.
 abbrev pub PassedIsNoThread : Type 0
-PassedIsNoThread = (fuel : ℕ) (more : List Pick) (ending : Ending) → IsJournal passing (record { fuel = fuel; picks = step_at [] ∷ step_at (1 ∷ []) ∷ more; ending = ending }) → ⊥
+PassedIsNoThread = (fuel : ℕ) (more : List Pick) (ending : Ending)
+    → IsJournal passing
+    (record { fuel = fuel; picks = step_at [] ∷ step_at (1 ∷ []) ∷ more; ending = ending }) → ⊥

@@ -1,4 +1,5 @@
--- Chapter "Worked runs": what the fourth and the fifth of them share, a variable of ZZ32 at the location 9.
+-- Chapter "Worked runs": what the fourth and the fifth of them share, a variable of ZZ32 at the
+-- location 9.
 use Rattle.std.specs.Prelude.{ℕ, List, [], pos}
 use Rattle.fort_base.specs.declared.ty.Ty.{Ty, Tuple}
 use Rattle.fort_base.specs.declared.ty.Ty.TheVariants.{Named}

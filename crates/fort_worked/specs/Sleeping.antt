@@ -50,7 +50,12 @@ sleeping_body = Mutable 0 number_type (term.Value (number 0)) (blocks written)
 
 -- The declaration of `=` on ZZ32.
 abbrev pub equal_decl : CoreDecl
-equal_decl = record { parameters = number_type ∷ number_type ∷ []; result = Named (type 5); body = body.Primitive EqualSmall }
+equal_decl =
+    record {
+      parameters = number_type ∷ number_type ∷ [];
+      result = Named (type 5);
+      body = body.Primitive EqualSmall;
+    }
 
 -- The declaration of `abort`.
 abbrev pub abort_decl : CoreDecl
@@ -63,14 +68,16 @@ sleeping = record {
   built_in = numbered;
   type_names = [];
   shapes = [];
-  sets = record { decls = decl 0 ∷ [] } ∷ record { decls = decl 1 ∷ [] } ∷ record { decls = decl 2 ∷ [] } ∷ [];
+  sets = record { decls = decl 0 ∷ [] } ∷ record { decls = decl 1 ∷ [] }
+      ∷ record { decls = decl 2 ∷ [] } ∷ [];
   decls = plain_decl sleeping_body ∷ equal_decl ∷ abort_decl ∷ [];
   first = Call (set 0) [];
   opening = [];
   opening_types = [];
 }
 
--- The first attempt of the first block: it reads 0, finds it equal to 0, goes on to `abort()`, and that ends it.
+-- The first attempt of the first block: it reads 0, finds it equal to 0, goes on to `abort()`, and
+-- that ends it.
 abbrev pub aborted : Pick
 aborted = Attempt (thread (0 ∷ [])) (onward ∷ onward ∷ onward ∷ onward ∷ [])
 
@@ -88,7 +95,11 @@ up_to_sleep more = onward ∷ makes_nine ∷ aborted ∷ more
 
 -- The journal, with a fuel of 14.
 abbrev pub woken : Journal
-woken = record { fuel = 14; picks = up_to_sleep (set_to_one ∷ completed ∷ onward ∷ []); ending = Completed }
+woken = record {
+  fuel = 14;
+  picks = up_to_sleep (set_to_one ∷ completed ∷ onward ∷ []);
+  ending = Completed;
+}
 
 -- The mark: the location 9 held 0.
 abbrev pub marks : Marks
@@ -98,23 +109,30 @@ marks = (location 9, number 0) ∷ []
 abbrev pub one_asleep : Term
 one_asleep = Also (stepped (Asleep marks (waiting_body nine)) ∷ setting nine ∷ [])
 
--- After the aborted attempt the first block sleeps with that mark; nothing was printed, it cost 7 in all, and the location 9 holds 0.
+-- After the aborted attempt the first block sleeps with that mark; nothing was printed, it cost 7
+-- in all, and the location 9 holds 0.
 abbrev pub FallsAsleep : Type 0
-FallsAsleep = (d : Effect) × IsRun sleeping (up_to_sleep []) one_asleep d × (d.output ≡ []) × (d.cost ≡ 7) × (d.cells 9 ≡ made (Some (number 0)))
+FallsAsleep = (d : Effect) × IsRun sleeping (up_to_sleep []) one_asleep d × (d.output ≡ [])
+    × (d.cost ≡ 7) × (d.cells 9 ≡ made (Some (number 0)))
 
--- The journal is a run of the program, ends at `()`, prints nothing, costs 14, and leaves 1 in the location 9.
+-- The journal is a run of the program, ends at `()`, prints nothing, costs 14, and leaves 1 in the
+-- location 9.
 abbrev pub Wakes : Type 0
-Wakes = (d : Effect) × Records sleeping woken (term.Value unit) d × (d.output ≡ []) × (d.cost ≡ 14) × (d.cells 9 ≡ made (Some (number 1)))
+Wakes = (d : Effect) × Records sleeping woken (term.Value unit) d × (d.output ≡ []) × (d.cost ≡ 14)
+    × (d.cells 9 ≡ made (Some (number 1)))
 
 -- The first block is tried again, with some inner picks.
 abbrev pub again : List Pick → Pick
 again within = Attempt (thread (0 ∷ [])) within
 
--- While the first block sleeps and the second one is awake, the first one may not be tried: a second attempt before the write is none of a run, whatever its inner picks and those behind it.
+-- While the first block sleeps and the second one is awake, the first one may not be tried: a
+-- second attempt before the write is none of a run, whatever its inner picks and those behind it.
 abbrev pub SleeperWaits : Type 0
-SleeperWaits = (within more : List Pick) (t : Term) (d : Effect) → IsRun sleeping (up_to_sleep (again within ∷ more)) t d → ⊥
+SleeperWaits = (within more : List Pick) (t : Term) (d : Effect)
+    → IsRun sleeping (up_to_sleep (again within ∷ more)) t d → ⊥
 
 -- Nor is it next where the fuel is out, not even begun.
 abbrev pub SleeperIsNotNext : Type 0
 SleeperIsNotNext = (within : List Pick) (t : Term) (d e : Effect)
-    → IsRun sleeping (up_to_sleep []) t d → IsNext sleeping (afterwards d (opening_store sleeping)) t (again within) e → ⊥
+    → IsRun sleeping (up_to_sleep []) t d
+    → IsNext sleeping (afterwards d (opening_store sleeping)) t (again within) e → ⊥

@@ -1,4 +1,5 @@
--- Chapter "Worked runs": run 3, of `run(): () = do print("a") also do print("b") end`. Nothing in the code is like it.
+-- Chapter "Worked runs": run 3, of `run(): () = do print("a") also do print("b") end`. Nothing in
+-- the code is like it.
 use Rattle.std.specs.Prelude.{◌≡◌, ℕ, List, [], ◌∷◌}
 use Rattle.fort_base.specs.declared.ty.Ty.{Tuple}
 use Rattle.fort_base.specs.declared.ty.Ty.TheVariants.{Any}
@@ -52,9 +53,12 @@ two_threads = record {
 abbrev pub picking : ℕ → ℕ → List Pick
 picking first second = step_at [] ∷ step_at (first ∷ []) ∷ step_at (second ∷ []) ∷ step_at [] ∷ []
 
--- Picks, with a fuel of 6, are a run of that program that ends at `()`, prints this text, and costs 6.
+-- Picks, with a fuel of 6, are a run of that program that ends at `()`, prints this text, and costs
+-- 6.
 abbrev pub Prints : List Pick → List ℕ → Type 0
-Prints picks text = (d : Effect) × Records two_threads (record { fuel = 6; picks = picks; ending = Completed }) (term.Value unit) d × (d.output ≡ text) × (d.cost ≡ 6)
+Prints picks text = (d : Effect)
+    × Records two_threads (record { fuel = 6; picks = picks; ending = Completed }) (term.Value unit)
+    d × (d.output ≡ text) × (d.cost ≡ 6)
 
 -- Where block 1 is picked first the program prints `ba`.
 abbrev pub PrintsRightFirst : Type 0
@@ -64,6 +68,8 @@ PrintsRightFirst = Prints (picking 1 0) (98 ∷ 97 ∷ [])
 abbrev pub PrintsLeftFirst : Type 0
 PrintsLeftFirst = Prints (picking 0 1) (97 ∷ 98 ∷ [])
 
--- The picks that name block 1 twice, in place of each block once, are those of no run of that program, whatever the fuel and the ending: the block is finished after one step.
+-- The picks that name block 1 twice, in place of each block once, are those of no run of that
+-- program, whatever the fuel and the ending: the block is finished after one step.
 abbrev pub FinishedIsNoThread : Type 0
-FinishedIsNoThread = (fuel : ℕ) (ending : Ending) → IsJournal two_threads (record { fuel = fuel; picks = picking 1 1; ending = ending }) → ⊥
+FinishedIsNoThread = (fuel : ℕ) (ending : Ending)
+    → IsJournal two_threads (record { fuel = fuel; picks = picking 1 1; ending = ending }) → ⊥

@@ -1,4 +1,5 @@
-//! Worked runs of the machine: programs of a few lines, journals of them, and picks that no run of them takes.
+//! Worked runs of the machine: programs of a few lines, journals of them, and picks that no run of
+//! them takes.
 //!
 //! Nothing is computed here. Each function names a law by its clause and does nothing.
 #![tactic(auto)]

@@ -1,8 +1,8 @@
 //! A part that is passed over: `run(): () = do throw E also do println("b") end`.
 ghost use Rattle.fort_worked.specs.Passing.{PassedIsNoThread, ThrowPasses};
 
-/// Two steps of the root thread are a run of `run(): () = do throw E also do println("b") end`, which ends at the
-/// throw, prints nothing and costs 2. Chapter "Worked runs", run 6.
+/// Two steps of the root thread are a run of `run(): () = do throw E also do println("b") end`,
+/// which ends at the throw, prints nothing and costs 2. Chapter "Worked runs", run 6.
 pub fn throw_passes()
     ensures { ThrowPasses }
 {}

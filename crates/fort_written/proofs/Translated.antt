@@ -41,8 +41,10 @@ PartsGood (TypedForm-F.Also ty ps) = GoodParts ps
 PartsGood (TypedForm-F.If ty cs bs other) = GoodParts cs × GoodParts bs × MayBeGood other
 PartsGood (TypedForm-F.While ty c b) = GoodPart c × GoodPart b
 PartsGood (TypedForm-F.For ty xs ps b) = GoodParts ps × GoodPart b
-PartsGood (TypedForm-F.Case ty subject cs ts vs other) = GoodPart subject × GoodParts ts × GoodParts vs × MayBeGood other
-PartsGood (TypedForm-F.Typecase ty name subject types vs other) = GoodPart subject × GoodParts vs × MayBeGood other
+PartsGood (TypedForm-F.Case ty subject cs ts vs other) = GoodPart subject × GoodParts ts
+    × GoodParts vs × MayBeGood other
+PartsGood (TypedForm-F.Typecase ty name subject types vs other) = GoodPart subject × GoodParts vs
+    × MayBeGood other
 PartsGood (TypedForm-F.Try ty b name types vs last) = GoodPart b × GoodParts vs × MayBeGood last
 PartsGood (TypedForm-F.Atomic ty e) = GoodPart e
 PartsGood (TypedForm-F.Tryatomic ty e) = GoodPart e
@@ -57,36 +59,62 @@ module _ (g : Given) where
   maker_at (TypedForm-F.Number ty n) h = good_still _ (still_value _ (plain_number n (pos n)))
   maker_at (TypedForm-F.Text ty n) h = good_still _ (still_value _ (plain-Text _))
   maker_at (TypedForm-F.Truth ty b) h = good_still _ (still_value _ (plain-Truth b))
-  maker_at (TypedForm-F.Tuple ty ps) h = good_many group (map maker_of ps) fine_group (good_makers ps h)
-  maker_at (TypedForm-F.Local ty name mutable) h = λ s c. good_still _ (still_variable mutable (number_of s.names name)) s c
+  maker_at (TypedForm-F.Tuple ty ps) h =
+      good_many group (map maker_of ps) fine_group (good_makers ps h)
+  maker_at (TypedForm-F.Local ty name mutable) h =
+      λ s c. good_still _ (still_variable mutable (number_of s.names name)) s c
   maker_at (TypedForm-F.Top ty n) h = good_still _ (fine-Read (slot.Location (location n)))
   maker_at (TypedForm-F.Single ty t) h = good_still _ (still_value _ (plain-Object _ _))
   maker_at (TypedForm-F.Receiver ty) h = λ s c. good_still _ (fine-Variable s.receiver) s c
-  maker_at (TypedForm-F.ReadField ty o f) h = good_one (λ t. ReadField t f) o.maker (fine-ReadField f) h.maker
-  maker_at (TypedForm-F.ReadElement ty a i) h = let x = h.0 in let y = h.1 in good_two ReadElement a.maker i.maker fine-ReadElement x.maker y.maker
+  maker_at (TypedForm-F.ReadField ty o f) h =
+      good_one (λ t. ReadField t f) o.maker (fine-ReadField f) h.maker
+  maker_at (TypedForm-F.ReadElement ty a i) h =
+      let x = h.0 in let y = h.1
+      in good_two ReadElement a.maker i.maker fine-ReadElement x.maker y.maker
   maker_at (TypedForm-F.Size ty a) h = good_one Size a.maker fine-Size h.maker
-  maker_at (TypedForm-F.Fill ty elements n v) h = let x = h.0 in let y = h.1 in good_two (Fill elements) n.maker v.maker (fine-Fill elements) x.maker y.maker
-  maker_at (TypedForm-F.Call ty c ps) h = good_many (call g c) (map maker_of ps) (fine_call g c) (good_makers ps h)
-  maker_at (TypedForm-F.Operation ty c ps) h = good_many (operation g c) (map maker_of ps) (fine_operation g c) (good_makers ps h)
+  maker_at (TypedForm-F.Fill ty elements n v) h =
+      let x = h.0 in let y = h.1
+      in good_two (Fill elements) n.maker v.maker (fine-Fill elements) x.maker y.maker
+  maker_at (TypedForm-F.Call ty c ps) h =
+      good_many (call g c) (map maker_of ps) (fine_call g c) (good_makers ps h)
+  maker_at (TypedForm-F.Operation ty c ps) h =
+      good_many (operation g c) (map maker_of ps) (fine_operation g c) (good_makers ps h)
   maker_at (TypedForm-F.Chain ty set cs ps) h = good_chain g set cs ps h
-  maker_at (TypedForm-F.Apply ty f a) h = let x = h.0 in let y = h.1 in good_two Apply f.maker a.maker fine-Apply x.maker y.maker
+  maker_at (TypedForm-F.Apply ty f a) h =
+      let x = h.0 in let y = h.1 in good_two Apply f.maker a.maker fine-Apply x.maker y.maker
   maker_at (TypedForm-F.Fn ty xs e) h = good_fn (map parameter xs) e.ty e.maker h.maker
   maker_at (TypedForm-F.Block ty ps) h = good_block ps h
-  maker_at (TypedForm-F.Bind ty name mutable written e) h = good_local name mutable written e.maker h.maker
-  maker_at (TypedForm-F.Binds ty xs e) h = good_bindings xs e.maker (still unit_term) h.maker (good_still unit_term still_unit)
-  maker_at (TypedForm-F.Also ty ps) h = good_many Also (map maker_of ps) fine-Also (good_makers ps h)
-  maker_at (TypedForm-F.If ty cs bs other) h = good_branches cs bs (or_else other unit_term) h.0 h.1 (good_or_else other unit_term h.2 still_unit)
-  maker_at (TypedForm-F.While ty c b) h = let x = h.0 in let y = h.1 in good_two While c.maker b.maker fine-While x.maker y.maker
+  maker_at (TypedForm-F.Bind ty name mutable written e) h =
+      good_local name mutable written e.maker h.maker
+  maker_at (TypedForm-F.Binds ty xs e) h =
+      good_bindings xs e.maker (still unit_term) h.maker (good_still unit_term still_unit)
+  maker_at (TypedForm-F.Also ty ps) h =
+      good_many Also (map maker_of ps) fine-Also (good_makers ps h)
+  maker_at (TypedForm-F.If ty cs bs other) h =
+      good_branches cs bs (or_else other unit_term) h.0 h.1
+      (good_or_else other unit_term h.2 still_unit)
+  maker_at (TypedForm-F.While ty c b) h =
+      let x = h.0 in let y = h.1 in good_two While c.maker b.maker fine-While x.maker y.maker
   maker_at (TypedForm-F.For ty xs ps b) h = let y = h.1 in good_loops xs ps b.maker h.0 y.maker
-  maker_at (TypedForm-F.Case ty subject cs ts vs other) h = good_cases g subject cs ts vs other h.0 h.1 h.2 h.3
-  maker_at (TypedForm-F.Typecase ty name subject types vs other) h = good_typecase g name subject types vs other h.0 h.1 h.2
-  maker_at (TypedForm-F.Try ty b name types vs last) h = good_trying b name types vs last h.0 h.1 h.2
-  maker_at (TypedForm-F.Atomic ty e) h = good_one (Atomic mode.Atomic) e.maker (fine-Atomic mode.Atomic) h.maker
-  maker_at (TypedForm-F.Tryatomic ty e) h = good_one (Atomic mode.Try) e.maker (fine-Atomic mode.Try) h.maker
+  maker_at (TypedForm-F.Case ty subject cs ts vs other) h =
+      good_cases g subject cs ts vs other h.0 h.1 h.2 h.3
+  maker_at (TypedForm-F.Typecase ty name subject types vs other) h =
+      good_typecase g name subject types vs other h.0 h.1 h.2
+  maker_at (TypedForm-F.Try ty b name types vs last) h =
+      good_trying b name types vs last h.0 h.1 h.2
+  maker_at (TypedForm-F.Atomic ty e) h =
+      good_one (Atomic mode.Atomic) e.maker (fine-Atomic mode.Atomic) h.maker
+  maker_at (TypedForm-F.Tryatomic ty e) h =
+      good_one (Atomic mode.Try) e.maker (fine-Atomic mode.Try) h.maker
   maker_at (TypedForm-F.Throw ty e) h = good_one Throw e.maker fine-Throw h.maker
-  maker_at (TypedForm-F.Reduce ty r set name sequential p b) h = let x = h.0 in let y = h.1 in good_reduction set (neutral g r ty) name sequential p.maker b.maker (still_neutral g r ty) x.maker y.maker
-  maker_at (TypedForm-F.Assign ty t e) h = let x = h.0 in let y = h.1 in good_assigned t.role e.maker x.role y.maker
-  maker_at (TypedForm-F.Update ty t c e) h = let x = h.0 in let y = h.1 in good_updated g c t.role e.maker x.role y.maker
+  maker_at (TypedForm-F.Reduce ty r set name sequential p b) h =
+      let x = h.0 in let y = h.1
+      in good_reduction set (neutral g r ty) name sequential p.maker b.maker (still_neutral g r ty)
+      x.maker y.maker
+  maker_at (TypedForm-F.Assign ty t e) h =
+      let x = h.0 in let y = h.1 in good_assigned t.role e.maker x.role y.maker
+  maker_at (TypedForm-F.Update ty t c e) h =
+      let x = h.0 in let y = h.1 in good_updated g c t.role e.maker x.role y.maker
 
   good_role : (x : TypedForm-F Part) → PartsGood x → GoodRole (role_at x)
   good_role (TypedForm-F.ReadField ty o f) h = h.maker
@@ -159,8 +187,13 @@ module _ (g : Given) where
   parts_good (TypedForm-F.Update ty t c e) = (t.1, e.1)
 
   good_rolled : (x : TypedForm-F TypedForm) → PartsGood (level x) → GoodForm (roll-TypedForm x)
-  good_rolled x h = subst GoodPart (sym (part_is (roll-TypedForm x) ∙ ap (λ y. part_at g (level y)) (out-roll-TypedForm x))) (good_at (level x) h)
+  good_rolled x h =
+      subst GoodPart
+      (sym (part_is (roll-TypedForm x) ∙ ap (λ y. part_at g (level y)) (out-roll-TypedForm x)))
+      (good_at (level x) h)
 
   -- each form is a good part
   pub good_form : (f : TypedForm) → GoodPart (part g f)
-  good_form = ind-TypedForm GoodForm (λ x y e. good_rolled x (subst (λ z. PartsGood (level z)) e (parts_good y)))
+  good_form =
+      ind-TypedForm GoodForm
+      (λ x y e. good_rolled x (subst (λ z. PartsGood (level z)) e (parts_good y)))

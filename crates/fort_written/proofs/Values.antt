@@ -31,14 +31,23 @@ pub record Plain (v : Value) : Type 0 where
   pub functions : functions_in_value v ≡ []
 
 abbrev pub functions_out_value : Value-F Term Value Closure → List ℕ
-functions_out_value y = value_functions_at (map-Value Term Value Closure (List ℕ) (List ℕ) (List ℕ) functions_in functions_in_value functions_in_closure y)
+functions_out_value y =
+    value_functions_at
+    (map-Value Term Value Closure (List ℕ) (List ℕ) (List ℕ) functions_in functions_in_value
+    functions_in_closure y)
 
 pub value_functions_from : (v : Value) → functions_in_value v ≡ functions_out_value (out-Value v)
-value_functions_from v = fold_out-Value (List ℕ) (List ℕ) (List ℕ) functions_at value_functions_at closure_functions_at v
+value_functions_from v =
+    fold_out-Value (List ℕ) (List ℕ) (List ℕ) functions_at value_functions_at closure_functions_at v
 
-plain_at : (v : Value) (y : Value-F Term Value Closure) → out-Value v ≡ y → IsWrittenValue y → AllWritten (bodies_of y) → AllWrittenValues (values_of y) → functions_out_value y ≡ [] → Plain v
+plain_at : (v : Value) (y : Value-F Term Value Closure) → out-Value v ≡ y → IsWrittenValue y
+    → AllWritten (bodies_of y) → AllWrittenValues (values_of y) → functions_out_value y ≡ []
+    → Plain v
 plain_at v y e w ts vs f = record {
-  is_written = written_value (subst IsWrittenValue (sym e) w) (subst (λ z. AllWritten (bodies_of z)) (sym e) ts) (subst (λ z. AllWrittenValues (values_of z)) (sym e) vs);
+  is_written =
+      written_value (subst IsWrittenValue (sym e) w)
+      (subst (λ z. AllWritten (bodies_of z)) (sym e) ts)
+      (subst (λ z. AllWrittenValues (values_of z)) (sym e) vs);
   functions = value_functions_from v ∙ ap functions_out_value e ∙ f;
 }
 
@@ -46,7 +55,8 @@ pub plain_unit : Plain unit
 plain_unit = plain_at (Tuple []) _ (outs-Tuple []) tt end_of_terms end_of_values refl
 
 pub plain-Object : (id : TypeId) (base : Loc) → Plain (Object id base)
-plain-Object id base = plain_at (Object id base) _ (outs-Object id base) tt end_of_terms end_of_values refl
+plain-Object id base =
+    plain_at (Object id base) _ (outs-Object id base) tt end_of_terms end_of_values refl
 
 pub plain-Small : (z : ℤ) → Plain (Small z)
 plain-Small z = plain_at (Small z) _ (outs-Small z) tt end_of_terms end_of_values refl
@@ -62,7 +72,9 @@ plain-Text s = plain_at (Text s) _ (outs-Text s) tt end_of_terms end_of_values r
 
 -- its term
 pub still_value : (v : Value) → Plain v → Still (term.Value v)
-still_value v h lo hi flo fhi = value_is v h.is_written (subst (Between flo fhi) (sym h.functions) no_number) (subst StandOnce (sym h.functions) tt)
+still_value v h lo hi flo fhi =
+    value_is v h.is_written (subst (Between flo fhi) (sym h.functions) no_number)
+    (subst StandOnce (sym h.functions) tt)
 
 -- ---- constants
 
@@ -82,7 +94,8 @@ plain_negatives [] = plain_unit
 plain_negatives (t ∷ []) = plain_negative (out-TypedForm t)
 plain_negatives (t ∷ u ∷ ts) = plain_unit
 
-plain_constant_at : (texts : List (List ℕ)) (x : TypedForm-F TypedForm) → Plain (constant_at texts x)
+plain_constant_at : (texts : List (List ℕ)) (x : TypedForm-F TypedForm)
+    → Plain (constant_at texts x)
 plain_constant_at texts (TypedForm-F.Number ty n) = plain_number n (pos n)
 plain_constant_at texts (TypedForm-F.Text ty n) = plain-Text _
 plain_constant_at texts (TypedForm-F.Truth ty b) = plain-Truth b
@@ -98,7 +111,8 @@ pub still_unit : Still unit_term
 still_unit = still_value unit plain_unit
 
 pub still_throw : (v : Value) → Plain v → Still (throw_of v)
-still_throw v h lo hi flo fhi = fine-Throw lo hi flo fhi (term.Value v) (still_value v h lo hi flo fhi)
+still_throw v h lo hi flo fhi =
+    fine-Throw lo hi flo fhi (term.Value v) (still_value v h lo hi flo fhi)
 
 pub still_match : (g : Given) → Still (no_match g)
 still_match g = still_throw _ (plain-Object _ _)
@@ -107,7 +121,10 @@ still_item : (g : Given) → Still (no_item g)
 still_item g = still_throw _ (plain-Object _ _)
 
 still_as : (ty : Ty) (n : ℕ) → Still (number_as ty n)
-still_as ty n = still_value _ (either (is_large_at (out-Ty ty)) (Large (pos n)) (Small (pos n)) (plain-Large (pos n)) (plain-Small (pos n)))
+still_as ty n =
+    still_value _
+    (either (is_large_at (out-Ty ty)) (Large (pos n)) (Small (pos n)) (plain-Large (pos n))
+    (plain-Small (pos n)))
 
 pub still_neutral : (g : Given) (r : Reduction) (ty : Ty) → Still (neutral g r ty)
 still_neutral g a_reduction.Sum ty = still_as ty 0

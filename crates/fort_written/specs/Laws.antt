@@ -10,4 +10,5 @@ use Rattle.fort_written.specs.Matching.{Matches}
 
 -- The program of a typed component that matches its members is as it is written.
 abbrev pub ProgramIsWritten : Type 0
-ProgramIsWritten = (h : Hierarchy) (m : Members) (texts : List (List ℕ)) (typed : Typed) (p : Program) → IsProgramOf h m texts typed p → Matches m texts typed → WrittenProgram p
+ProgramIsWritten = (h : Hierarchy) (m : Members) (texts : List (List ℕ)) (typed : Typed)
+    (p : Program) → IsProgramOf h m texts typed p → Matches m texts typed → WrittenProgram p

@@ -8,5 +8,7 @@ pub new-requires : goal.new-requires
 new-requires g c =
     let items : c.push_reserved.new.self.items ≡ Some c.args.book ∷ [] = search rules in
     let about : c.of-about.result.value ≡ c.args.book = search rules in
-    subst (λ (z : List (Option g.row.B.Denot) × g.row.B.Denot). Kept g.B.Grows.history g.B.Grows.origin g.B.Grows.by (opening (0 ∷ 0 ∷ []) z.0 (opened z.1))) (λ i. (sym items i, sym about i))
+    subst (λ (z : List (Option g.row.B.Denot)
+    × g.row.B.Denot). Kept g.B.Grows.history g.B.Grows.origin g.B.Grows.by
+    (opening (0 ∷ 0 ∷ []) z.0 (opened z.1))) (λ i. (sym items i, sym about i))
     (opens g.B.Grows.history g.B.Grows.origin g.B.Grows.by c.args.book c.requires)

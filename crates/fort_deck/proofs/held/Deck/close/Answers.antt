@@ -15,13 +15,20 @@ use Rattle.fort_deck.proofs.held.Deck.close.Goals as goal
 pub len_as-requires : goal.len_as-requires
 len_as-requires c =
     let v = worker_view c.take_in.new.worker in
-    subst (λ (port : ℕ). Learns Dealt port v (λ _. Settles v)) (sym (c.take_in.ensures.same.2 ∙ c.args.owner.rests.0.0)) (settles v c.take_in.ensures.taken.out_is)
+    subst (λ (port : ℕ). Learns Dealt port v (λ _. Settles v))
+    (sym (c.take_in.ensures.same.2 ∙ c.args.owner.rests.0.0))
+    (settles v c.take_in.ensures.taken.out_is)
 
 pub returns-clause-order : goal.returns-clause-order
 returns-clause-order c =
     let t = c.take_in.ensures.taken in
     let s = c.len_as.ensures.rule.2 in (
       s.thefts,
-      sym t.stack_is ∙ (s.order ∙ ap (λ (v : View). jobs_of s.thefts ++ left v) (sym c.len_as.ensures.same.2)),
-      of_thieves (λ (hand : Hand). hand.stolen ≡ jobs_by hand.number s.thefts) c.args.thieves (subst (All (λ (hand : Hand). hand.stolen ≡ jobs_by hand.number s.thefts)) t.hands_is s.hands),
+      sym t.stack_is
+          ∙ (s.order ∙ ap (λ (v : View). jobs_of s.thefts ++ left v) (sym c.len_as.ensures.same.2)),
+      of_thieves (λ
+          (hand : Hand). hand.stolen
+          ≡ jobs_by hand.number s.thefts) c.args.thieves
+          (subst (All (λ
+          (hand : Hand). hand.stolen ≡ jobs_by hand.number s.thefts)) t.hands_is s.hands),
     )

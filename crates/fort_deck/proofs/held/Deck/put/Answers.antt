@@ -10,4 +10,5 @@ pub push_as-requires-clause-pushes : goal.push_as-requires-clause-pushes
 push_as-requires-clause-pushes c =
     let w = c.args.owner.now.worker in
     let jobs = c.args.job ∷ [] in
-    subst (λ (port : ℕ). Pushes Dealt port (worker_view w) jobs (Puts (worker_view w) jobs)) (sym c.args.owner.now.rests.0.0) (puts (worker_view w) jobs)
+    subst (λ (port : ℕ). Pushes Dealt port (worker_view w) jobs (Puts (worker_view w) jobs))
+    (sym c.args.owner.now.rests.0.0) (puts (worker_view w) jobs)

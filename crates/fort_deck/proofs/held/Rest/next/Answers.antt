@@ -10,9 +10,12 @@ use Rattle.fort_deck.proofs.held.Rest.next.Goals as goal
 pub pop_as-requires-clause-lifo : goal.pop_as-requires-clause-lifo
 pop_as-requires-clause-lifo c =
     let w = c.args.self.now.worker in
-    λ _. subst (λ (port : ℕ). Pops Dealt port (worker_view w) (Nexts (worker_view w))) (sym c.args.self.now.alone.0.0) (nexts (worker_view w) c.args.self.now.alone.1)
+    λ _. subst (λ
+    (port : ℕ). Pops Dealt port (worker_view w) (Nexts (worker_view w)))
+    (sym c.args.self.now.alone.0.0) (nexts (worker_view w) c.args.self.now.alone.1)
 
 pub pop_as-requires-clause-empty : goal.pop_as-requires-clause-empty
 pop_as-requires-clause-empty c =
     let w = c.args.self.now.worker in
-    subst (λ (port : ℕ). Finds Dealt port (worker_view w) (left (worker_view w) ≡ [])) (sym c.args.self.now.alone.0.0) (none_left (worker_view w) c.args.self.now.alone.1)
+    subst (λ (port : ℕ). Finds Dealt port (worker_view w) (left (worker_view w) ≡ []))
+    (sym c.args.self.now.alone.0.0) (none_left (worker_view w) c.args.self.now.alone.1)
