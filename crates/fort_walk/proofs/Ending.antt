@@ -28,9 +28,11 @@ use Rattle.fort_turns.proofs.Giving.{come_reached}
 use Rattle.fort_turns.proofs.Taking.{root_is}
 
 -- the whole term, at its root
-pub come_whole : (p : Program) (c : Course) (s : State) (t : Term) → HasCome p c (goes t) → frames s.place.stack ≡ [] → s.«at» ≡ at.Form t → StandsAt p c s.place (term_at s.«at»)
+pub come_whole : (p : Program) (c : Course) (s : State) (t : Term) → HasCome p c (goes t)
+    → frames s.place.stack ≡ [] → s.«at» ≡ at.Form t → StandsAt p c s.place (term_at s.«at»)
 come_whole p c s t h root form =
-    let same : rebuilt c.clock (frames s.place.stack) (term_at s.«at») ≡ t = ap (λ fs. rebuilt c.clock fs (term_at s.«at»)) root ∙ ap term_at form in
+    let same : rebuilt c.clock (frames s.place.stack) (term_at s.«at») ≡ t =
+    ap (λ fs. rebuilt c.clock fs (term_at s.«at»)) root ∙ ap term_at form in
     record {
       course = record {
         comes = (subst (λ u. HasCome p c (goes u)) (sym same) h).comes;
@@ -41,20 +43,27 @@ come_whole p c s t h root form =
     }
 
 -- where all sleep nobody is awake
-none_awake : (p : Program) (inner : Bool) (store : Store) (w : Sweep) (t : Term) → Idles p inner store w t (λ met. IsLeftAt met (at.Left t)) → w.stuck ≡ false → NoneAwake store t
+none_awake : (p : Program) (inner : Bool) (store : Store) (w : Sweep) (t : Term)
+    → Idles p inner store w t (λ met. IsLeftAt met (at.Left t)) → w.stuck ≡ false
+    → NoneAwake store t
 none_awake p inner store w t i none path aw =
     elim (i.idle aw.part (i.swept.all_met.all aw.frames aw.part aw.is_term aw.reached aw.ready)) [
       | inl h ↦ aw.sleepless h.1
       | inr h ↦ (let q : true ≡ false = sym h.0 ∙ none in absurd cc)
     ]
 
-pub again_asleep : (p : Program) (c : Course) (w v : Sweep) (t u : Term) → IsAtEndOf p c w (at.Left t) → (w.idle ≡ true → w.stuck ≡ false) → v.wakes ≡ w.idle → u ≡ t → AreAsleep c v u
+pub again_asleep : (p : Program) (c : Course) (w v : Sweep) (t u : Term)
+    → IsAtEndOf p c w (at.Left t) → (w.idle ≡ true → w.stuck ≡ false) → v.wakes ≡ w.idle → u ≡ t
+    → AreAsleep c v u
 again_asleep p c w v t u h none ew same e =
     let idle : w.idle ≡ true = sym ew ∙ e in
-    subst (NoneAwake (seen (levels_of c.layers))) (sym same) (none_awake p (is_inner (around c)) (seen (levels_of c.layers)) w t (h.idles idle) (none idle))
+    subst (NoneAwake (seen (levels_of c.layers))) (sym same)
+    (none_awake p (is_inner (around c)) (seen (levels_of c.layers)) w t (h.idles idle)
+    (none idle))
 
 -- nobody may go on
-pub left_stuck : (p : Program) (c : Course) (w : Sweep) (t : Term) → IsAtEndOf p c w (at.Left t) → w.idle ≡ true → (w.stuck || w.wakes) ≡ true → StopsShort p
+pub left_stuck : (p : Program) (c : Course) (w : Sweep) (t : Term) → IsAtEndOf p c w (at.Left t)
+    → w.idle ≡ true → (w.stuck || w.wakes) ≡ true → StopsShort p
 left_stuck p c w t h idle over =
     let i = h.idles idle in
     stuck (record {
@@ -63,14 +72,16 @@ left_stuck p c w t h idle over =
       term = t;
       reached = come_reached p c t h.come;
       no_end = open_no_end (is_inner (around c)) t i.swept.is_open;
-      nobody = nobody_goes p (is_inner (around c)) (seen (levels_of c.layers)) w i.met t i.swept i.idle i.awake over;
+      nobody = nobody_goes p (is_inner (around c)) (seen (levels_of c.layers)) w i.met t i.swept
+          i.idle i.awake over;
     })
 
 value_no_end : (v : Value) → v ≢ unit → IsAtEnd false (term.Value v) → ⊥
 value_no_end v n (inl e) = n (cc)
 value_no_end v n (inr h) = value_not_throw v h.0 h.1
 
-pub value_stuck : (p : Program) (c : Course) (v : Value) → HasCome p c (goes (term.Value v)) → c.outer ≡ [] → v ≢ unit → StopsShort p
+pub value_stuck : (p : Program) (c : Course) (v : Value) → HasCome p c (goes (term.Value v))
+    → c.outer ≡ [] → v ≢ unit → StopsShort p
 value_stuck p c v h o n =
     let root = root_is c o in
     stuck (record {
@@ -83,17 +94,27 @@ value_stuck p c v h o n =
     })
 
 -- another sweep, or nobody goes on
-pub still_awake : (idle halts wakes : Bool) → (idle && (halts || wakes)) ≡ false → idle ≡ true → halts ≡ false
+pub still_awake : (idle halts wakes : Bool) → (idle && (halts || wakes)) ≡ false → idle ≡ true
+    → halts ≡ false
 still_awake true true wakes e i = let z : true ≡ false = e in absurd cc
 still_awake true false wakes e i = refl
 still_awake false halts wakes e i = let z : false ≡ true = i in absurd cc
 
-pub all_over : (idle halts wakes : Bool) → (idle && (halts || wakes)) ≡ true → (idle ≡ true) × ((halts || wakes) ≡ true)
+pub all_over : (idle halts wakes : Bool) → (idle && (halts || wakes)) ≡ true
+    → (idle ≡ true) × ((halts || wakes) ≡ true)
 all_over true halts wakes e = (refl, e)
 all_over false halts wakes e = let z : false ≡ true = e in absurd cc
 
-pub again_walks : (p : Program) (c : Course) (w v : Sweep) (place : Place) (t : Term) → IsAtEndOf p c w (at.Left t) → (w.idle ≡ true → w.stuck ≡ false) → v.stuck ≡ false → v.wakes ≡ w.idle → frames place.stack ≡ []
+pub again_walks : (p : Program) (c : Course) (w v : Sweep) (place : Place) (t : Term)
+    → IsAtEndOf p c w (at.Left t) → (w.idle ≡ true → w.stuck ≡ false) → v.stuck ≡ false
+    → v.wakes ≡ w.idle → frames place.stack ≡ []
     → IsAtForm p c v place t (λ met. SweptTo met (record { place = place; «at» = at.Form t }))
 again_walks p c w v place t h none vs vw root =
-    sweep_begins p (record { course = c; state = record { place = place; «at» = at.Form t } }) v (come_whole p c (record { place = place; «at» = at.Form t }) t h.come root refl) (root, t, refl) vs
-    (again_asleep p c w v t (rebuilt c.clock (frames place.stack) t) h none vw (ap (λ fs. rebuilt c.clock fs t) root))
+    sweep_begins p (record { course = c; state = record { place = place; «at» = at.Form t } }) v
+    (come_whole p c (record { place = place; «at» = at.Form t }) t h.come root refl) (
+      root,
+      t,
+      refl,
+    ) vs
+    (again_asleep p c w v t (rebuilt c.clock (frames place.stack) t) h none vw
+    (ap (λ fs. rebuilt c.clock fs t) root))

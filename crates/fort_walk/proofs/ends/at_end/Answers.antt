@@ -6,10 +6,15 @@ use Rattle.fort_turns.specs.Idles.{IsAtEndOf}
 use Rattle.fort_walk.proofs.ends.at_end.Goals as goal
 
 pub at_value-requires : goal.at_value-requires
-at_value-requires c = subst (λ a. HasCome c.args.program.now c.args.course (goes (term_at a))) c.in-Value.is c.requires.come
+at_value-requires c =
+    subst (λ a. HasCome c.args.program.now c.args.course (goes (term_at a))) c.in-Value.is
+    c.requires.come
 
 pub at_throw-requires : goal.at_throw-requires
-at_throw-requires c = subst (λ a. HasCome c.args.program.now c.args.course (goes (term_at a))) c.in-Throw.is c.requires.come
+at_throw-requires c =
+    subst (λ a. HasCome c.args.program.now c.args.course (goes (term_at a))) c.in-Throw.is
+    c.requires.come
 
 pub again-requires : goal.again-requires
-again-requires c = subst (λ a. IsAtEndOf c.args.program.now c.args.course c.args.sweep a) c.in-Left.is c.requires
+again-requires c =
+    subst (λ a. IsAtEndOf c.args.program.now c.args.course c.args.sweep a) c.in-Left.is c.requires

@@ -3,4 +3,6 @@ use Rattle.fort_turns.specs.Idles.{Follows}
 use Rattle.fort_walk.proofs.ends.at_throw.Goals as goal
 
 pub returns-in_ok-going-in-Some : goal.returns-in_ok-going-in-Some
-returns-in_ok-going-in-Some c = subst (λ f. Follows c.args.program.now f c.closed.result) c.in_ok-going-in-Some.ensures.fuel c.closed.ensures
+returns-in_ok-going-in-Some c =
+    subst (λ f. Follows c.args.program.now f c.closed.result) c.in_ok-going-in-Some.ensures.fuel
+    c.closed.ensures

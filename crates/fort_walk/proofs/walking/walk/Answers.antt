@@ -6,4 +6,6 @@ pub returns : goal.returns
 returns c = subst (Walks c.args.tables.now.program.now c.args.fuel) c.in-Ran.is c.in_ok-ran.ensures
 
 pub unreachable-requires : goal.unreachable-requires
-unreachable-requires c = c.requires.never (subst (Walks c.args.tables.now.program.now c.args.fuel) c.in-Stuck.is c.in_ok-ran.ensures)
+unreachable-requires c =
+    c.requires.never
+    (subst (Walks c.args.tables.now.program.now c.args.fuel) c.in-Stuck.is c.in_ok-ran.ensures)

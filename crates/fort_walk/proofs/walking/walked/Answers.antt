@@ -6,7 +6,9 @@ use Rattle.fort_walk.proofs.walking.walked.Goals as goal
 
 pub loop-turn-init : goal.loop-turn-init
 loop-turn-init c = (
-  sweep_begins c.args.tables.now.program.now c.in_ok-going.going c.new-sweep.result c.in_ok-going.ensures.going c.in_ok-going.ensures.whole c.new-sweep.ensures.stuck (not_waking c.in_ok-going.going.course c.new-sweep.result _ c.new-sweep.ensures.wakes),
+  sweep_begins c.args.tables.now.program.now c.in_ok-going.going c.new-sweep.result
+      c.in_ok-going.ensures.going c.in_ok-going.ensures.whole c.new-sweep.ensures.stuck
+      (not_waking c.in_ok-going.going.course c.new-sweep.result _ c.new-sweep.ensures.wakes),
   c.in_ok-going.ensures.fuel,
 )
 
@@ -16,9 +18,11 @@ go-requires-clause-walking c = c.loop-turn.invariant.0
 pub returns-in-Ends : goal.returns-in-Ends
 returns-in-Ends c =
     subst (λ f. Walks c.args.tables.now.program.now f c.in-Ends.walked) c.loop-turn.invariant.1
-    (subst (Follows c.args.tables.now.program.now c.loop-turn.walking.going.course.fuel) c.in-Ends.is c.in_ok-next.ensures)
+    (subst (Follows c.args.tables.now.program.now c.loop-turn.walking.going.course.fuel)
+    c.in-Ends.is c.in_ok-next.ensures)
 
 pub loop-turn-preserved : goal.loop-turn-preserved
 loop-turn-preserved c =
-    let h = subst (Follows c.args.tables.now.program.now c.loop-turn.walking.going.course.fuel) c.in-Goes.is c.in_ok-next.ensures in
+    let h = subst (Follows c.args.tables.now.program.now c.loop-turn.walking.going.course.fuel)
+    c.in-Goes.is c.in_ok-next.ensures in
     (h.0, h.1 ∙ c.loop-turn.invariant.1)
