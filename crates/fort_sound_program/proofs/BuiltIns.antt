@@ -135,30 +135,41 @@ leaf_number : (id : TypeId) → AmongLeaves BUILT_IN id → 2 ≤ id.0
 leaf_number id (inl e) = let q : id.0 ≡ 2 = ap (λ (z : TypeId). z.0) e in omega arith
 leaf_number id (inr (inl e)) = let q : id.0 ≡ 3 = ap (λ (z : TypeId). z.0) e in omega arith
 leaf_number id (inr (inr (inl e))) = let q : id.0 ≡ 4 = ap (λ (z : TypeId). z.0) e in omega arith
-leaf_number id (inr (inr (inr (inl e)))) = let q : id.0 ≡ 5 = ap (λ (z : TypeId). z.0) e in omega arith
-leaf_number id (inr (inr (inr (inr e)))) = let q : id.0 ≡ 6 = ap (λ (z : TypeId). z.0) e in omega arith
+leaf_number id (inr (inr (inr (inl e)))) =
+    let q : id.0 ≡ 5 = ap (λ (z : TypeId). z.0) e in omega arith
+leaf_number id (inr (inr (inr (inr e)))) =
+    let q : id.0 ≡ 6 = ap (λ (z : TypeId). z.0) e in omega arith
 
 abbrev AmongFailures : BuiltIn → TypeId → Type 0
-AmongFailures b id = (id ≡ b.integer_overflow) ⊎ (id ≡ b.division_by_zero) ⊎ (id ≡ b.negative_exponent) ⊎ (id ≡ b.index_out_of_range) ⊎ (id ≡ b.negative_size)
+AmongFailures b id = (id ≡ b.integer_overflow) ⊎ (id ≡ b.division_by_zero)
+    ⊎ (id ≡ b.negative_exponent) ⊎ (id ≡ b.index_out_of_range) ⊎ (id ≡ b.negative_size)
     ⊎ (id ≡ b.depth_exceeded) ⊎ (id ≡ b.try_atomic_failure) ⊎ (id ≡ b.abort_outside)
 
 exception_row : (id : TypeId) → AmongFailures BUILT_IN id → ExceptionRow id.0
 exception_row id (inl e) = subst (λ (z : TypeId). ExceptionRow z.0) (sym e) exception7
 exception_row id (inr (inl e)) = subst (λ (z : TypeId). ExceptionRow z.0) (sym e) exception8
 exception_row id (inr (inr (inl e))) = subst (λ (z : TypeId). ExceptionRow z.0) (sym e) exception9
-exception_row id (inr (inr (inr (inl e)))) = subst (λ (z : TypeId). ExceptionRow z.0) (sym e) exception10
-exception_row id (inr (inr (inr (inr (inl e))))) = subst (λ (z : TypeId). ExceptionRow z.0) (sym e) exception11
-exception_row id (inr (inr (inr (inr (inr (inl e)))))) = subst (λ (z : TypeId). ExceptionRow z.0) (sym e) exception14
-exception_row id (inr (inr (inr (inr (inr (inr (inl e))))))) = subst (λ (z : TypeId). ExceptionRow z.0) (sym e) exception15
-exception_row id (inr (inr (inr (inr (inr (inr (inr e))))))) = subst (λ (z : TypeId). ExceptionRow z.0) (sym e) exception16
+exception_row id (inr (inr (inr (inl e)))) =
+    subst (λ (z : TypeId). ExceptionRow z.0) (sym e) exception10
+exception_row id (inr (inr (inr (inr (inl e))))) =
+    subst (λ (z : TypeId). ExceptionRow z.0) (sym e) exception11
+exception_row id (inr (inr (inr (inr (inr (inl e)))))) =
+    subst (λ (z : TypeId). ExceptionRow z.0) (sym e) exception14
+exception_row id (inr (inr (inr (inr (inr (inr (inl e))))))) =
+    subst (λ (z : TypeId). ExceptionRow z.0) (sym e) exception15
+exception_row id (inr (inr (inr (inr (inr (inr (inr e))))))) =
+    subst (λ (z : TypeId). ExceptionRow z.0) (sym e) exception16
 
 -- the shape of a row
-shape_there : (rows : List BuiltInType) (l k : ℕ) (row : BuiltInType) → slice_get rows k ≡ Some row → (b : ℕ) × (slice_get (shapes_of rows l) k ≡ Some (shape_at b row.kind))
+shape_there : (rows : List BuiltInType) (l k : ℕ) (row : BuiltInType) → slice_get rows k ≡ Some row
+    → (b : ℕ) × (slice_get (shapes_of rows l) k ≡ Some (shape_at b row.kind))
 shape_there [] l k row e = absurd cc
-shape_there (r ∷ rows) l zero row e = let same : r ≡ row = cc in (l, ap (λ (z : BuiltInType). Some (shape_at l z.kind)) same)
+shape_there (r ∷ rows) l zero row e =
+    let same : r ≡ row = cc in (l, ap (λ (z : BuiltInType). Some (shape_at l z.kind)) same)
 shape_there (r ∷ rows) l (suc k) row e = shape_there rows (place_behind l r.kind) k row e
 
-from_there : (l k : ℕ) (row : BuiltInType) → slice_get types k ≡ Some row → (b : ℕ) × (slice_get (shapes_from l) k ≡ Some (shape_at b row.kind))
+from_there : (l k : ℕ) (row : BuiltInType) → slice_get types k ≡ Some row
+    → (b : ℕ) × (slice_get (shapes_from l) k ≡ Some (shape_at b row.kind))
 unfolding shapes_from
 from_there l k row e = shape_there types l k row e
 
@@ -169,15 +180,21 @@ only_item x b (suc k, l, e) = absurd (omega arith)
 no_trait : a_kind.Leaf ≡ a_kind.Trait → ⊥
 no_trait e = absurd cc
 
-module _ (tokens : Tokens) (c : Component) (h : Hierarchy) (m : Members) (groups : Groups) (typed : Typed) (p : Program) (ok : Checked tokens c h m groups typed p) where
+module _ (tokens : Tokens) (c : Component) (h : Hierarchy) (m : Members) (groups : Groups)
+    (typed : Typed) (p : Program) (ok : Checked tokens c h m groups typed p) where
   within : (n : ℕ) (row : BuiltInType) → slice_get types n ≡ Some row → n < TYPE_COUNT
   within n row e = let l = slice_get_within types n row e in let k = rows_long in omega arith
 
   -- the shape of a built-in type
-  pub shape_is : (n : ℕ) (row : BuiltInType) → slice_get types n ≡ Some row → (b : ℕ) × (slice_get p.shapes n ≡ Some (shape_at b row.kind))
+  pub shape_is : (n : ℕ) (row : BuiltInType) → slice_get types n ≡ Some row
+      → (b : ℕ) × (slice_get p.shapes n ≡ Some (shape_at b row.kind))
   unfolding shapes
-  shape_is n row e = let w = from_there (length m.variables) n row e in
-      (w.0, ap (λ z. slice_get z n) ok.program.shapes ∙ get_left (shapes_from (length m.variables)) (own_shapes c.texts typed.initials m.sets _ _ _ _) n (shape_at w.0 row.kind) w.1)
+  shape_is n row e = let w = from_there (length m.variables) n row e in (
+    w.0,
+    ap (λ z. slice_get z n) ok.program.shapes
+        ∙ get_left (shapes_from (length m.variables))
+        (own_shapes c.texts typed.initials m.sets _ _ _ _) n (shape_at w.0 row.kind) w.1,
+  )
 
   -- ---- leaves
 
@@ -185,11 +202,18 @@ module _ (tokens : Tokens) (c : Component) (h : Hierarchy) (m : Members) (groups
   leaf_of id w = leaf_row id (subst (λ b. AmongLeaves b id) ok.program.built_in w)
 
   pub is_leaf : (id : TypeId) → IsBuiltIn p id → Leaf (declares c) id.0
-  is_leaf id w = let r = leaf_of id w in (declared_by_row r.row, declared_row c id.0 r.row r.stands, λ t. no_trait (sym r.kind_is ∙ t))
+  is_leaf id w =
+      let r = leaf_of id w
+      in (
+        declared_by_row r.row,
+        declared_row c id.0 r.row r.stands,
+        λ t. no_trait (sym r.kind_is ∙ t),
+      )
 
   pub only_leaf : (b i : TypeId) → IsBuiltIn p b → Under p i b → i ≡ b
   only_leaf b i w (inl e) = e
-  only_leaf b i w (inr set) = ap type_number (only_itself c h ok.hierarchy p ok.program.types i.0 b.0 (is_leaf b w) set)
+  only_leaf b i w (inr set) =
+      ap type_number (only_itself c h ok.hierarchy p ok.program.types i.0 b.0 (is_leaf b w) set)
 
   leaf_unmade : (b : ℕ) (k : _) → k ≡ a_kind.Leaf → Makes (kind_at b k) → ⊥
   leaf_unmade b k e made = subst (λ z. Makes (kind_at b z)) e made
@@ -204,41 +228,59 @@ module _ (tokens : Tokens) (c : Component) (h : Hierarchy) (m : Members) (groups
   no_place : (f : NameId) (s : CoreShape) (n : ℕ) → s.fields ≡ [] → place_of f s.fields ≡ Some n → ⊥
   no_place f s n e q = let z : None ≡ Some n = ap (place_of f) (sym e) ∙ q in absurd cc
 
-  built_in_fieldless : (i : TypeId) (f : NameId) (A : Ty) → i.0 < TYPE_COUNT → (x : FieldOf p i f A) → Told c m ok.members c.texts typed.initials i.0 x.shape → ⊥
-  built_in_fieldless i f A l x (built_in row b e q) = no_place f x.shape x.place (ap (λ (z : CoreShape). z.fields) q) x.is_place
+  built_in_fieldless : (i : TypeId) (f : NameId) (A : Ty) → i.0 < TYPE_COUNT → (x : FieldOf p i f A)
+      → Told c m ok.members c.texts typed.initials i.0 x.shape → ⊥
+  built_in_fieldless i f A l x (built_in row b e q) =
+      no_place f x.shape x.place (ap (λ (z : CoreShape). z.fields) q) x.is_place
   built_in_fieldless i f A l x (own k q o fs e g w) = absurd (omega (arith, l, q))
 
-  pub fieldless : (b i : TypeId) (f : NameId) (A : Ty) → IsBuiltIn p b → Under p b i → FieldOf p i f A → ⊥
+  pub fieldless : (b i : TypeId) (f : NameId) (A : Ty) → IsBuiltIn p b → Under p b i
+      → FieldOf p i f A → ⊥
   fieldless b i f A w under x =
       let r = leaf_of b w in
-      built_in_fieldless i f A (at under) x (told_at tokens c h m groups typed p ok i.0 x.shape x.is_shape)
+      built_in_fieldless i f A (at under) x
+      (told_at tokens c h m groups typed p ok i.0 x.shape x.is_shape)
     where
       at : Under p b i → i.0 < TYPE_COUNT
-      at (inl e) = let r = leaf_of b w in subst (λ (z : TypeId). z.0 < TYPE_COUNT) e (within b.0 r.row r.stands)
-      at (inr set) = let r = leaf_of b w in stays c b.0 i.0 (path c h ok.hierarchy p ok.program.types b.0 i.0 set) (within b.0 r.row r.stands)
+      at (inl e) =
+          let r = leaf_of b w
+          in subst (λ (z : TypeId). z.0 < TYPE_COUNT) e (within b.0 r.row r.stands)
+      at (inr set) =
+          let r = leaf_of b w
+          in stays c b.0 i.0 (path c h ok.hierarchy p ok.program.types b.0 i.0 set)
+          (within b.0 r.row r.stands)
 
   -- above `Object` there is nothing, and above a leaf only `Object`
   from_object : (a b : ℕ) → Path (declares c) a b → a ≡ 0 → b ≡ 0
   from_object a b stop e = e
-  from_object a b (along {b = x} s q) e = absurd (let l : a < TYPE_COUNT = omega arith in let u = (plain_at a s.0 (built_in_at c a s.0 l s.1)).upwards x s.2 in omega arith)
+  from_object a b (along {b = x} s q) e = absurd
+      (let l : a < TYPE_COUNT = omega arith
+      in let u = (plain_at a s.0 (built_in_at c a s.0 l s.1)).upwards x s.2 in omega arith)
 
   from_leaf : (a b : ℕ) → LeafRow a → Path (declares c) a b → (b ≡ a) ⊎ (b ≡ 0)
   from_leaf a b r stop = inl refl
   from_leaf a b r (along {b = x} s q) =
-      let same : s.0 ≡ declared_by_row r.row = one (declares c) a (declared_by_row r.row) s.0 (declared_row c a r.row r.stands) s.1 in
-      let above : Contains (above_of r.row.extends) x = subst (λ (z : DeclaredType). Contains z.extends x) same s.2 in
-      inr (from_object x b q (sym (only_item 0 x (subst (λ z. Contains (above_of z) x) r.extends_is above))))
+      let same : s.0 ≡ declared_by_row r.row =
+      one (declares c) a (declared_by_row r.row) s.0 (declared_row c a r.row r.stands) s.1 in
+      let above : Contains (above_of r.row.extends) x =
+      subst (λ (z : DeclaredType). Contains z.extends x) same s.2 in
+      inr (from_object x b q
+      (sym (only_item 0 x (subst (λ z. Contains (above_of z) x) r.extends_is above))))
 
   -- so no leaf is below `Exception`
   pub unthrown : (b : TypeId) → IsBuiltIn p b → Under p b p.built_in.exception → ⊥
-  unthrown b w under = no (leaf_number b (subst (λ z. AmongLeaves z b) ok.program.built_in w)) (by under)
+  unthrown b w under =
+      no (leaf_number b (subst (λ z. AmongLeaves z b) ok.program.built_in w)) (by under)
     where
       exception : p.built_in.exception.0 ≡ 1
       exception = ap (λ (z : BuiltIn). z.exception.0) ok.program.built_in
 
-      by : Under p b p.built_in.exception → (p.built_in.exception.0 ≡ b.0) ⊎ (p.built_in.exception.0 ≡ 0)
+      by : Under p b p.built_in.exception
+          → (p.built_in.exception.0 ≡ b.0) ⊎ (p.built_in.exception.0 ≡ 0)
       by (inl e) = inl (ap (λ (z : TypeId). z.0) (sym e))
-      by (inr set) = from_leaf b.0 p.built_in.exception.0 (leaf_of b w) (path c h ok.hierarchy p ok.program.types b.0 p.built_in.exception.0 set)
+      by (inr set) =
+          from_leaf b.0 p.built_in.exception.0 (leaf_of b w)
+          (path c h ok.hierarchy p ok.program.types b.0 p.built_in.exception.0 set)
 
       no : 2 ≤ b.0 → (p.built_in.exception.0 ≡ b.0) ⊎ (p.built_in.exception.0 ≡ 0) → ⊥
       no l (inl e) = absurd (let n = exception in omega arith)
@@ -249,35 +291,55 @@ module _ (tokens : Tokens) (c : Component) (h : Hierarchy) (m : Members) (groups
   single_kind : (b : ℕ) (k : _) → k ≡ a_kind.Object → kind_at b k ≡ kind.Single (location b)
   single_kind b k e = ap (kind_at b) e
 
-  pub exception_single : (id : TypeId) → ExceptionRow id.0 → (l : Loc) × (s : CoreShape) × ShapeOf p id s × (s.kind ≡ kind.Single l)
-  exception_single id r = let v = shape_is id.0 r.row r.stands in (location v.0, shape_at v.0 r.row.kind, v.1, single_kind v.0 r.row.kind r.kind_is)
+  pub exception_single : (id : TypeId) → ExceptionRow id.0
+      → (l : Loc) × (s : CoreShape) × ShapeOf p id s × (s.kind ≡ kind.Single l)
+  exception_single id r =
+      let v = shape_is id.0 r.row r.stands
+      in (location v.0, shape_at v.0 r.row.kind, v.1, single_kind v.0 r.row.kind r.kind_is)
 
   below_exception : (id : TypeId) → ExceptionRow id.0 → Below p (Named id) (Named EXCEPTION)
   below_exception id r =
       let at = declared_row c id.0 r.row r.stands in
       let l = slice_get_within (declares c) id.0 (declared_by_row r.row) at in
       let n = counted c in
-      let extends : Contains (declared_by_row r.row).extends 1 = subst (λ z. Contains (above_of z) 1) (sym r.extends_is) (0, omega arith, refl) in
-      below c h ok.hierarchy p ok.program.types (Named id) (Named EXCEPTION) (named_numbered (length (declares c)) id l) (named (outs-Named id) (outs-Named EXCEPTION) (along (declared_by_row r.row, at, extends, omega arith) stop))
+      let extends : Contains (declared_by_row r.row).extends 1 =
+      subst (λ z. Contains (above_of z) 1) (sym r.extends_is) (0, omega arith, refl) in
+      below c h ok.hierarchy p ok.program.types (Named id) (Named EXCEPTION)
+      (named_numbered (length (declares c)) id l)
+      (named (outs-Named id) (outs-Named EXCEPTION)
+      (along (declared_by_row r.row, at, extends, omega arith) stop))
 
   -- a single object that is an exception is thrown
-  pub exception_has : (id : TypeId) → ExceptionRow id.0 → (s : CoreShape) (l : Loc) → ShapeOf p id s → s.kind ≡ kind.Single l → HasV p (opening p) (ObjectValue id l) (Named EXCEPTION)
-  exception_has id r s l e k = sub_v p (opening p) (λ X Y Z u w. transitive p (through p.types.below (rows_through c h ok.hierarchy p ok.program.types)) u w)
+  pub exception_has : (id : TypeId) → ExceptionRow id.0 → (s : CoreShape) (l : Loc) → ShapeOf p id s
+      → s.kind ≡ kind.Single l → HasV p (opening p) (ObjectValue id l) (Named EXCEPTION)
+  exception_has id r s l e k =
+      sub_v p (opening p)
+      (λ X Y Z u w. transitive p
+      (through p.types.below (rows_through c h ok.hierarchy p ok.program.types)) u w)
       (single_has tokens c h m groups typed p ok id s l e k) (below_exception id r)
 
   failure_row : (id : TypeId) → IsFailure p id → ExceptionRow id.0
   failure_row id w = exception_row id (subst (λ b. AmongFailures b id) ok.program.built_in w)
 
-  single_is : (id : TypeId) (s : CoreShape) (l : Loc) → ShapeOf p id s → s.kind ≡ kind.Single l → single p id ≡ Some (ObjectValue id l)
-  single_is id s l e k = ap (option_and_then (object_of id)) e ∙ ap (λ z. object_of id (record { kind = z; fields = s.fields })) k
+  single_is : (id : TypeId) (s : CoreShape) (l : Loc) → ShapeOf p id s → s.kind ≡ kind.Single l
+      → single p id ≡ Some (ObjectValue id l)
+  single_is id s l e k =
+      ap (option_and_then (object_of id)) e
+      ∙ ap (λ z. object_of id (record { kind = z; fields = s.fields })) k
 
   pub failure_single : (id : TypeId) → IsFailure p id → (v : Value) × (single p id ≡ Some v)
-  failure_single id w = let x = exception_single id (failure_row id w) in (ObjectValue id x.0, single_is id x.1 x.0 x.2 x.3)
+  failure_single id w =
+      let x = exception_single id (failure_row id w)
+      in (ObjectValue id x.0, single_is id x.1 x.0 x.2 x.3)
 
-  pub failure_has : (id : TypeId) (v : Value) → IsFailure p id → single p id ≡ Some v → HasV p (opening p) v (thrown_type p)
+  pub failure_has : (id : TypeId) (v : Value) → IsFailure p id → single p id ≡ Some v
+      → HasV p (opening p) v (thrown_type p)
   failure_has id v w e =
       let r = failure_row id w in
       let x = exception_single id r in
       let z : Some (ObjectValue id x.0) ≡ Some v = sym (single_is id x.1 x.0 x.2 x.3) ∙ e in
       let same : ObjectValue id x.0 ≡ v = cc in
-      subst (λ T. HasV p (opening p) v T) (ap (λ (b : BuiltIn). Named b.exception) (sym ok.program.built_in)) (subst (λ u. HasV p (opening p) u (Named EXCEPTION)) same (exception_has id r x.1 x.0 x.2 x.3))
+      subst (λ T. HasV p (opening p) v T) (ap (λ
+      (b : BuiltIn). Named b.exception) (sym ok.program.built_in))
+      (subst (λ u. HasV p (opening p) u (Named EXCEPTION)) same
+      (exception_has id r x.1 x.0 x.2 x.3))

@@ -1,4 +1,5 @@
--- Calls of the program: which declarations its sets have, `widen`, the operators of reductions, and `run`.
+-- Calls of the program: which declarations its sets have, `widen`, the operators of reductions, and
+-- `run`.
 use Rattle.std.proofs.Common.{◌≡◌, ℕ, zero, suc, ◌+◌, Bool, true, false, ◌&&◌, List, [], ◌∷◌, length, Some, refl, sym, ap, ◌∙◌, subst, arith, IsTrue}
 use Rattle.std.specs.Prelude.{codes, Contains}
 use Rattle.std.specs.List.{slice_get, AllByRecursion}
@@ -36,7 +37,8 @@ use Rattle.fort_sound_program.proofs.Order.{computed}
 use Rattle.fort_sound_program.proofs.Placed.{number_at, Placed}
 
 -- a set of members has its set in the program
-set_there : (n : ℕ) (ss : List MemberSet) (k : ℕ) (s : MemberSet) → slice_get ss k ≡ Some s → (c : CoreSet) × (slice_get (core_sets n ss) k ≡ Some c)
+set_there : (n : ℕ) (ss : List MemberSet) (k : ℕ) (s : MemberSet) → slice_get ss k ≡ Some s
+    → (c : CoreSet) × (slice_get (core_sets n ss) k ≡ Some c)
 set_there n [] k s e = absurd cc
 set_there n (x ∷ ss) zero s e = (_, refl)
 set_there n (x ∷ ss) (suc k) s e = set_there (n + length x.members) ss k s e
@@ -44,7 +46,8 @@ set_there n (x ∷ ss) (suc k) s e = set_there (n + length x.members) ss k s e
 abbrev pub set_number : ℕ → SetId
 set_number n = record { 0 = n }
 
-module _ (tokens : Tokens) (c : Component) (h : Hierarchy) (m : Members) (groups : Groups) (typed : Typed) (p : Program) (ok : Checked tokens c h m groups typed p) where
+module _ (tokens : Tokens) (c : Component) (h : Hierarchy) (m : Members) (groups : Groups)
+    (typed : Typed) (p : Program) (ok : Checked tokens c h m groups typed p) where
   -- the declaration that a member of a set became
   pub record Declared (set : SetId) (d : Member) : Type 0 where
     pub members : CoreSet
@@ -56,7 +59,8 @@ module _ (tokens : Tokens) (c : Component) (h : Hierarchy) (m : Members) (groups
     pub parameters : decl.parameters ≡ d.parameters
     pub result : decl.result ≡ d.result
 
-  pub declared : (set : SetId) (s : MemberSet) (i : ℕ) (d : Member) → slice_get m.sets set.0 ≡ Some s → StandsAt s i d → Declared set d
+  pub declared : (set : SetId) (s : MemberSet) (i : ℕ) (d : Member)
+      → slice_get m.sets set.0 ≡ Some s → StandsAt s i d → Declared set d
   declared set s i d e st =
       let w = set_there 0 m.sets set.0 s e in
       let at = ap (λ z. slice_get z set.0) ok.program.sets ∙ w.1 in
@@ -64,7 +68,9 @@ module _ (tokens : Tokens) (c : Component) (h : Hierarchy) (m : Members) (groups
       let same : x.set ≡ s = one m.sets set.0 s x.set e x.is_set in
       go w.0 at x (subst (λ (z : MemberSet). StandsAt z i d) (sym same) st)
     where
-      go : (core : CoreSet) → slice_get p.sets set.0 ≡ Some core → (x : Placed (table h m c.texts typed p ok.program) 0 m.sets set.0 core) → StandsAt x.set i d → Declared set d
+      go : (core : CoreSet) → slice_get p.sets set.0 ≡ Some core
+          → (x : Placed (table h m c.texts typed p ok.program) 0 m.sets set.0 core)
+          → StandsAt x.set i d → Declared set d
       go core at x st =
           let v = decl_at h m c.texts typed p ok.program set.0 core x i d st in
           record {
@@ -72,23 +78,31 @@ module _ (tokens : Tokens) (c : Component) (h : Hierarchy) (m : Members) (groups
             number = decl_number (x.base + i);
             decl = v.decl;
             is_set = at;
-            is_member = of_get core.decls i (decl_number (x.base + i)) (ap (λ z. slice_get z i) (decls_are h m c.texts typed p ok.program set.0 core x) ∙ number_at x.base x.set.members i d st);
+            is_member =
+                of_get core.decls i (decl_number (x.base + i))
+                (ap (λ z. slice_get z i) (decls_are h m c.texts typed p ok.program set.0 core x)
+                ∙ number_at x.base x.set.members i d st);
             is_decl = v.is_decl;
             parameters = v.became_it.parameters;
             result = v.became_it.result;
           }
 
   -- each of its own types
-  all_itself : (ts : List Ty) → AllByRecursion (IsNumbered (length (declares c))) ts → IsTrue (all_below p ts ts)
+  all_itself : (ts : List Ty) → AllByRecursion (IsNumbered (length (declares c))) ts
+      → IsTrue (all_below p ts ts)
   all_itself [] h = refl
-  all_itself (t ∷ ts) w = both (relation p.types.below t true t) (all_below p ts ts) (computed c h ok.hierarchy p ok.program.types t t w.0 (itself (declares c) t)) (all_itself ts w.1)
+  all_itself (t ∷ ts) w =
+      both (relation p.types.below t true t) (all_below p ts ts)
+      (computed c h ok.hierarchy p ok.program.types t t w.0 (itself (declares c) t))
+      (all_itself ts w.1)
     where
       both : (a b : Bool) → IsTrue a → IsTrue b → IsTrue (a && b)
       both true b e f = f
       both false b e f = absurd (let z : false ≡ true = e in cc)
 
   -- a call with the types of the parameters themselves
-  pub called : (set : SetId) (s : MemberSet) (i : ℕ) (d : Member) (ts : List Ty) (result : Ty) → slice_get m.sets set.0 ≡ Some s → StandsAt s i d → d.parameters ≡ ts → d.result ≡ result
+  pub called : (set : SetId) (s : MemberSet) (i : ℕ) (d : Member) (ts : List Ty) (result : Ty)
+      → slice_get m.sets set.0 ≡ Some s → StandsAt s i d → d.parameters ≡ ts → d.result ≡ result
       → AllByRecursion (IsNumbered (length (declares c))) ts → Called p set ts result
   called set s i d ts result e st are is numbered =
       let w = declared set s i d e st in (
@@ -99,16 +113,21 @@ module _ (tokens : Tokens) (c : Component) (h : Hierarchy) (m : Members) (groups
           is_set = w.is_set;
           is_member = w.is_member;
           is_decl = w.is_decl;
-          applies = subst (λ z. IsTrue (all_below p ts z)) (sym (w.parameters ∙ are)) (all_itself ts numbered);
+          applies =
+              subst (λ z. IsTrue (all_below p ts z)) (sym (w.parameters ∙ are))
+              (all_itself ts numbered);
         },
         sym (w.result ∙ is),
       )
 
-  pub called_built_in : (name : List ℕ) (t : Ty) (ts : List Ty) (result : Ty) → BuiltIn name (t ∷ ts) result → AllByRecursion (IsNumbered (length (declares c))) (t ∷ ts)
-      → Called p (set_number (first_set (is_set_of name false (length (t ∷ ts))) m.sets)) (t ∷ ts) result
+  pub called_built_in : (name : List ℕ) (t : Ty) (ts : List Ty) (result : Ty)
+      → BuiltIn name (t ∷ ts) result → AllByRecursion (IsNumbered (length (declares c))) (t ∷ ts)
+      → Called p (set_number (first_set (is_set_of name false (length (t ∷ ts))) m.sets)) (t ∷ ts)
+      result
   called_built_in name t ts result b numbered =
       let w = built_in_first c m ok.members name t ts result b in
-      called (set_number (first_set (is_set_of name false (length (t ∷ ts))) m.sets)) w.0 w.1 w.2 (t ∷ ts) result w.3 w.4 w.5 w.6 numbered
+      called (set_number (first_set (is_set_of name false (length (t ∷ ts))) m.sets)) w.0 w.1 w.2
+      (t ∷ ts) result w.3 w.4 w.5 w.6 numbered
 
   -- ---- the built-in types
 

@@ -76,26 +76,81 @@ module _ (p : Program) (built_in : p.built_in ≡ BUILT_IN) (S : Sig) where
   truth_is = named_by (λ b. b.truth)
 
   pub has_unit : HasV p S unit unit_type
-  has_unit = has_v_at p S (outs-Tuple []) (record { own = unit_type; qs = []; ws = []; fits = refl; parts = parts0; values = vs0; below = is_same refl })
+  has_unit =
+      has_v_at p S (outs-Tuple [])
+      (record {
+        own = unit_type;
+        qs = [];
+        ws = [];
+        fits = refl;
+        parts = parts0;
+        values = vs0;
+        below = is_same refl;
+      })
 
   has_small : (z : ℤ) → IsNumber w32 z → HasV p S (Small z) zz32
-  has_small z w = has_v_at p S (outs-Small z) (record { own = zz32; qs = []; ws = []; fits = (sym small_is, w); parts = parts0; values = vs0; below = is_same refl })
+  has_small z w =
+      has_v_at p S (outs-Small z)
+      (record {
+        own = zz32;
+        qs = [];
+        ws = [];
+        fits = (sym small_is, w);
+        parts = parts0;
+        values = vs0;
+        below = is_same refl;
+      })
 
   has_large : (z : ℤ) → IsNumber w64 z → HasV p S (Large z) zz64
-  has_large z w = has_v_at p S (outs-Large z) (record { own = zz64; qs = []; ws = []; fits = (sym large_is, w); parts = parts0; values = vs0; below = is_same refl })
+  has_large z w =
+      has_v_at p S (outs-Large z)
+      (record {
+        own = zz64;
+        qs = [];
+        ws = [];
+        fits = (sym large_is, w);
+        parts = parts0;
+        values = vs0;
+        below = is_same refl;
+      })
 
   has_truth : (b : Bool) → HasV p S (Truth b) boolean
-  has_truth b = has_v_at p S (outs-Truth b) (record { own = boolean; qs = []; ws = []; fits = sym truth_is; parts = parts0; values = vs0; below = is_same refl })
+  has_truth b =
+      has_v_at p S (outs-Truth b)
+      (record {
+        own = boolean;
+        qs = [];
+        ws = [];
+        fits = sym truth_is;
+        parts = parts0;
+        values = vs0;
+        below = is_same refl;
+      })
 
   has_text : (s : List ℕ) → HasV p S (Text s) string
-  has_text s = has_v_at p S (outs-Text s) (record { own = string; qs = []; ws = []; fits = sym text_is; parts = parts0; values = vs0; below = is_same refl })
+  has_text s =
+      has_v_at p S (outs-Text s)
+      (record {
+        own = string;
+        qs = [];
+        ws = [];
+        fits = sym text_is;
+        parts = parts0;
+        values = vs0;
+        below = is_same refl;
+      })
 
-  has_number : (n : ℕ) (z : ℤ) → n ≤ 9223372036854775807 → Bounded n z → HasV p S (translation.number n z) (number_type n)
+  has_number : (n : ℕ) (z : ℤ) → n ≤ 9223372036854775807 → Bounded n z
+      → HasV p S (translation.number n z) (number_type n)
   has_number n z l b = go (nat_le n 2147483647) refl
     where
-      go : (c : Bool) → nat_le n 2147483647 ≡ c → HasV p S (cond c (Small z) (Large z)) (cond c zz32 zz64)
-      go true e = let m = leb-true n 2147483647 e in let u = b.0 in let d = b.1 in has_small z (small_in z (omega arith) (omega arith))
-      go false e = let u = b.0 in let d = b.1 in has_large z (large_in z (omega arith) (omega arith))
+      go : (c : Bool) → nat_le n 2147483647 ≡ c
+          → HasV p S (cond c (Small z) (Large z)) (cond c zz32 zz64)
+      go true e =
+          let m = leb-true n 2147483647 e in let u = b.0 in let d = b.1
+          in has_small z (small_in z (omega arith) (omega arith))
+      go false e =
+          let u = b.0 in let d = b.1 in has_large z (large_in z (omega arith) (omega arith))
 
   -- ---- constants
 
@@ -107,34 +162,54 @@ module _ (p : Program) (built_in : p.built_in ≡ BUILT_IN) (S : Sig) where
     unfolding type_of
     type_is t = refl
 
-    has_out : (t : TypedForm) (T : Ty) → HasV p S (constant texts t) T → type_at (out-TypedForm t) ≡ T → HasIt t
+    has_out : (t : TypedForm) (T : Ty) → HasV p S (constant texts t) T
+        → type_at (out-TypedForm t) ≡ T → HasIt t
     has_out t T h e = subst (HasV p S (constant texts t)) (sym (type_is t ∙ e)) h
 
     of_number : (n : ℕ) → n ≤ 9223372036854775807 → HasIt (a_typed.Number (number_type n) n)
     of_number n l = let t = a_typed.Number (number_type n) n in
-        has_out t (number_type n) (subst (λ x. HasV p S (constant_at texts x) (number_type n)) (sym (outs-Number (number_type n) n)) (has_number n (pos n) l (itself_bounded n))) (ap type_at (outs-Number (number_type n) n))
+        has_out t (number_type n)
+        (subst (λ x. HasV p S (constant_at texts x) (number_type n))
+        (sym (outs-Number (number_type n) n)) (has_number n (pos n) l (itself_bounded n)))
+        (ap type_at (outs-Number (number_type n) n))
 
-    of_negative : (n : ℕ) (set : Chosen) → n ≤ 9223372036854775807 → HasIt (a_typed.Operation (number_type n) set (a_typed.Number (number_type n) n ∷ []))
-    of_negative n set l = let d = a_typed.Number (number_type n) n in let t = a_typed.Operation (number_type n) set (d ∷ []) in
-        has_out t (number_type n) (subst (λ x. HasV p S (constant_at texts x) (number_type n)) (sym (outs-Operation (number_type n) set (d ∷ [])))
-        (subst (λ x. HasV p S (negative_at x) (number_type n)) (sym (outs-Number (number_type n) n)) (has_number n (pos 0 -ℤ pos n) l (negative_bounded n)))) (ap type_at (outs-Operation (number_type n) set (d ∷ [])))
+    of_negative : (n : ℕ) (set : Chosen) → n ≤ 9223372036854775807
+        → HasIt (a_typed.Operation (number_type n) set (a_typed.Number (number_type n) n ∷ []))
+    of_negative n set l =
+        let d = a_typed.Number (number_type n) n
+        in let t = a_typed.Operation (number_type n) set (d ∷ []) in
+        has_out t (number_type n)
+        (subst (λ x. HasV p S (constant_at texts x) (number_type n))
+        (sym (outs-Operation (number_type n) set (d ∷ [])))
+        (subst (λ x. HasV p S (negative_at x) (number_type n)) (sym (outs-Number (number_type n) n))
+        (has_number n (pos 0 -ℤ pos n) l (negative_bounded n)))) (ap type_at
+        (outs-Operation (number_type n) set (d ∷ [])))
 
     of_words : (n : ℕ) → HasIt (a_typed.Text string n)
     of_words n = let t = a_typed.Text string n in
-        has_out t string (subst (λ x. HasV p S (constant_at texts x) string) (sym (outs-TypedText string n)) (has_text (get_or texts n []))) (ap type_at (outs-TypedText string n))
+        has_out t string
+        (subst (λ x. HasV p S (constant_at texts x) string) (sym (outs-TypedText string n))
+        (has_text (get_or texts n []))) (ap type_at (outs-TypedText string n))
 
     of_truth : (b : Bool) → HasIt (a_typed.Truth boolean b)
     of_truth b = let t = a_typed.Truth boolean b in
-        has_out t boolean (subst (λ x. HasV p S (constant_at texts x) boolean) (sym (outs-TypedTruth boolean b)) (has_truth b)) (ap type_at (outs-TypedTruth boolean b))
+        has_out t boolean
+        (subst (λ x. HasV p S (constant_at texts x) boolean) (sym (outs-TypedTruth boolean b))
+        (has_truth b)) (ap type_at (outs-TypedTruth boolean b))
 
     of_nothing : HasIt (a_typed.Tuple unit_type [])
     of_nothing = let t = a_typed.Tuple unit_type [] in
-        has_out t unit_type (subst (λ x. HasV p S (constant_at texts x) unit_type) (sym (outs-TypedTuple unit_type [])) has_unit) (ap type_at (outs-TypedTuple unit_type []))
+        has_out t unit_type
+        (subst (λ x. HasV p S (constant_at texts x) unit_type)
+        (sym (outs-TypedTuple unit_type [])) has_unit)
+        (ap type_at (outs-TypedTuple unit_type []))
 
     -- Where the numbers of an initial are those of a file, its constant has its type.
-    pub constant_has : (k : Knows) (e : Form) (t : TypedForm) → IsConstant k e t → FitsFile e → HasIt t
+    pub constant_has : (k : Knows) (e : Form) (t : TypedForm) → IsConstant k e t → FitsFile e
+        → HasIt t
     constant_has k e t (number q n f r) fits = subst HasIt (sym r) (of_number n (fits.number q n f))
-    constant_has k e t (negative q r d n f g s) fits = subst HasIt (sym s) (of_negative n _ (fits.negative q r d n f g))
+    constant_has k e t (negative q r d n f g s) fits =
+        subst HasIt (sym s) (of_negative n _ (fits.negative q r d n f g))
     constant_has k e t (words q n f r) fits = subst HasIt (sym r) (of_words n)
     constant_has k e t (truth q b f r) fits = subst HasIt (sym r) (of_truth b)
     constant_has k e t (nothing q f r) fits = subst HasIt (sym r) of_nothing
@@ -153,8 +228,20 @@ module _ (n : ℕ) (few : 7 ≤ n) where
   by_out t T h e = subst (IsNumbered n) (sym e) h
 
   pub constant_numbered : (k : Knows) (e : Form) (t : TypedForm) → IsConstant k e t → Numbered t
-  constant_numbered k e t (number q m f r) = subst Numbered (sym r) (by_out _ (number_type m) (number_numbered n m few (nat_le m 2147483647)) (ap type_at (outs-Number (number_type m) m)))
-  constant_numbered k e t (negative q r d m f g s) = subst Numbered (sym s) (by_out _ (number_type m) (number_numbered n m few (nat_le m 2147483647)) (ap type_at (outs-Operation (number_type m) _ _)))
-  constant_numbered k e t (words q m f r) = subst Numbered (sym r) (by_out _ string (named_numbered n _ (omega arith)) (ap type_at (outs-TypedText string m)))
-  constant_numbered k e t (truth q b f r) = subst Numbered (sym r) (by_out _ boolean (named_numbered n _ (omega arith)) (ap type_at (outs-TypedTruth boolean b)))
-  constant_numbered k e t (nothing q f r) = subst Numbered (sym r) (by_out _ unit_type (tuple_numbered n [] tt) (ap type_at (outs-TypedTuple unit_type [])))
+  constant_numbered k e t (number q m f r) =
+      subst Numbered (sym r)
+      (by_out _ (number_type m) (number_numbered n m few (nat_le m 2147483647))
+      (ap type_at (outs-Number (number_type m) m)))
+  constant_numbered k e t (negative q r d m f g s) =
+      subst Numbered (sym s)
+      (by_out _ (number_type m) (number_numbered n m few (nat_le m 2147483647))
+      (ap type_at (outs-Operation (number_type m) _ _)))
+  constant_numbered k e t (words q m f r) =
+      subst Numbered (sym r)
+      (by_out _ string (named_numbered n _ (omega arith)) (ap type_at (outs-TypedText string m)))
+  constant_numbered k e t (truth q b f r) =
+      subst Numbered (sym r)
+      (by_out _ boolean (named_numbered n _ (omega arith)) (ap type_at (outs-TypedTruth boolean b)))
+  constant_numbered k e t (nothing q f r) =
+      subst Numbered (sym r)
+      (by_out _ unit_type (tuple_numbered n [] tt) (ap type_at (outs-TypedTuple unit_type [])))

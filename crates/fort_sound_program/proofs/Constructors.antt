@@ -72,18 +72,26 @@ module _ (c : Component) where
   method_none None t e = absurd cc
   method_none (Some b) t e = absurd cc
 
-  of_trait : (t : ℕ) (x : TraitMember) (j : ℕ) (e : Entry) → slice_get (trait_member_entry (types_of c) c.names t x) j ≡ Some e → IsConstructor e
+  of_trait : (t : ℕ) (x : TraitMember) (j : ℕ) (e : Entry)
+      → slice_get (trait_member_entry (types_of c) c.names t x) j ≡ Some e → IsConstructor e
   of_trait t (trait_member.Field name colon ty) j e g u q = absurd cc
-  of_trait t (trait_member.Method m) zero e g u q = absurd (method_none m.body u (ap (λ (z : Entry). z.member.kind) (some_of g) ∙ q))
+  of_trait t (trait_member.Method m) zero e g u q =
+      absurd (method_none m.body u (ap (λ (z : Entry). z.member.kind) (some_of g) ∙ q))
   of_trait t (trait_member.Method m) (suc j) e g u q = absurd cc
 
-  of_body : (t : ℕ) (x : ObjectMember) (j : ℕ) (e : Entry) → slice_get (object_member_entry (types_of c) c.names t x) j ≡ Some e → IsConstructor e
+  of_body : (t : ℕ) (x : ObjectMember) (j : ℕ) (e : Entry)
+      → slice_get (object_member_entry (types_of c) c.names t x) j ≡ Some e → IsConstructor e
   of_body t (object_member.Variable v) j e g u q = absurd cc
-  of_body t (object_member.Method m) zero e g u q = absurd (method_none m.body u (ap (λ (z : Entry). z.member.kind) (some_of g) ∙ q))
+  of_body t (object_member.Method m) zero e g u q =
+      absurd (method_none m.body u (ap (λ (z : Entry). z.member.kind) (some_of g) ∙ q))
   of_body t (object_member.Method m) (suc j) e g u q = absurd cc
 
-  constructor_step : (k : ℕ) (o : Object) → slice_get (types_in c.declarations) k ≡ Some (declaration.Object o) → (ps : Option ObjectParameters) (j : ℕ) (e : Entry)
-      → slice_get (constructor_entry (types_of c) c.names (number_of (types_of c) (spelling c.names o.name)) o ps) j ≡ Some e → IsConstructor e
+  constructor_step : (k : ℕ) (o : Object)
+      → slice_get (types_in c.declarations) k ≡ Some (declaration.Object o)
+      → (ps : Option ObjectParameters) (j : ℕ) (e : Entry)
+      → slice_get
+      (constructor_entry (types_of c) c.names (number_of (types_of c) (spelling c.names o.name)) o
+      ps) j ≡ Some e → IsConstructor e
   constructor_step k o st None j e g u q = absurd cc
   constructor_step k o st (Some ps) zero e g u q =
       let t = type_number (number_of (types_of c) (spelling c.names o.name)) in
@@ -102,31 +110,50 @@ module _ (c : Component) where
       id_same e = cc
   constructor_step k o st (Some ps) (suc j) e g u q = absurd cc
 
-  of_declaration : (a : ℕ) (d : Declared) → slice_get c.declarations a ≡ Some d → (x : Declaration) → d.declaration ≡ x → (j : ℕ) (e : Entry) → slice_get (entries_at (types_of c) c.names x) j ≡ Some e → IsConstructor e
+  of_declaration : (a : ℕ) (d : Declared) → slice_get c.declarations a ≡ Some d → (x : Declaration)
+      → d.declaration ≡ x → (j : ℕ) (e : Entry)
+      → slice_get (entries_at (types_of c) c.names x) j ≡ Some e → IsConstructor e
   of_declaration a d g (declaration.Variable v) r j e f u q = absurd cc
   of_declaration a d g (declaration.Function w) r j e f u q = function_none (only _ e j f) refl u q
     where
-      function_none : {y : Entry} → y ≡ e → y.member.kind ≡ a_kind.Concrete → (u : TypeId) → e.member.kind ≡ a_kind.Constructor u → OfObject e u
-      function_none s k u q = absurd (let z : a_kind.Concrete ≡ a_kind.Constructor u = sym k ∙ ap (λ (z : Entry). z.member.kind) s ∙ q in cc)
+      function_none : {y : Entry} → y ≡ e → y.member.kind ≡ a_kind.Concrete → (u : TypeId)
+          → e.member.kind ≡ a_kind.Constructor u → OfObject e u
+      function_none s k u q = absurd
+          (let z : a_kind.Concrete ≡ a_kind.Constructor u =
+          sym k ∙ ap (λ (z : Entry). z.member.kind) s ∙ q in cc)
   of_declaration a d g (declaration.Trait t) r j e f u q =
-      let w = from_flat (trait_entry (types_of c) c.names (number_of (types_of c) (spelling c.names t.name))) t.members j e f in
+      let w = from_flat
+      (trait_entry (types_of c) c.names (number_of (types_of c) (spelling c.names t.name)))
+      t.members j e f in
       of_trait (number_of (types_of c) (spelling c.names t.name)) w.1.member w.2 e w.4 u q
   of_declaration a d g (declaration.Object o) r j e f u q =
       let t = number_of (types_of c) (spelling c.names o.name) in
       let k = in_types c.declarations a d o g r in
-      elim (either_side (constructor_entry (types_of c) c.names t o o.parameters) (flat_map (object_entry (types_of c) c.names t) o.members) j e f) as (λ _. OfObject e u) [
+      elim (either_side (constructor_entry (types_of c) c.names t o o.parameters)
+      (flat_map (object_entry (types_of c) c.names t) o.members) j e f) as
+      (λ _. OfObject e u) [
         | inl v ↦ constructor_step k.0 o k.1 o.parameters j e v u q
-        | inr v ↦ (let w = from_flat (object_entry (types_of c) c.names t) o.members v.0 e v.2 in of_body t w.1.member w.2 e w.4 u q)
+        | inr v ↦
+            (let w = from_flat (object_entry (types_of c) c.names t) o.members v.0 e v.2
+            in of_body t w.1.member w.2 e w.4 u q)
       ]
 
-  of_built_in : (ds : List BuiltInDeclaration) (j : ℕ) (e : Entry) → slice_get (map built_in_entry ds) j ≡ Some e → IsConstructor e
-  of_built_in ds j e g u q = let w = get_mapped built_in_entry ds j e g in absurd (let z : a_kind.BuiltIn ≡ a_kind.Constructor u = ap (λ (z : Entry). z.member.kind) w.2 ∙ q in cc)
+  of_built_in : (ds : List BuiltInDeclaration) (j : ℕ) (e : Entry)
+      → slice_get (map built_in_entry ds) j ≡ Some e → IsConstructor e
+  of_built_in ds j e g u q =
+      let w = get_mapped built_in_entry ds j e g in absurd
+      (let z : a_kind.BuiltIn ≡ a_kind.Constructor u = ap (λ (z : Entry). z.member.kind) w.2 ∙ q
+      in cc)
 
   pub all_constructors : AllByRecursion (λ (e : Entry). IsConstructor e) (entries_of c)
   all_constructors = all_items (λ (e : Entry). IsConstructor e) (entries_of c) (λ i e g.
-      elim (either_side built_in_entries (flat_map (declared_entries (types_of c) c.names) c.declarations) i e g) as (λ _. IsConstructor e) [
+      elim (either_side built_in_entries
+      (flat_map (declared_entries (types_of c) c.names) c.declarations) i e g) as
+      (λ _. IsConstructor e) [
         | inl f ↦ of_built_in declarations i e f
-        | inr v ↦ (let w = from_flat (declared_entries (types_of c) c.names) c.declarations v.0 e v.2 in of_declaration w.0 w.1 w.3 w.1.declaration refl w.2 e w.4)
+        | inr v ↦
+            (let w = from_flat (declared_entries (types_of c) c.names) c.declarations v.0 e v.2
+            in of_declaration w.0 w.1 w.3 w.1.declaration refl w.2 e w.4)
       ])
 
   -- the same of a member
@@ -141,12 +168,21 @@ module _ (c : Component) where
   MakesIt m = (t : TypeId) → m.kind ≡ a_kind.Constructor t → MadeBy m t
 
   pub all_made : AllByRecursion (λ (e : Entry). MakesIt e.member) (entries_of c)
-  all_made = all_weaker (λ (e : Entry). IsConstructor e) (λ (e : Entry). MakesIt e.member) (entries_of c)
-      (λ e w t q. let o = w t q in record { k = o.k; object = o.object; stands = o.stands; type_is = o.type_is; result_is = o.result_is }) all_constructors
+  all_made =
+      all_weaker (λ (e : Entry). IsConstructor e) (λ (e : Entry). MakesIt e.member) (entries_of c)
+      (λ e w t q. let o = w t q
+      in record {
+        k = o.k;
+        object = o.object;
+        stands = o.stands;
+        type_is = o.type_is;
+        result_is = o.result_is;
+      }) all_constructors
 
 -- ---- what they became
 
-no_primitive : (o : Option Primitive) (id : TypeId) → option_map body.Primitive o ≡ Some (body.New id) → ⊥
+no_primitive : (o : Option Primitive) (id : TypeId)
+    → option_map body.Primitive o ≡ Some (body.New id) → ⊥
 no_primitive None id e = absurd cc
 no_primitive (Some f) id e = absurd cc
 
@@ -154,10 +190,15 @@ no_term : (o : Option Term) (id : TypeId) → option_map body.Plain o ≡ Some (
 no_term None id e = absurd cc
 no_term (Some t) id e = absurd cc
 
-pub constructor_kind : (table : List (Place × Term)) (s : MemberSet) (at : ℕ) (m : Member) (kind : MemberKind) (id : TypeId) → core_body table s at m kind ≡ Some (body.New id) → kind ≡ a_kind.Constructor id
-constructor_kind table s at m a_kind.BuiltIn id e = absurd (no_primitive (slice_get (primitives_of s.name (length m.parameters)) at) id e)
-constructor_kind table s at m (a_kind.Constructor t) id e = let z : body.New t ≡ body.New id = some_of e in let y : t ≡ id = cc in ap a_kind.Constructor y
-constructor_kind table s at m a_kind.Concrete id e = absurd (no_term (option_and_then (body_at table) m.place) id e)
+pub constructor_kind : (table : List (Place × Term)) (s : MemberSet) (at : ℕ) (m : Member)
+    (kind : MemberKind) (id : TypeId) → core_body table s at m kind ≡ Some (body.New id)
+    → kind ≡ a_kind.Constructor id
+constructor_kind table s at m a_kind.BuiltIn id e =
+    absurd (no_primitive (slice_get (primitives_of s.name (length m.parameters)) at) id e)
+constructor_kind table s at m (a_kind.Constructor t) id e =
+    let z : body.New t ≡ body.New id = some_of e in let y : t ≡ id = cc in ap a_kind.Constructor y
+constructor_kind table s at m a_kind.Concrete id e =
+    absurd (no_term (option_and_then (body_at table) m.place) id e)
 constructor_kind table s at m a_kind.Abstract id e = absurd cc
 
 -- ---- their objects
@@ -166,24 +207,45 @@ module _ (p : Program) (S : Sig) where
   abbrev type_in : CoreField → Ty
   type_in f = f.ty
 
-  without : (fs gs : List CoreField) → HaveNone fs → filter_map (λ (f : CoreField). f.initial) (fs ++ gs) ≡ filter_map (λ (f : CoreField). f.initial) gs
+  without : (fs gs : List CoreField) → HaveNone fs
+      → filter_map (λ (f : CoreField). f.initial) (fs ++ gs) ≡ filter_map (λ
+      (f : CoreField). f.initial) gs
   without [] gs h = refl
-  without (f ∷ fs) gs h = ap (λ z. cons_option z (filter_map (λ (f : CoreField). f.initial) (fs ++ gs))) h.0 ∙ without fs gs h.1
+  without (f ∷ fs) gs h =
+      ap (λ z. cons_option z (filter_map (λ (f : CoreField). f.initial) (fs ++ gs))) h.0
+      ∙ without fs gs h.1
 
-  have : (gs : List CoreField) → HaveConstants gs → ((j : ℕ) (g : CoreField) → slice_get gs j ≡ Some g → (v : Value) → g.initial ≡ Some v → HasV p S v g.ty) → HasVs p S (filter_map (λ (f : CoreField). f.initial) gs) (map type_in gs)
+  have : (gs : List CoreField) → HaveConstants gs
+      → ((j : ℕ) (g : CoreField) → slice_get gs j ≡ Some g → (v : Value) → g.initial ≡ Some v
+      → HasV p S v g.ty)
+      → HasVs p S (filter_map (λ (f : CoreField). f.initial) gs) (map type_in gs)
   have [] h each = vs0
-  have (g ∷ gs) h each = let w = h.0 in subst (λ z. HasVs p S (cons_option z (filter_map (λ (f : CoreField). f.initial) gs)) (g.ty ∷ map type_in gs)) (sym w.1)
+  have (g ∷ gs) h each =
+      let w = h.0
+      in subst (λ z. HasVs p S (cons_option z (filter_map (λ (f : CoreField). f.initial) gs))
+      (g.ty ∷ map type_in gs)) (sym w.1)
       (vs1 (each 0 g refl w.0 w.1) (have gs h.1 (λ j x e. each (suc j) x e)))
 
-pub new_fits : (p : Program) (id : TypeId) (decl : CoreDecl) → Constructs p id decl.parameters → ((s : CoreShape) → slice_get p.shapes id.0 ≡ Some s → Makes s.kind)
-    → ((s : CoreShape) → slice_get p.shapes id.0 ≡ Some s → (i : ℕ) (f : CoreField) → slice_get s.fields i ≡ Some f → (v : Value) → f.initial ≡ Some v → HasV p (opening p) v f.ty) → decl.result ≡ Named id → NewFits p id decl
+pub new_fits : (p : Program) (id : TypeId) (decl : CoreDecl) → Constructs p id decl.parameters
+    → ((s : CoreShape) → slice_get p.shapes id.0 ≡ Some s → Makes s.kind)
+    → ((s : CoreShape) → slice_get p.shapes id.0 ≡ Some s → (i : ℕ) (f : CoreField)
+    → slice_get s.fields i ≡ Some f → (v : Value) → f.initial ≡ Some v
+    → HasV p (opening p) v f.ty) → decl.result ≡ Named id → NewFits p id decl
 new_fits p id decl w made each result = record {
   shape = w.shape;
   is_shape = w.is_shape;
   is_made = made w.shape w.is_shape;
   types = map (λ (f : CoreField). f.ty) w.constant;
-  constants_have = subst (λ z. HasVs p (opening p) z (map (λ (f : CoreField). f.ty) w.constant)) (sym (ap (filter_map (λ (f : CoreField). f.initial)) w.are_fields ∙ without p (opening p) w.awaited w.constant w.have_none))
-      (have p (opening p) w.constant w.have_constants (λ j g e v q. each w.shape w.is_shape (length w.awaited + j) g (ap (λ z. slice_get z (length w.awaited + j)) w.are_fields ∙ get_behind w.awaited w.constant (length w.awaited + j) j refl ∙ e) v q));
-  fields = ap (map (λ (f : CoreField). f.ty)) w.are_fields ∙ map-append (λ (f : CoreField). f.ty) w.awaited w.constant ∙ ap (λ z. z ++ map (λ (f : CoreField). f.ty) w.constant) w.are_parameters;
+  constants_have =
+      subst (λ z. HasVs p (opening p) z (map (λ (f : CoreField). f.ty) w.constant))
+      (sym (ap (filter_map (λ (f : CoreField). f.initial)) w.are_fields
+      ∙ without p (opening p) w.awaited w.constant w.have_none))
+      (have p (opening p) w.constant w.have_constants
+      (λ j g e v q. each w.shape w.is_shape (length w.awaited + j) g
+      (ap (λ z. slice_get z (length w.awaited + j)) w.are_fields
+      ∙ get_behind w.awaited w.constant (length w.awaited + j) j refl ∙ e) v q));
+  fields = ap (map (λ (f : CoreField). f.ty)) w.are_fields ∙ map-append (λ
+      (f : CoreField). f.ty) w.awaited w.constant
+      ∙ ap (λ z. z ++ map (λ (f : CoreField). f.ty) w.constant) w.are_parameters;
   result = is_same (sym result);
 }

@@ -61,7 +61,8 @@ and_both false b e = absurd cc
 -- ---- what the translation finds
 
 -- the initial of a name
-pub record Found (texts : List (List ℕ)) (is : List Initial) (who : Option TypeId) (name : NameId) (v : Value) : Type 0 where
+pub record Found (texts : List (List ℕ)) (is : List Initial) (who : Option TypeId) (name : NameId)
+    (v : Value) : Type 0 where
   pub at : ℕ
   pub it : Initial
   pub stands : slice_get is at ≡ Some it
@@ -72,27 +73,51 @@ pub record Found (texts : List (List ℕ)) (is : List Initial) (who : Option Typ
 name_by : ℕ → NameId
 name_by n = record { 0 = n }
 
-later : {texts : List (List ℕ)} {is : List Initial} {who : Option TypeId} {name : NameId} {v : Value} (i : Initial) → Found texts is who name v → Found texts (i ∷ is) who name v
-later i f = record { at = suc f.at; it = f.it; stands = f.stands; owned = f.owned; named = f.named; value = f.value }
+later : {texts : List (List ℕ)} {is : List Initial} {who : Option TypeId} {name : NameId}
+    {v : Value} (i : Initial) → Found texts is who name v → Found texts (i ∷ is) who name v
+later i f =
+    record {
+      at = suc f.at;
+      it = f.it;
+      stands = f.stands;
+      owned = f.owned;
+      named = f.named;
+      value = f.value;
+    }
 
-found_step : (texts : List (List ℕ)) (i : Initial) (is : List Initial) (who : Option TypeId) (name : NameId) (v : Value) (b : Bool) → (same_owner i.0 who && nat_eq i.1.0 name.0) ≡ b
-    → (shaping.initial texts is who name ≡ Some v → Found texts is who name v) → cond b (Some (constant texts i.3)) (shaping.initial texts is who name) ≡ Some v → Found texts (i ∷ is) who name v
-found_step texts i is who name v true q rest e = let w = and_both (same_owner i.0 who) (nat_eq i.1.0 name.0) q in
-    record { at = 0; it = i; stands = refl; owned = w.0; named = same_name i.1 name (eqb-true i.1.0 name.0 w.1); value = sym (some_of e) }
+found_step : (texts : List (List ℕ)) (i : Initial) (is : List Initial) (who : Option TypeId)
+    (name : NameId) (v : Value) (b : Bool) → (same_owner i.0 who && nat_eq i.1.0 name.0) ≡ b
+    → (shaping.initial texts is who name ≡ Some v → Found texts is who name v)
+    → cond b (Some (constant texts i.3)) (shaping.initial texts is who name) ≡ Some v
+    → Found texts (i ∷ is) who name v
+found_step texts i is who name v true q rest e =
+    let w = and_both (same_owner i.0 who) (nat_eq i.1.0 name.0) q in
+    record {
+      at = 0;
+      it = i;
+      stands = refl;
+      owned = w.0;
+      named = same_name i.1 name (eqb-true i.1.0 name.0 w.1);
+      value = sym (some_of e);
+    }
   where
     same_name : (a b : NameId) → a.0 ≡ b.0 → a ≡ b
     same_name a b e = ap (λ n. let z : NameId = record { 0 = n } in z) e
 found_step texts i is who name v false q rest e = later i (rest e)
 
-pub found : (texts : List (List ℕ)) (is : List Initial) (who : Option TypeId) (name : NameId) (v : Value) → shaping.initial texts is who name ≡ Some v → Found texts is who name v
+pub found : (texts : List (List ℕ)) (is : List Initial) (who : Option TypeId) (name : NameId)
+    (v : Value) → shaping.initial texts is who name ≡ Some v → Found texts is who name v
 found texts [] who name v e = absurd cc
-found texts (i ∷ is) who name v e = found_step texts i is who name v (same_owner i.0 who && nat_eq i.1.0 name.0) refl (found texts is who name v) e
+found texts (i ∷ is) who name v e =
+    found_step texts i is who name v (same_owner i.0 who
+    && nat_eq i.1.0 name.0) refl (found texts is who name v) e
 
 same_type : (a b : Option TypeId) (t : TypeId) → same_owner a b ≡ true → b ≡ Some t → a ≡ Some t
 same_type None None t e q = absurd cc
 same_type None (Some u) t e q = absurd cc
 same_type (Some s) None t e q = absurd cc
-same_type (Some s) (Some u) t e q = ap (λ n. let z : TypeId = record { 0 = n } in Some z) (eqb-true s.0 u.0 e) ∙ q
+same_type (Some s) (Some u) t e q =
+    ap (λ n. let z : TypeId = record { 0 = n } in Some z) (eqb-true s.0 u.0 e) ∙ q
 
 same_none : (a : Option TypeId) → same_owner a None ≡ true → a ≡ None
 same_none None e = refl
@@ -127,48 +152,85 @@ module _ (c : Component) (groups : Groups) where
   -- whose initial it is
   pub data IsOf (who : Option TypeId) (name : NameId) (ty : Ty) : Type 0 where
     a_variable : who ≡ None → Has (variables_of c) name ty → IsOf who name ty
-    a_field : (k : ℕ) (o : Object) → Stands k o → who ≡ Some (type_number (number o)) → Has (behind o) name ty → IsOf who name ty
+    a_field : (k : ℕ) (o : Object) → Stands k o → who ≡ Some (type_number (number o))
+        → Has (behind o) name ty → IsOf who name ty
 
-  of_member : (k : ℕ) (o : Object) → Stands k o → (b : ℕ) (x : ObjectMember) → (slice_get (flat_map (object_field (types_of c) c.names) o.members) ≡ slice_get (behind o))
-      → (j : ℕ) (i : InitialForm) → slice_get (member_initial n (owner n o.name) x) j ≡ Some i → ((g : Field) → slice_get (object_member_field (types_of c) c.names x) 0 ≡ Some g → (at : ℕ) × (slice_get (behind o) at ≡ Some g))
+  of_member : (k : ℕ) (o : Object) → Stands k o → (b : ℕ) (x : ObjectMember)
+      → (slice_get (flat_map (object_field (types_of c) c.names) o.members) ≡ slice_get (behind o))
+      → (j : ℕ) (i : InitialForm) → slice_get (member_initial n (owner n o.name) x) j ≡ Some i
+      → ((g : Field) → slice_get (object_member_field (types_of c) c.names x) 0 ≡ Some g
+      → (at : ℕ) × (slice_get (behind o) at ≡ Some g))
       → IsOf i.owner i.name i.ty
   of_member k o st b (object_member.Variable v) q j i e has =
       let same = only (forming.initial n (Some (owner n o.name)) v) i j e in
       let w = has (variable_field (types_of c) c.names v) refl in
-      subst (λ (z : InitialForm). IsOf z.owner z.name z.ty) same (a_field k o st refl (record { at = w.0; field = variable_field (types_of c) c.names v; stands = w.1; name_is = refl; type_is = refl }))
+      subst (λ (z : InitialForm). IsOf z.owner z.name z.ty) same
+      (a_field k o st refl
+      (record {
+        at = w.0;
+        field = variable_field (types_of c) c.names v;
+        stands = w.1;
+        name_is = refl;
+        type_is = refl;
+      }))
   of_member k o st b (object_member.Method m) q j i e has = absurd cc
 
-  of_declaration : (a : ℕ) (d : Declared) → slice_get c.declarations a ≡ Some d → (e : Declaration) → d.declaration ≡ e → (j : ℕ) (i : InitialForm) → slice_get (initials n e) j ≡ Some i → IsOf i.owner i.name i.ty
+  of_declaration : (a : ℕ) (d : Declared) → slice_get c.declarations a ≡ Some d → (e : Declaration)
+      → d.declaration ≡ e → (j : ℕ) (i : InitialForm) → slice_get (initials n e) j ≡ Some i
+      → IsOf i.owner i.name i.ty
   of_declaration a d g (declaration.Variable v) q j i e =
       let same = only (forming.initial n None v) i j e in
-      let w = in_flat (declared_variables (types_of c) c.names) c.declarations a 0 d (variable_field (types_of c) c.names v) g (ap (λ z. slice_get (variables_at (types_of c) c.names z) 0) q) in
-      subst (λ (z : InitialForm). IsOf z.owner z.name z.ty) same (a_variable refl (record { at = w.0; field = variable_field (types_of c) c.names v; stands = w.1; name_is = refl; type_is = refl }))
+      let w = in_flat (declared_variables (types_of c) c.names) c.declarations a 0 d
+      (variable_field (types_of c) c.names v) g
+      (ap (λ z. slice_get (variables_at (types_of c) c.names z) 0) q) in
+      subst (λ (z : InitialForm). IsOf z.owner z.name z.ty) same
+      (a_variable refl
+      (record {
+        at = w.0;
+        field = variable_field (types_of c) c.names v;
+        stands = w.1;
+        name_is = refl;
+        type_is = refl;
+      }))
   of_declaration a d g (declaration.Function f) q j i e = absurd cc
   of_declaration a d g (declaration.Trait t) q j i e = absurd cc
   of_declaration a d g (declaration.Object o) q j i e =
       let w = from_flat (entry_initial n (owner n o.name)) o.members j i e in
       let k = in_types c.declarations a d o g q in
-      of_member k.0 o k.1 w.0 w.1.member refl w.2 i w.4 (λ x f. in_flat (object_field (types_of c) c.names) o.members w.0 0 w.1 x w.3 f)
+      of_member k.0 o k.1 w.0 w.1.member refl w.2 i w.4
+      (λ x f. in_flat (object_field (types_of c) c.names) o.members w.0 0 w.1 x w.3 f)
 
-  pub is_of : (j : ℕ) (i : InitialForm) → slice_get (forms_of c groups).initials j ≡ Some i → IsOf i.owner i.name i.ty
-  is_of j i e = let w = from_flat (declared_initials n) c.declarations j i e in of_declaration w.0 w.1 w.3 w.1.declaration refl w.2 i w.4
+  pub is_of : (j : ℕ) (i : InitialForm) → slice_get (forms_of c groups).initials j ≡ Some i
+      → IsOf i.owner i.name i.ty
+  is_of j i e =
+      let w = from_flat (declared_initials n) c.declarations j i e
+      in of_declaration w.0 w.1 w.3 w.1.declaration refl w.2 i w.4
 
 -- ---- initials with their types
 
-module _ (c : Component) (h : Hierarchy) (is : IsHierarchy c (type_names c) h) (m : Members) (members : AreMembers c m) (groups : Groups) (typed : Typed) (has : HasTypes (known_of c h m) (forms_of c groups) typed)
-    (fits : (j : ℕ) (i : InitialForm) → slice_get (forms_of c groups).initials j ≡ Some i → FitsFile i.value)
+module _ (c : Component) (h : Hierarchy) (is : IsHierarchy c (type_names c) h) (m : Members)
+    (members : AreMembers c m) (groups : Groups) (typed : Typed)
+    (has : HasTypes (known_of c h m) (forms_of c groups) typed)
+    (fits : (j : ℕ) (i : InitialForm) → slice_get (forms_of c groups).initials j ≡ Some i
+    → FitsFile i.value)
     (p : Program) (same : p.types ≡ h.table) (built_in : p.built_in ≡ BUILT_IN) (S : Sig) where
   abbrev texts : List (List ℕ)
   texts = c.texts
 
-  sub : {v : Value} {A T : Ty} → HasV p S v A → IsNumbered (length (declares c)) A → types.Below (declares c) A T → HasV p S v T
-  sub {v} {A} {T} x n b = sub_v p S (λ X Y Z u w. transitive p (through p.types.below (rows_through c h is p same)) u w) x (below c h is p same A T n b)
+  sub : {v : Value} {A T : Ty} → HasV p S v A → IsNumbered (length (declares c)) A
+      → types.Below (declares c) A T → HasV p S v T
+  sub {v} {A} {T} x n b =
+      sub_v p S (λ X Y Z u w. transitive p (through p.types.below (rows_through c h is p same)) u w)
+      x (below c h is p same A T n b)
 
   many : 7 ≤ length (declares c)
   many = let k = counted c in omega arith
 
-  initial_has : (i : InitialForm) (t : TypedForm) → FitsFile i.value → HasInitial (known_of c h m) i t → HasV p S (constant texts t) i.ty
-  initial_has i t f (initial k b) = sub (constant_has p built_in S texts (known_of c h m) i.value t k f) (constant_numbered (length (declares c)) many (known_of c h m) i.value t k) b
+  initial_has : (i : InitialForm) (t : TypedForm) → FitsFile i.value
+      → HasInitial (known_of c h m) i t → HasV p S (constant texts t) i.ty
+  initial_has i t f (initial k b) =
+      sub (constant_has p built_in S texts (known_of c h m) i.value t k f)
+      (constant_numbered (length (declares c)) many (known_of c h m) i.value t k) b
 
   -- an initial of the program
   pub record Told (x : Initial) : Type 0 where
@@ -181,47 +243,80 @@ module _ (c : Component) (h : Hierarchy) (is : IsHierarchy c (type_names c) h) (
       let r = has.initials in
       let i = there (forms_of c groups).initials j (omega (arith, l, r)) in
       let w = has.each_initial j i.0 i.1 in
-      subst Told (some_of (sym w.2 ∙ e)) (record { is_of_it = is_of c groups j i.0 i.1; has_type = initial_has i.0 w.0 (fits j i.0 i.1) w.1 })
+      subst Told (some_of (sym w.2 ∙ e))
+      (record {
+        is_of_it = is_of c groups j i.0 i.1;
+        has_type = initial_has i.0 w.0 (fits j i.0 i.1) w.1;
+      })
 
   -- ---- of variables at the top
 
-  variable_by : (f : Field) (i : ℕ) → slice_get (variables_of c) i ≡ Some f → (x : Initial) → x.0 ≡ None → x.1 ≡ f.name → Told x → HasV p S (constant texts x.3) f.ty
+  variable_by : (f : Field) (i : ℕ) → slice_get (variables_of c) i ≡ Some f → (x : Initial)
+      → x.0 ≡ None → x.1 ≡ f.name → Told x → HasV p S (constant texts x.3) f.ty
   variable_by f i e x none name t = go t.is_of_it
     where
       go : IsOf c groups x.0 x.1 x.2 → HasV p S (constant texts x.3) f.ty
-      go (a_field k o st q r) = let z : None ≡ Some (type_number (number_of (types_of c) (spelling c.names o.name))) = sym none ∙ q in absurd cc
+      go (a_field k o st q r) =
+          let z : None ≡ Some (type_number (number_of (types_of c) (spelling c.names o.name))) =
+          sym none ∙ q in absurd cc
       go (a_variable q r) =
           let at = variables_once c h is i r.at f r.field e r.stands (sym (r.name_is ∙ name)) in
-          let again : r.field ≡ f = one (variables_of c) i f r.field e (ap (slice_get (variables_of c)) at ∙ r.stands) in
-          subst (HasV p S (constant texts x.3)) (sym r.type_is ∙ ap (λ (z : Field). z.ty) again) t.has_type
+          let again : r.field ≡ f =
+          one (variables_of c) i f r.field e (ap (slice_get (variables_of c)) at ∙ r.stands) in
+          subst (HasV p S (constant texts x.3)) (sym r.type_is ∙ ap (λ
+          (z : Field). z.ty) again) t.has_type
 
-  pub variable_has : (f : Field) (i : ℕ) → slice_get (variables_of c) i ≡ Some f → (v : Value) → shaping.initial texts typed.initials None f.name ≡ Some v → HasV p S v f.ty
+  pub variable_has : (f : Field) (i : ℕ) → slice_get (variables_of c) i ≡ Some f → (v : Value)
+      → shaping.initial texts typed.initials None f.name ≡ Some v → HasV p S v f.ty
   variable_has f i e v g = let w = found texts typed.initials None f.name v g in
-      subst (λ z. HasV p S z f.ty) (sym w.value) (variable_by f i e w.it (same_none w.it.0 w.owned) w.named (told w.at w.it w.stands))
+      subst (λ z. HasV p S z f.ty) (sym w.value)
+      (variable_by f i e w.it (same_none w.it.0 w.owned) w.named (told w.at w.it w.stands))
 
   -- ---- of fields of objects
 
-  field_by : (k : ℕ) (o : Object) → (st : Stands c groups k o) → (f : Field) (i : ℕ) → slice_get (own c k o st) i ≡ Some f → (x : Initial) → x.0 ≡ Some (type_number (TYPE_COUNT + k)) → x.1 ≡ f.name → Told x → HasV p S (constant texts x.3) f.ty
+  field_by : (k : ℕ) (o : Object) → (st : Stands c groups k o) → (f : Field) (i : ℕ)
+      → slice_get (own c k o st) i ≡ Some f → (x : Initial)
+      → x.0 ≡ Some (type_number (TYPE_COUNT + k)) → x.1 ≡ f.name → Told x
+      → HasV p S (constant texts x.3) f.ty
   field_by k o st f i e x who name t = go t.is_of_it
     where
       same_id : (a b : ℕ) → Some (type_number a) ≡ Some (type_number b) → a ≡ b
       same_id a b q = ap (λ (z : TypeId). z.0) (some_of q)
 
       go : IsOf c groups x.0 x.1 x.2 → HasV p S (constant texts x.3) f.ty
-      go (a_variable q r) = let z : None ≡ Some (type_number (TYPE_COUNT + k)) = sym q ∙ who in absurd cc
+      go (a_variable q r) =
+          let z : None ≡ Some (type_number (TYPE_COUNT + k)) = sym q ∙ who in absurd cc
       go (a_field l u su q r) =
-          let number_is : number_of (types_of c) (spelling c.names u.name) ≡ TYPE_COUNT + l = number_at c h is l (declaration.Object u) su in
-          let number_too : number_of (types_of c) (spelling c.names u.name) ≡ TYPE_COUNT + k = same_id (number_of (types_of c) (spelling c.names u.name)) (TYPE_COUNT + k) (sym q ∙ who) in
+          let number_is : number_of (types_of c) (spelling c.names u.name) ≡ TYPE_COUNT + l =
+          number_at c h is l (declaration.Object u) su in
+          let number_too : number_of (types_of c) (spelling c.names u.name) ≡ TYPE_COUNT + k =
+          same_id (number_of (types_of c) (spelling c.names u.name)) (TYPE_COUNT + k) (sym q
+          ∙ who) in
           let again : l ≡ k = omega (arith, number_is, number_too) in
-          let one_object : u ≡ o = object_same (sym su ∙ ap (slice_get (types_in c.declarations)) again ∙ st) in
-          let stands : slice_get (own c k o st) (length (front c groups o) + r.at) ≡ Some r.field = get_behind (front c groups o) (behind c groups o) (length (front c groups o) + r.at) r.at refl ∙ ap (λ z. slice_get (behind c groups z) r.at) (sym one_object) ∙ r.stands in
-          let at = own_once c k o st m members i (length (front c groups o) + r.at) f r.field e stands (sym (r.name_is ∙ name)) in
-          let same_field : r.field ≡ f = one (own c k o st) i f r.field e (ap (slice_get (own c k o st)) at ∙ stands) in
-          subst (HasV p S (constant texts x.3)) (sym r.type_is ∙ ap (λ (z : Field). z.ty) same_field) t.has_type
+          let one_object : u ≡ o =
+          object_same (sym su ∙ ap (slice_get (types_in c.declarations)) again ∙ st) in
+          let stands : slice_get (own c k o st) (length (front c groups o) + r.at) ≡ Some r.field =
+          get_behind (front c groups o) (behind c groups o) (length (front c groups o) + r.at)
+          r.at refl ∙ ap (λ z. slice_get (behind c groups z) r.at) (sym one_object) ∙ r.stands
+          in
+          let at = own_once c k o st m members i (length (front c groups o) + r.at) f r.field e
+          stands (sym (r.name_is ∙ name)) in
+          let same_field : r.field ≡ f =
+          one (own c k o st) i f r.field e (ap (slice_get (own c k o st)) at ∙ stands) in
+          subst (HasV p S (constant texts x.3)) (sym r.type_is ∙ ap (λ
+          (z : Field). z.ty) same_field) t.has_type
         where
-          object_same : {a b : Object} → Some (declaration.Object a) ≡ Some (declaration.Object b) → a ≡ b
+          object_same : {a b : Object} → Some (declaration.Object a) ≡ Some (declaration.Object b)
+              → a ≡ b
           object_same e = cc
 
-  pub field_has : (k : ℕ) (o : Object) → (st : Stands c groups k o) → (f : Field) (i : ℕ) → slice_get (own c k o st) i ≡ Some f → (v : Value) → shaping.initial texts typed.initials (Some (type_number (TYPE_COUNT + k))) f.name ≡ Some v → HasV p S v f.ty
-  field_has k o st f i e v g = let w = found texts typed.initials (Some (type_number (TYPE_COUNT + k))) f.name v g in
-      subst (λ z. HasV p S z f.ty) (sym w.value) (field_by k o st f i e w.it (same_type w.it.0 (Some (type_number (TYPE_COUNT + k))) (type_number (TYPE_COUNT + k)) w.owned refl) w.named (told w.at w.it w.stands))
+  pub field_has : (k : ℕ) (o : Object) → (st : Stands c groups k o) → (f : Field) (i : ℕ)
+      → slice_get (own c k o st) i ≡ Some f → (v : Value)
+      → shaping.initial texts typed.initials (Some (type_number (TYPE_COUNT + k))) f.name ≡ Some v
+      → HasV p S v f.ty
+  field_has k o st f i e v g =
+      let w = found texts typed.initials (Some (type_number (TYPE_COUNT + k))) f.name v g in
+      subst (λ z. HasV p S z f.ty) (sym w.value)
+      (field_by k o st f i e w.it
+      (same_type w.it.0 (Some (type_number (TYPE_COUNT + k))) (type_number (TYPE_COUNT + k))
+      w.owned refl) w.named (told w.at w.it w.stands))

@@ -1,4 +1,5 @@
--- The objects of a component: their declarations, their fields, and which of them have a constructor.
+-- The objects of a component: their declarations, their fields, and which of them have a
+-- constructor.
 use Rattle.std.proofs.Common.{◌≡◌, ℕ, ◌+◌, true, false, List, ◌++◌, length, map, Option, Some, None, refl, sym, ap, ◌∙◌, subst, eq-eqb, arith}
 use Rattle.std.specs.Prelude.{nat_eq}
 use Rattle.std.specs.List.{slice_get, flat_map}
@@ -51,7 +52,8 @@ no_object : a_kind.Trait ≡ a_kind.Object → ⊥
 no_object e = absurd cc
 
 -- a declaration of the kind of objects is an object
-object_by : (d : Declaration) → kind_of_type d ≡ a_kind.Object → (o : Object) × (d ≡ declaration.Object o)
+object_by : (d : Declaration) → kind_of_type d ≡ a_kind.Object
+    → (o : Object) × (d ≡ declaration.Object o)
 object_by (declaration.Variable v) e = absurd (no_object e)
 object_by (declaration.Function f) e = absurd (no_object e)
 object_by (declaration.Trait t) e = absurd (no_object e)
@@ -71,37 +73,55 @@ module _ (c : Component) where
   own_types : TypeHead → DeclaredType
   own_types = declared_by (all_types c.names (heads_of c)) c.names
 
-  by_type : (k : ℕ) (d : Declaration) → slice_get (types_in c.declarations) k ≡ Some d → leaf_kind (kind_of_type d) ≡ true → (o : Object) × Stands k o
+  by_type : (k : ℕ) (d : Declaration) → slice_get (types_in c.declarations) k ≡ Some d
+      → leaf_kind (kind_of_type d) ≡ true → (o : Object) × Stands k o
   by_type k d e leaf = let o = object_by d (head_kind d leaf) in (o.0, e ∙ ap Some o.1)
 
-  leaf_of : (head : TypeHead) (d : DeclaredType) → own_types head ≡ d → leaf_kind d.kind ≡ true → leaf_kind head.kind ≡ true
+  leaf_of : (head : TypeHead) (d : DeclaredType) → own_types head ≡ d → leaf_kind d.kind ≡ true
+      → leaf_kind head.kind ≡ true
   unfolding own_types
   leaf_of head d e k = subst (λ (z : DeclaredType). leaf_kind z.kind ≡ true) (sym e) k
 
-  by_head : (k : ℕ) (head : TypeHead) → slice_get (heads_of c) k ≡ Some head → leaf_kind head.kind ≡ true → (o : Object) × Stands k o
+  by_head : (k : ℕ) (head : TypeHead) → slice_get (heads_of c) k ≡ Some head
+      → leaf_kind head.kind ≡ true → (o : Object) × Stands k o
   by_head k head e leaf =
-      let t = get_mapped kind_of_type (types_in c.declarations) k head.kind (ap (λ z. slice_get z k) (sym (kinds_are 0 c.declarations)) ∙ get_of_mapped kind_of_head (heads_of c) k head e) in
+      let t = get_mapped kind_of_type (types_in c.declarations) k head.kind
+      (ap (λ z. slice_get z k) (sym (kinds_are 0 c.declarations))
+      ∙ get_of_mapped kind_of_head (heads_of c) k head e) in
       by_type k t.0 t.1 (ap leaf_kind t.2 ∙ leaf)
 
   -- the object of a number that makes values
-  pub object_at : (m : Members) → AreMembers c m → (n k : ℕ) → n ≡ TYPE_COUNT + k → slice_get m.objects n ≡ Some true → (o : Object) × Stands k o
+  pub object_at : (m : Members) → AreMembers c m → (n k : ℕ) → n ≡ TYPE_COUNT + k
+      → slice_get m.objects n ≡ Some true → (o : Object) × Stands k o
   unfolding own_types
   object_at m has n k q e =
-      let d = get_mapped is_leaf (declares c) n true (ap (λ z. slice_get z n) (sym has.objects) ∙ e) in
+      let d = get_mapped is_leaf (declares c) n true (ap (λ z. slice_get z n) (sym has.objects) ∙ e)
+      in
       let l = slice_get_within (declares c) n d.0 d.1 in
       let many = counted c in
       let head = there (heads_of c) k (omega arith) in
-      let at : slice_get (declares c) n ≡ Some (own_types head.0) = get_behind built_in_declared (map own_types (heads_of c)) n k (q ∙ ap (λ z. z + k) (sym built_in_count)) ∙ get_of_mapped own_types (heads_of c) k head.0 head.1 in
-      by_head k head.0 head.1 (leaf_of head.0 d.0 (one (declares c) n d.0 (own_types head.0) d.1 at) d.2)
+      let at : slice_get (declares c) n ≡ Some (own_types head.0) =
+      get_behind built_in_declared (map own_types (heads_of c)) n k (q
+      ∙ ap (λ z. z + k) (sym built_in_count))
+      ∙ get_of_mapped own_types (heads_of c) k head.0 head.1 in
+      by_head k head.0 head.1
+      (leaf_of head.0 d.0 (one (declares c) n d.0 (own_types head.0) d.1 at) d.2)
 
   -- and the other way round
-  pub object_true : (m : Members) → AreMembers c m → (n k : ℕ) → n ≡ TYPE_COUNT + k → (o : Object) → Stands k o → slice_get m.objects n ≡ Some true
+  pub object_true : (m : Members) → AreMembers c m → (n k : ℕ) → n ≡ TYPE_COUNT + k → (o : Object)
+      → Stands k o → slice_get m.objects n ≡ Some true
   unfolding own_types
   object_true m has n k q o st =
-      let g = ap (λ z. slice_get z k) (kinds_are 0 c.declarations) ∙ get_of_mapped kind_of_type (types_in c.declarations) k (declaration.Object o) st in
+      let g = ap (λ z. slice_get z k) (kinds_are 0 c.declarations)
+      ∙ get_of_mapped kind_of_type (types_in c.declarations) k (declaration.Object o) st in
       let head = get_mapped kind_of_head (heads_of c) k a_kind.Object g in
-      let at : slice_get (declares c) n ≡ Some (own_types head.0) = get_behind built_in_declared (map own_types (heads_of c)) n k (q ∙ ap (λ z. z + k) (sym built_in_count)) ∙ get_of_mapped own_types (heads_of c) k head.0 head.1 in
-      ap (λ z. slice_get z n) has.objects ∙ get_of_mapped is_leaf (declares c) n (own_types head.0) at ∙ ap (λ z. Some (leaf_kind z)) head.2
+      let at : slice_get (declares c) n ≡ Some (own_types head.0) =
+      get_behind built_in_declared (map own_types (heads_of c)) n k (q
+      ∙ ap (λ z. z + k) (sym built_in_count))
+      ∙ get_of_mapped own_types (heads_of c) k head.0 head.1 in
+      ap (λ z. slice_get z n) has.objects
+      ∙ get_of_mapped is_leaf (declares c) n (own_types head.0) at
+      ∙ ap (λ z. Some (leaf_kind z)) head.2
 
   -- ---- constructors
 
@@ -110,14 +130,22 @@ module _ (c : Component) where
   constructor_of t o ps = record {
     name = spelling c.names o.name;
     dotted = false;
-    member = record { place = Some o.name.spot.place; parameters = object_types (types_of c) c.names ps.parameters; result = a_type.Named (type_number t); owner = None; kind = a_member.Constructor (type_number t) };
+    member = record {
+      place = Some o.name.spot.place;
+      parameters = object_types (types_of c) c.names ps.parameters;
+      result = a_type.Named (type_number t);
+      owner = None;
+      kind = a_member.Constructor (type_number t);
+    };
   }
 
   constructs_it : (t : ℕ) → nat_eq t t ≡ true
   constructs_it t = eq-eqb t t refl
 
   -- Where an object has no constructor, it has no parameters.
-  pub no_parameters : (m : Members) → AreMembers c m → (k : ℕ) (o : Object) → Stands k o → has_constructor m.sets (type_number (number_of (types_of c) (spelling c.names o.name))) ≡ false → o.parameters ≡ None
+  pub no_parameters : (m : Members) → AreMembers c m → (k : ℕ) (o : Object) → Stands k o
+      → has_constructor m.sets (type_number (number_of (types_of c) (spelling c.names o.name)))
+      ≡ false → o.parameters ≡ None
   no_parameters m has k o st none = go o.parameters refl
     where
       go : (ps : Option ObjectParameters) → o.parameters ≡ ps → ps ≡ None
@@ -127,25 +155,44 @@ module _ (c : Component) where
           let d = of_types c.declarations k o st in
           let rest = flat_map (object_entry (types_of c) c.names t) o.members in
           let it = constructor_of t o ps in
-          let here : slice_get (declared_entries (types_of c) c.names d.1) 0 ≡ Some it = ap (λ z. slice_get (entries_at (types_of c) c.names z) 0) d.3 ∙ ap (λ z. slice_get (constructor_entry (types_of c) c.names t o z ++ rest) 0) e in
-          let flat = in_flat (declared_entries (types_of c) c.names) c.declarations d.0 0 d.1 it d.2 here in
-          let all : slice_get (entries_of c) (length built_in_entries + flat.0) ≡ Some it = get_behind built_in_entries (flat_map (declared_entries (types_of c) c.names) c.declarations) (length built_in_entries + flat.0) flat.0 refl ∙ flat.1 in
-          let some = some_member (λ (x : Member). constructs_by x.kind (type_number t)) (entries_of c) (length built_in_entries + flat.0) it all (constructs_it t) in
-          let yes : has_constructor m.sets (type_number t) ≡ true = ap (λ z. has_constructor z (type_number t)) has.sets ∙ some in
+          let here : slice_get (declared_entries (types_of c) c.names d.1) 0 ≡ Some it =
+          ap (λ z. slice_get (entries_at (types_of c) c.names z) 0) d.3
+          ∙ ap (λ z. slice_get (constructor_entry (types_of c) c.names t o z ++ rest) 0) e in
+          let flat =
+          in_flat (declared_entries (types_of c) c.names) c.declarations d.0 0 d.1 it d.2 here
+          in
+          let all : slice_get (entries_of c) (length built_in_entries + flat.0) ≡ Some it =
+          get_behind built_in_entries
+          (flat_map (declared_entries (types_of c) c.names) c.declarations)
+          (length built_in_entries + flat.0) flat.0 refl ∙ flat.1 in
+          let some =
+          some_member (λ
+          (x : Member). constructs_by x.kind (type_number t)) (entries_of c)
+          (length built_in_entries + flat.0) it all (constructs_it t) in
+          let yes : has_constructor m.sets (type_number t) ≡ true =
+          ap (λ z. has_constructor z (type_number t)) has.sets ∙ some in
           absurd (let z : true ≡ false = sym yes ∙ none in cc)
 
   -- ---- initials of fields of a body
 
-  module _ (groups : Groups) (typed : Typed) (same : map typed_keyed typed.initials ≡ of_all (tables_of c groups) c.declarations) where
+  module _ (groups : Groups) (typed : Typed)
+      (same : map typed_keyed typed.initials ≡ of_all (tables_of c groups) c.declarations) where
     abbrev behind : Object → List Field
     behind o = flat_map (object_field (types_of c) c.names) o.members
 
     -- Each field of the body of an object has an initial.
-    pub has_one : (k : ℕ) (o : Object) → Stands k o → (j : ℕ) (f : Field) → slice_get (behind o) j ≡ Some f
-        → (v : Value) × (initial c.texts typed.initials (Some (type_number (number_of (types_of c) (spelling c.names o.name)))) f.name ≡ Some v)
+    pub has_one : (k : ℕ) (o : Object) → Stands k o → (j : ℕ) (f : Field)
+        → slice_get (behind o) j ≡ Some f
+        → (v : Value)
+        × (initial c.texts typed.initials
+        (Some (type_number (number_of (types_of c) (spelling c.names o.name)))) f.name ≡ Some v)
     has_one k o st j f e =
         let tables = tables_of c groups in
         let id = type_number (number_of (types_of c) (spelling c.names o.name)) in
-        let own_one = all_item (λ (g : Field). has_initial (Some id) g.name (of_members tables id o.members) ≡ true) (fields_of tables o.members) j f (all_have tables id o.members) e in
+        let own_one =
+        all_item (λ
+        (g : Field). has_initial (Some id) g.name (of_members tables id o.members)
+        ≡ true) (fields_of tables o.members) j f (all_have tables id o.members) e in
         let one_of_all = some_in_all tables id f.name c.declarations o own_one k st in
-        an_initial c.texts (Some id) f.name typed.initials (ap (has_initial (Some id) f.name) same ∙ one_of_all)
+        an_initial c.texts (Some id) f.name typed.initials (ap (has_initial (Some id) f.name) same
+        ∙ one_of_all)

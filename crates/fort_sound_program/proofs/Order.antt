@@ -23,7 +23,8 @@ use Rattle.fort_typed.proofs.Rows.{inside, rows_of_hierarchy}
 abbrev pub type_number : ℕ → TypeId
 type_number n = record { 0 = n }
 
-module _ (c : Component) (h : Hierarchy) (is : IsHierarchy c (type_names c) h) (p : Program) (same : p.types ≡ h.table) where
+module _ (c : Component) (h : Hierarchy) (is : IsHierarchy c (type_names c) h) (p : Program)
+    (same : p.types ≡ h.table) where
   pub sound : hierarchy.Sound (declares c)
   sound = accepted_sound c (type_names c) h is
 
@@ -37,21 +38,30 @@ module _ (c : Component) (h : Hierarchy) (is : IsHierarchy c (type_names c) h) (
   only_itself = (rows_of_hierarchy (declares c) p.types sound rows).1
 
   -- of a numbered type and any other one
-  pub computed : (a b : Ty) → IsNumbered (length (declares c)) a → types.Below (declares c) a b → IsTrue (relation p.types.below a true b)
+  pub computed : (a b : Ty) → IsNumbered (length (declares c)) a → types.Below (declares c) a b
+      → IsTrue (relation p.types.below a true b)
   computed a b n w = (relation_from_one (declares c) p.types sound rows a b n).0.1 w
 
-  pub below : (a b : Ty) → IsNumbered (length (declares c)) a → types.Below (declares c) a b → Below p a b
+  pub below : (a b : Ty) → IsNumbered (length (declares c)) a → types.Below (declares c) a b
+      → Below p a b
   below a b n w = is_told (computed a b n w)
 
-  pub told : (a b : Ty) → IsNumbered (length (declares c)) a → IsTrue (relation p.types.below a true b) → types.Below (declares c) a b
+  pub told : (a b : Ty) → IsNumbered (length (declares c)) a
+      → IsTrue (relation p.types.below a true b) → types.Below (declares c) a b
   told a b n w = (relation_from_one (declares c) p.types sound rows a b n).0.0 w
 
-  pub told_above : (a b : Ty) → IsNumbered (length (declares c)) b → IsTrue (relation p.types.below a true b) → types.Below (declares c) a b
-  told_above a b n w = (relation_from_one (declares c) p.types sound rows b a n).1.0 (sym (turns p.types.below a b true) ∙ w)
+  pub told_above : (a b : Ty) → IsNumbered (length (declares c)) b
+      → IsTrue (relation p.types.below a true b) → types.Below (declares c) a b
+  told_above a b n w =
+      (relation_from_one (declares c) p.types sound rows b a n).1.0
+      (sym (turns p.types.below a b true) ∙ w)
 
   -- the rows and the paths
   pub path : (i j : ℕ) → IsTrue (is_set p.types.below i j) → Path (declares c) i j
-  path i j e = let x = inside (Path (declares c)) (length (declares c)) p.types.below rows.below i j e in (rows.below.sets i j x.0 x.1).0 e
+  path i j e =
+      let x = inside (Path (declares c)) (length (declares c)) p.types.below rows.below i j e
+      in (rows.below.sets i j x.0 x.1).0 e
 
-  pub path_set : (i j : ℕ) → i < length (declares c) → j < length (declares c) → Path (declares c) i j → IsTrue (is_set p.types.below i j)
+  pub path_set : (i j : ℕ) → i < length (declares c) → j < length (declares c)
+      → Path (declares c) i j → IsTrue (is_set p.types.below i j)
   path_set i j x y w = (rows.below.sets i j x y).1 w

@@ -41,7 +41,8 @@ HasSolid e = AllByRecursion Solid e.member.parameters
 abbrev AreSolid : List Entry → Type 0
 AreSolid es = AllByRecursion HasSolid es
 
-all_mapped : {X : Type 0} (f : X → Ty) (xs : List X) → ((x : X) → Solid (f x)) → AllByRecursion Solid (map f xs)
+all_mapped : {X : Type 0} (f : X → Ty) (xs : List X) → ((x : X) → Solid (f x))
+    → AllByRecursion Solid (map f xs)
 all_mapped f [] h = tt
 all_mapped f (x ∷ xs) h = (h x, all_mapped f xs h)
 
@@ -52,10 +53,16 @@ solid_simple simple.Any = solid_any
 solid_simple simple.Unit = solid_tuple [] tt
 solid_simple (simple.Declared id) = solid_named id
 
-solid_rows : {R : Type 0} (name : R → List ℕ) (parameters : R → List Simple) (result : R → Simple) (primitive : R → Primitive) (rows : List R)
-    → AreSolid (map built_in_entry (map (λ k. declared_by (name k) (parameters k) (result k) (primitive k)) rows))
+solid_rows : {R : Type 0} (name : R → List ℕ) (parameters : R → List Simple) (result : R → Simple)
+    (primitive : R → Primitive) (rows : List R)
+    → AreSolid
+    (map built_in_entry
+    (map (λ k. declared_by (name k) (parameters k) (result k) (primitive k)) rows))
 solid_rows name parameters result primitive [] = tt
-solid_rows name parameters result primitive (row ∷ rows) = (all_mapped ty_of (parameters row) solid_simple, solid_rows name parameters result primitive rows)
+solid_rows name parameters result primitive (row ∷ rows) = (
+  all_mapped ty_of (parameters row) solid_simple,
+  solid_rows name parameters result primitive rows,
+)
 
 solid_built_in : AreSolid built_in_entries
 unfolding declarations
@@ -66,11 +73,20 @@ solid_built_in = solid_rows (λ k. k.0.now) (λ k. k.1.now) (λ k. k.2) (λ k. k
 module _ (list names : List Spelling) where
   function_solid : (ps : Option Parameters) → AllByRecursion Solid (parameter_types list names ps)
   function_solid None = tt
-  function_solid (Some ps) = (written_solid list names ps.first.ty, all_mapped (next_parameter_type list names) ps.others (λ next. written_solid list names next.parameter.ty))
+  function_solid (Some ps) = (
+    written_solid list names ps.first.ty,
+    all_mapped (next_parameter_type list names) ps.others
+        (λ next. written_solid list names next.parameter.ty),
+  )
 
-  object_solid : (ps : Option ObjectParameterList) → AllByRecursion Solid (object_types list names ps)
+  object_solid : (ps : Option ObjectParameterList)
+      → AllByRecursion Solid (object_types list names ps)
   object_solid None = tt
-  object_solid (Some ps) = (written_solid list names ps.first.ty, all_mapped (next_object_parameter_type list names) ps.others (λ next. written_solid list names next.parameter.ty))
+  object_solid (Some ps) = (
+    written_solid list names ps.first.ty,
+    all_mapped (next_object_parameter_type list names) ps.others
+        (λ next. written_solid list names next.parameter.ty),
+  )
 
   module _ (t : ℕ) where
     abbrev self_type : Ty
@@ -80,23 +96,38 @@ module _ (list names : List Spelling) where
     parameter_solid (method_parameter.Parameter p) = written_solid list names p.ty
     parameter_solid (method_parameter.Self_ s) = solid_named (type_id t)
 
-    types_solid : (ps : Option MethodParameters) → AllByRecursion Solid (method_types list names self_type ps)
+    types_solid : (ps : Option MethodParameters)
+        → AllByRecursion Solid (method_types list names self_type ps)
     types_solid None = tt
-    types_solid (Some ps) = (parameter_solid ps.first, all_mapped (next_method_parameter_type list names self_type) ps.others (λ next. parameter_solid next.parameter))
+    types_solid (Some ps) = (
+      parameter_solid ps.first,
+      all_mapped (next_method_parameter_type list names self_type) ps.others
+          (λ next. parameter_solid next.parameter),
+    )
 
-    with_receiver : (b : Bool) (ts : List Ty) → AllByRecursion Solid ts → AllByRecursion Solid (cond b ts (self_type ∷ ts))
+    with_receiver : (b : Bool) (ts : List Ty) → AllByRecursion Solid ts
+        → AllByRecursion Solid (cond b ts (self_type ∷ ts))
     with_receiver true ts h = h
     with_receiver false ts h = (solid_named (type_id t), h)
 
     trait_member_solid : (x : TraitMember) → AreSolid (trait_member_entry list names t x)
     trait_member_solid (trait_member.Field name colon ty) = tt
-    trait_member_solid (trait_member.Method m) = (with_receiver (is_functional m.parameters) (method_types list names self_type m.parameters) (types_solid m.parameters), tt)
+    trait_member_solid (trait_member.Method m) = (
+      with_receiver (is_functional m.parameters) (method_types list names self_type m.parameters)
+          (types_solid m.parameters),
+      tt,
+    )
 
     object_member_solid : (x : ObjectMember) → AreSolid (object_member_entry list names t x)
     object_member_solid (object_member.Variable v) = tt
-    object_member_solid (object_member.Method m) = (with_receiver (is_functional m.parameters) (method_types list names self_type m.parameters) (types_solid m.parameters), tt)
+    object_member_solid (object_member.Method m) = (
+      with_receiver (is_functional m.parameters) (method_types list names self_type m.parameters)
+          (types_solid m.parameters),
+      tt,
+    )
 
-    constructor_solid : (o : Object) (ps : Option ObjectParameters) → AreSolid (constructor_entry list names t o ps)
+    constructor_solid : (o : Object) (ps : Option ObjectParameters)
+        → AreSolid (constructor_entry list names t o ps)
     constructor_solid o None = tt
     constructor_solid o (Some ps) = (object_solid ps.parameters, tt)
 
@@ -104,11 +135,18 @@ module _ (list names : List Spelling) where
   declaration_solid (declaration.Variable v) = tt
   declaration_solid (declaration.Function f) = (function_solid f.parameters, tt)
   declaration_solid (declaration.Trait t) = let number = number_of list (spelling names t.name) in
-      all_joined HasSolid (trait_entry list names number) t.members (λ x. trait_member_solid number x.member)
+      all_joined HasSolid (trait_entry list names number) t.members
+      (λ x. trait_member_solid number x.member)
   declaration_solid (declaration.Object o) = let number = number_of list (spelling names o.name) in
-      all_join HasSolid (constructor_entry list names number o o.parameters) (flat_map (object_entry list names number) o.members)
-      (constructor_solid number o o.parameters) (all_joined HasSolid (object_entry list names number) o.members (λ x. object_member_solid number x.member))
+      all_join HasSolid (constructor_entry list names number o o.parameters)
+      (flat_map (object_entry list names number) o.members)
+      (constructor_solid number o o.parameters)
+      (all_joined HasSolid (object_entry list names number) o.members
+      (λ x. object_member_solid number x.member))
 
 pub component_solid : (c : Component) → AreSolid (entries_of c)
-component_solid c = all_join HasSolid built_in_entries (flat_map (declared_entries (types_of c) c.names) c.declarations) solid_built_in
-    (all_joined HasSolid (declared_entries (types_of c) c.names) c.declarations (λ d. declaration_solid (types_of c) c.names d.declaration))
+component_solid c =
+    all_join HasSolid built_in_entries
+    (flat_map (declared_entries (types_of c) c.names) c.declarations) solid_built_in
+    (all_joined HasSolid (declared_entries (types_of c) c.names) c.declarations
+    (λ d. declaration_solid (types_of c) c.names d.declaration))

@@ -60,14 +60,61 @@ Check n (row ∷ rows) = (row.kind ≡ a_kind.Leaf → is_leaf_number n ≡ true
 
 leaves_told : Check 0 types
 unfolding types
-leaves_told = ((λ e. absurd cc), ((λ e. absurd cc), ((λ e. refl), ((λ e. refl), ((λ e. refl), ((λ e. refl), ((λ e. refl), ((λ e. absurd cc), ((λ e. absurd cc), ((λ e. absurd cc), ((λ e. absurd cc), ((λ e. absurd cc), ((λ e. absurd cc), ((λ e. absurd cc), ((λ e. absurd cc), ((λ e. absurd cc), ((λ e. absurd cc), tt)))))))))))))))))
+leaves_told = (
+  (λ e. absurd cc),
+  (
+    (λ e. absurd cc),
+    (
+      (λ e. refl),
+      (
+        (λ e. refl),
+        (
+          (λ e. refl),
+          (
+            (λ e. refl),
+            (
+              (λ e. refl),
+              (
+                (λ e. absurd cc),
+                (
+                  (λ e. absurd cc),
+                  (
+                    (λ e. absurd cc),
+                    (
+                      (λ e. absurd cc),
+                      (
+                        (λ e. absurd cc),
+                        (
+                          (λ e. absurd cc),
+                          (
+                            (λ e. absurd cc),
+                            ((λ e. absurd cc), ((λ e. absurd cc), ((λ e. absurd cc), tt))),
+                          ),
+                        ),
+                      ),
+                    ),
+                  ),
+                ),
+              ),
+            ),
+          ),
+        ),
+      ),
+    ),
+  ),
+)
 
-check_at : (n : ℕ) (rows : List BuiltInType) → Check n rows → (i : ℕ) (row : BuiltInType) → slice_get rows i ≡ Some row → row.kind ≡ a_kind.Leaf → is_leaf_number (n + i) ≡ true
+check_at : (n : ℕ) (rows : List BuiltInType) → Check n rows → (i : ℕ) (row : BuiltInType)
+    → slice_get rows i ≡ Some row → row.kind ≡ a_kind.Leaf → is_leaf_number (n + i) ≡ true
 check_at n [] h i row e k = absurd cc
-check_at n (r ∷ rows) h zero row e k = let same : r ≡ row = cc in ap is_leaf_number (let q : n + 0 ≡ n = omega arith in q) ∙ h.0 (ap (λ (z : BuiltInType). z.kind) same ∙ k)
-check_at n (r ∷ rows) h (suc i) row e k = ap is_leaf_number (let q : n + suc i ≡ n + 1 + i = omega arith in q) ∙ check_at (n + 1) rows h.1 i row e k
+check_at n (r ∷ rows) h zero row e k =
+    let same : r ≡ row = cc in ap is_leaf_number
+    (let q : n + 0 ≡ n = omega arith in q) ∙ h.0 (ap (λ (z : BuiltInType). z.kind) same ∙ k)
+check_at n (r ∷ rows) h (suc i) row e k = ap is_leaf_number
+    (let q : n + suc i ≡ n + 1 + i = omega arith in q) ∙ check_at (n + 1) rows h.1 i row e k
 
-object_kind : (n : ℕ) (row : BuiltInType) (k : TypeKind) → row.kind ≡ k → leaf_kind k ≡ true → (k ≡ a_kind.Leaf → is_leaf_number n ≡ true) → is_leaf_number n ≡ false → k ≡ a_kind.Object
+object_kind : (n : ℕ) (row : BuiltInType) (k : TypeKind) → row.kind ≡ k → leaf_kind k ≡ true
+    → (k ≡ a_kind.Leaf → is_leaf_number n ≡ true) → is_leaf_number n ≡ false → k ≡ a_kind.Object
 object_kind n row a_kind.Trait q e f g = absurd cc
 object_kind n row a_kind.Object q e f g = refl
 object_kind n row a_kind.Leaf q e f g = absurd (let z : true ≡ false = sym (f refl) ∙ g in cc)
@@ -81,17 +128,24 @@ so_told None e = absurd cc
 so_told (Some b) e = ap Some e
 
 which : (n : ℕ) → (n < TYPE_COUNT) ⊎ ((k : ℕ) × (n ≡ TYPE_COUNT + k))
-which n = elim (less n) as (λ _. (n < TYPE_COUNT) ⊎ ((k : ℕ) × (n ≡ TYPE_COUNT + k))) [ inl l ↦ inl l | inr l ↦ inr (n - TYPE_COUNT, omega arith) ]
+which n =
+    elim (less n) as (λ _. (n < TYPE_COUNT)
+    ⊎ ((k : ℕ) × (n ≡ TYPE_COUNT + k))) [
+      | inl l ↦ inl l
+      | inr l ↦ inr (n - TYPE_COUNT, omega arith)
+    ]
   where
     less : (n : ℕ) → (n < TYPE_COUNT) ⊎ (TYPE_COUNT ≤ n)
     less n = grind arith
 
 -- what the name of a single object tells
-function_step : (b : Bool) (o t : Option TypeId) (u : TypeId) → cond b None t ≡ Some u → (b ≡ false) × (t ≡ Some u)
+function_step : (b : Bool) (o t : Option TypeId) (u : TypeId) → cond b None t ≡ Some u
+    → (b ≡ false) × (t ≡ Some u)
 function_step true o t u e = absurd cc
 function_step false o t u e = (refl, e)
 
-object_step : (b : Bool) (n : ℕ) (u : TypeId) → cond b (Some (type_number n)) None ≡ Some u → (b ≡ true) × (n ≡ u.0)
+object_step : (b : Bool) (n : ℕ) (u : TypeId) → cond b (Some (type_number n)) None ≡ Some u
+    → (b ≡ true) × (n ≡ u.0)
 object_step true n u e = let z : type_number n ≡ u = cc in (refl, ap (λ (x : TypeId). x.0) z)
 object_step false n u e = absurd cc
 
@@ -99,22 +153,33 @@ kind_step : (b : Bool) (l : Loc) → b ≡ false → cond b kind.Object (kind.Si
 kind_step true l e = absurd cc
 kind_step false l e = refl
 
-module _ (tokens : Tokens) (c : Component) (h : Hierarchy) (m : Members) (groups : Groups) (typed : Typed) (p : Program) (ok : Checked tokens c h m groups typed p) where
+module _ (tokens : Tokens) (c : Component) (h : Hierarchy) (m : Members) (groups : Groups)
+    (typed : Typed) (p : Program) (ok : Checked tokens c h m groups typed p) where
   -- the value of a type's single object
-  value_is : (t : TypeId) (s : CoreShape) (l : Loc) → ShapeOf p t s → s.kind ≡ kind.Single l → translation.single (given m c.texts typed) t ≡ ObjectValue t l
-  value_is t s l e k = ap (λ z. ObjectValue t (base_of (slice_get z t.0))) (sym ok.program.shapes) ∙ ap (λ z. ObjectValue t (base_of z)) e ∙ ap (λ z. ObjectValue t (base_of_kind z)) k
+  value_is : (t : TypeId) (s : CoreShape) (l : Loc) → ShapeOf p t s → s.kind ≡ kind.Single l
+      → translation.single (given m c.texts typed) t ≡ ObjectValue t l
+  value_is t s l e k =
+      ap (λ z. ObjectValue t (base_of (slice_get z t.0))) (sym ok.program.shapes)
+      ∙ ap (λ z. ObjectValue t (base_of z)) e ∙ ap (λ z. ObjectValue t (base_of_kind z)) k
 
-  has_its : (t : TypeId) (s : CoreShape) (l : Loc) → ShapeOf p t s → s.kind ≡ kind.Single l → HasV p (opening p) (translation.single (given m c.texts typed) t) (Named t)
-  has_its t s l e k = subst (λ v. HasV p (opening p) v (Named t)) (sym (value_is t s l e k)) (single_has tokens c h m groups typed p ok t s l e k)
+  has_its : (t : TypeId) (s : CoreShape) (l : Loc) → ShapeOf p t s → s.kind ≡ kind.Single l
+      → HasV p (opening p) (translation.single (given m c.texts typed) t) (Named t)
+  has_its t s l e k =
+      subst (λ v. HasV p (opening p) v (Named t)) (sym (value_is t s l e k))
+      (single_has tokens c h m groups typed p ok t s l e k)
 
-  thrown : (t : TypeId) → ExceptionRow t.0 → HasV p (opening p) (translation.single (given m c.texts typed) t) (Named EXCEPTION)
+  thrown : (t : TypeId) → ExceptionRow t.0
+      → HasV p (opening p) (translation.single (given m c.texts typed) t) (Named EXCEPTION)
   thrown t r = let x = exception_single tokens c h m groups typed p ok t r in
-      subst (λ v. HasV p (opening p) v (Named EXCEPTION)) (sym (value_is t x.1 x.0 x.2 x.3)) (exception_has tokens c h m groups typed p ok t r x.1 x.0 x.2 x.3)
+      subst (λ v. HasV p (opening p) v (Named EXCEPTION)) (sym (value_is t x.1 x.0 x.2 x.3))
+      (exception_has tokens c h m groups typed p ok t r x.1 x.0 x.2 x.3)
 
-  pub no_match : HasV p (opening p) (translation.single (given m c.texts typed) MATCH_FAILURE) (Named EXCEPTION)
+  pub no_match : HasV p (opening p) (translation.single (given m c.texts typed) MATCH_FAILURE)
+      (Named EXCEPTION)
   no_match = thrown MATCH_FAILURE exception13
 
-  pub no_item : HasV p (opening p) (translation.single (given m c.texts typed) EMPTY_REDUCTION) (Named EXCEPTION)
+  pub no_item : HasV p (opening p) (translation.single (given m c.texts typed) EMPTY_REDUCTION)
+      (Named EXCEPTION)
   no_item = thrown EMPTY_REDUCTION exception12
 
   -- ---- by name
@@ -126,44 +191,67 @@ module _ (tokens : Tokens) (c : Component) (h : Hierarchy) (m : Members) (groups
     abbrev spelled : Spelling
     spelled = get_or c.names name.0 []
 
-    built_in_single : (o : TypeId) → o.0 < TYPE_COUNT → slice_get m.objects o.0 ≡ Some true → is_leaf_number o.0 ≡ false → HasV p (opening p) (translation.single (given m c.texts typed) o) (Named o)
+    built_in_single : (o : TypeId) → o.0 < TYPE_COUNT → slice_get m.objects o.0 ≡ Some true
+        → is_leaf_number o.0 ≡ false
+        → HasV p (opening p) (translation.single (given m c.texts typed) o) (Named o)
     built_in_single o l e f =
         let n = rows_long in
         let r = there types o.0 (omega (arith, n, l)) in
         let at = declared_row c o.0 r.0 r.1 in
-        let d = get_mapped is_leaf (declares c) o.0 true (ap (λ z. slice_get z o.0) (sym ok.members.objects) ∙ e) in
-        let same : declared_by_row r.0 ≡ d.0 = one (declares c) o.0 d.0 (declared_by_row r.0) d.1 at in
-        let kind_is = object_kind o.0 r.0 r.0.kind refl (ap is_leaf same ∙ d.2) (λ k. ap is_leaf_number (sym (nothing_plus o.0)) ∙ check_at 0 types leaves_told o.0 r.0 r.1 k) f in
+        let d = get_mapped is_leaf (declares c) o.0 true
+        (ap (λ z. slice_get z o.0) (sym ok.members.objects) ∙ e) in
+        let same : declared_by_row r.0 ≡ d.0 = one (declares c) o.0 d.0 (declared_by_row r.0) d.1 at
+        in
+        let kind_is =
+        object_kind o.0 r.0 r.0.kind refl (ap is_leaf same
+        ∙ d.2) (λ k. ap is_leaf_number (sym (nothing_plus o.0))
+        ∙ check_at 0 types leaves_told o.0 r.0 r.1 k) f in
         let s = shape_is tokens c h m groups typed p ok o.0 r.0 r.1 in
         has_its o (shape_at s.0 r.0.kind) (location s.0) s.1 (ap (kind_at s.0) kind_is)
 
-    own_single : (o : TypeId) (k : ℕ) → o.0 ≡ TYPE_COUNT + k → slice_get m.objects o.0 ≡ Some true → number_in_names h.names spelled ≡ o.0 → any_set (has_name spelled false) m.sets ≡ false
+    own_single : (o : TypeId) (k : ℕ) → o.0 ≡ TYPE_COUNT + k → slice_get m.objects o.0 ≡ Some true
+        → number_in_names h.names spelled ≡ o.0 → any_set (has_name spelled false) m.sets ≡ false
         → HasV p (opening p) (translation.single (given m c.texts typed) o) (Named o)
     own_single o k q e named none =
         let x = object_at c m ok.members o.0 k q e in
-        let number_is : number_of (types_of c) (spelling c.names x.0.name) ≡ o.0 = number_at c h ok.hierarchy k (declaration.Object x.0) x.1 ∙ sym q in
+        let number_is : number_of (types_of c) (spelling c.names x.0.name) ≡ o.0 =
+        number_at c h ok.hierarchy k (declaration.Object x.0) x.1 ∙ sym q in
         let at = name_at c h ok.hierarchy k x.0 x.1 in
         let l = slice_get_within h.names (TYPE_COUNT + k) (spelling c.names x.0.name) at in
         let again = name_there h.names spelled o.0 named (omega (arith, q, l)) in
-        let spelled_so : spelling c.names x.0.name ≡ spelled = one h.names o.0 spelled (spelling c.names x.0.name) again (ap (slice_get h.names) q ∙ at) in
-        let without : has_constructor m.sets (type_number o.0) ≡ false = ap (λ z. has_constructor m.sets (type_number z)) (sym number_is) ∙ no_constructor c h ok.hierarchy m ok.members k x.0 x.1 spelled spelled_so none in
+        let spelled_so : spelling c.names x.0.name ≡ spelled =
+        one h.names o.0 spelled (spelling c.names x.0.name) again (ap (slice_get h.names) q
+        ∙ at) in
+        let without : has_constructor m.sets (type_number o.0) ≡ false =
+        ap (λ z. has_constructor m.sets (type_number z)) (sym number_is)
+        ∙ no_constructor c h ok.hierarchy m ok.members k x.0 x.1 spelled spelled_so none in
         let many = slice_get_within m.objects o.0 true e in
         let long = ok.members.fields.fields.number in
-        let d = get_mapped is_leaf (declares c) o.0 true (ap (λ z. slice_get z o.0) (sym ok.members.objects) ∙ e) in
+        let d = get_mapped is_leaf (declares c) o.0 true
+        (ap (λ z. slice_get z o.0) (sym ok.members.objects) ∙ e) in
         let inside = slice_get_within (declares c) o.0 d.0 d.1 in
         let fs = there m.fields o.0 (omega (arith, long, inside)) in
         let s = own_shape c m ok.members c.texts typed.initials o.0 k true fs.0 q e fs.1 in
-        has_its o s.0 (location s.2.base) (ap (λ z. slice_get z o.0) ok.program.shapes ∙ s.1) (ap (λ (z : CoreShape). z.kind) s.2.is_shape ∙ kind_step (has_constructor m.sets (type_number o.0)) (location s.2.base) without)
+        has_its o s.0 (location s.2.base) (ap (λ z. slice_get z o.0) ok.program.shapes ∙ s.1) (ap (λ
+        (z : CoreShape). z.kind) s.2.is_shape
+        ∙ kind_step (has_constructor m.sets (type_number o.0)) (location s.2.base) without)
 
-    by_number : (o : TypeId) → (o.0 < TYPE_COUNT) ⊎ ((k : ℕ) × (o.0 ≡ TYPE_COUNT + k)) → slice_get m.objects o.0 ≡ Some true → is_leaf_number o.0 ≡ false → number_in_names h.names spelled ≡ o.0 → any_set (has_name spelled false) m.sets ≡ false
+    by_number : (o : TypeId) → (o.0 < TYPE_COUNT) ⊎ ((k : ℕ) × (o.0 ≡ TYPE_COUNT + k))
+        → slice_get m.objects o.0 ≡ Some true → is_leaf_number o.0 ≡ false
+        → number_in_names h.names spelled ≡ o.0 → any_set (has_name spelled false) m.sets ≡ false
         → HasV p (opening p) (translation.single (given m c.texts typed) o) (Named o)
     by_number o (inl l) e f g none = built_in_single o l e f
     by_number o (inr w) e f g none = own_single o w.0 w.1 e g none
 
-    pub single_is_value : (o : TypeId) → single F name ≡ Some o → HasV p (opening p) (translation.single (given m c.texts typed) o) (Named o)
+    pub single_is_value : (o : TypeId) → single F name ≡ Some o
+        → HasV p (opening p) (translation.single (given m c.texts typed) o) (Named o)
     single_is_value o e =
         let n = number_in_names h.names spelled in
-        let a = function_step (any_set (has_name spelled false) m.sets) None (cond (is_so (slice_get m.objects n) && not (is_leaf_number n)) (Some (type_number n)) None) o e in
+        let a = function_step (any_set (has_name spelled false) m.sets) None
+        (cond (is_so (slice_get m.objects n)
+        && not (is_leaf_number n)) (Some (type_number n)) None) o e in
         let b = object_step (is_so (slice_get m.objects n) && not (is_leaf_number n)) n o a.1 in
         let d = and_both (is_so (slice_get m.objects n)) (not (is_leaf_number n)) b.0 in
-        by_number o (which o.0) (ap (slice_get m.objects) (sym b.1) ∙ so_told (slice_get m.objects n) d.0) (ap is_leaf_number (sym b.1) ∙ not_told (is_leaf_number n) d.1) b.1 a.0
+        by_number o (which o.0) (ap (slice_get m.objects) (sym b.1)
+        ∙ so_told (slice_get m.objects n) d.0) (ap is_leaf_number (sym b.1)
+        ∙ not_told (is_leaf_number n) d.1) b.1 a.0

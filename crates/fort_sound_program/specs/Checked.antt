@@ -1,4 +1,5 @@
--- What holds of a component that the check accepts, and of its program. The chapter "Accepted programs" of docs/SOUNDNESS.md.
+-- What holds of a component that the check accepts, and of its program. The chapter "Accepted
+-- programs" of docs/SOUNDNESS.md.
 use Rattle.std.specs.Prelude.{◌≡◌, ◌≤◌, ℕ, [], ◌∷◌, slice_get, Some}
 use Rattle.fort_base.specs.declared.refusal.Place.{Place}
 use Rattle.fort_ops.specs.declared.op.Op.TheVariants as an_op
@@ -26,15 +27,22 @@ use Rattle.fort_matched.specs.Component.{StandApart}
 -- The number of a constant is one that a file may have: a ZZ64.
 pub record FitsFile (e : Form) : Type 0 where
   pub number : (at : Place) (n : ℕ) → out-Form e ≡ Form-F.Number at n → n ≤ 9223372036854775807
-  pub negative : (at inner : Place) (d : Form) (n : ℕ) → out-Form e ≡ Form-F.Operator at an_op.Minus (d ∷ []) → out-Form d ≡ Form-F.Number inner n → n ≤ 9223372036854775807
+  pub negative : (at inner : Place) (d : Form) (n : ℕ)
+      → out-Form e ≡ Form-F.Operator at an_op.Minus (d ∷ []) → out-Form d ≡ Form-F.Number inner n
+      → n ≤ 9223372036854775807
 
--- A component that keeps all the rules, with its typing and its program: tokens that stand apart are its tree; its declared types are a hierarchy; it has these members, and each of its overload sets keeps the rules; its forms have these types, and the numbers of its initials are those of a file; and this is its program.
-pub record Checked (tokens : Tokens) (c : Component) (h : Hierarchy) (m : Members) (groups : Groups) (typed : Typed) (p : Program) : Type 0 where
+-- A component that keeps all the rules, with its typing and its program: tokens that stand apart
+-- are its tree; its declared types are a hierarchy; it has these members, and each of its overload
+-- sets keeps the rules; its forms have these types, and the numbers of its initials are those of a
+-- file; and this is its program.
+pub record Checked (tokens : Tokens) (c : Component) (h : Hierarchy) (m : Members) (groups : Groups)
+    (typed : Typed) (p : Program) : Type 0 where
   pub apart : StandApart tokens.list
   pub tree : HasTree tokens c
   pub hierarchy : IsHierarchy c (type_names c) h
   pub members : AreMembers c m
   pub ruled : KeepAllRules (declares c) m
   pub types : HasTypes (known_of c h m) (forms_of c groups) typed
-  pub constants : (n : ℕ) (i : InitialForm) → slice_get (forms_of c groups).initials n ≡ Some i → FitsFile i.value
+  pub constants : (n : ℕ) (i : InitialForm) → slice_get (forms_of c groups).initials n ≡ Some i
+      → FitsFile i.value
   pub program : IsProgramOf h m c.texts typed p
