@@ -5,4 +5,5 @@ use Rattle.fort_lex.specs.Files.{HasTokens}
 use Rattle.fort_matched.specs.Component.{StandApart}
 
 abbrev pub TokensStandApart : Type 0
-TokensStandApart = (bytes : List ℕ) (tokens : Tokens) → HasTokens bytes tokens → StandApart tokens.list
+TokensStandApart = (bytes : List ℕ) (tokens : Tokens) → HasTokens bytes tokens
+    → StandApart tokens.list

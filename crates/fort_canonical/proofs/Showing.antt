@@ -13,20 +13,26 @@ use Rattle.fort_tree.specs.Component.{number_is_in, NumbersAreIn, IsNumbered}
 use Rattle.fort_canonical.specs.Canonical.{token_text, kind_text, without_first_gap}
 
 -- the first token has no gap, the others have theirs
-pub first_shown : (names texts : List (List ℕ)) (list : List Token) (x : Token) (rest : List Token) → list ≡ x ∷ rest
-    → flat_map (token_text names texts) (without_first_gap list) ≡ kind_text names texts x.kind ++ flat_map (token_text names texts) rest
-first_shown names texts list x rest e = ap (λ l. flat_map (token_text names texts) (without_first_gap l)) e
+pub first_shown : (names texts : List (List ℕ)) (list : List Token) (x : Token) (rest : List Token)
+    → list ≡ x ∷ rest
+    → flat_map (token_text names texts) (without_first_gap list)
+    ≡ kind_text names texts x.kind ++ flat_map (token_text names texts) rest
+first_shown names texts list x rest e =
+    ap (λ l. flat_map (token_text names texts) (without_first_gap l)) e
 
 -- the numbers of a list are those of its first token and of the rest
-pub numbers_split : (names texts : List (List ℕ)) (list : List Token) (x : Token) (rest : List Token) → list ≡ x ∷ rest → NumbersAreIn names texts list
+pub numbers_split : (names texts : List (List ℕ)) (list : List Token) (x : Token)
+    (rest : List Token) → list ≡ x ∷ rest → NumbersAreIn names texts list
     → (number_is_in (length names) (length texts) x.kind ≡ true) × NumbersAreIn names texts rest
 numbers_split names texts list x rest e h =
-    let k = subst (NumbersAreIn names texts) e h in (k 0 x (omega arith), λ i d l. k (suc i) d (omega arith))
+    let k = subst (NumbersAreIn names texts) e h
+    in (k 0 x (omega arith), λ i d l. k (suc i) d (omega arith))
 
 below : (n m : ℕ) → n < m → nat_lt n m ≡ true
 below n m h = grind (arith, nat_tests)
 
-op_in : (names texts : ℕ) (op : Op) → IsOpWithin names op → number_is_in names texts (kind.Op op) ≡ true
+op_in : (names texts : ℕ) (op : Op) → IsOpWithin names op
+    → number_is_in names texts (kind.Op op) ≡ true
 op_in names texts an_op.Juxt h = refl
 op_in names texts an_op.Times h = refl
 op_in names texts an_op.Dot h = refl
@@ -59,7 +65,8 @@ op_in names texts an_op.Not h = refl
 op_in names texts an_op.Power h = refl
 op_in names texts (an_op.Word n) h = below n names h
 
-kind_in : (names texts : ℕ) (k : Kind) → IsKindWithin names texts k → number_is_in names texts k ≡ true
+kind_in : (names texts : ℕ) (k : Kind) → IsKindWithin names texts k
+    → number_is_in names texts k ≡ true
 kind_in names texts (kind.Word r) h = refl
 kind_in names texts (kind.Name n) h = below n.0 names h
 kind_in names texts (kind.Number n) h = refl

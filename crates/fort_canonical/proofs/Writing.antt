@@ -48,19 +48,25 @@ writes_spelling (an_op.Word n) h = elim h [ ]
 writes_spelling an_op.Power h = (codes "^", (37, omega arith, refl), refl)
 
 -- two lists of what functions give are equal: so are what they give of each element
-at_each : {X Y : Type 0} (f g : X → Y) (xs : List X) (x : X) → map f xs ≡ map g xs → Contains xs x → f x ≡ g x
+at_each : {X Y : Type 0} (f g : X → Y) (xs : List X) (x : X) → map f xs ≡ map g xs → Contains xs x
+    → f x ≡ g x
 at_each f g xs x same (k, within, at) =
-    ap f (sym at) ∙ sym (get_or-map f xs k x (g x) within) ∙ ap (λ ys. get_or ys k (g x)) same ∙ get_or-map g xs k x (g x) within ∙ ap g at
+    ap f (sym at) ∙ sym (get_or-map f xs k x (g x) within) ∙ ap (λ ys. get_or ys k (g x)) same
+    ∙ get_or-map g xs k x (g x) within ∙ ap g at
 
-each_last : map (λ row. operator_text row.op) table ≡ map (λ row. encode_utf8_all (last_spelling row.spellings)) table
+each_last : map (λ row. operator_text row.op) table
+    ≡ map (λ row. encode_utf8_all (last_spelling row.spellings)) table
 unfolding lib.Utf8.encode
 each_last = refl
 
 pub writes_last : WritesLast
-writes_last row at = at_each (λ r. operator_text r.op) (λ r. encode_utf8_all (last_spelling r.spellings)) table row each_last at
+writes_last row at =
+    at_each (λ r. operator_text r.op) (λ r. encode_utf8_all (last_spelling r.spellings)) table row
+    each_last at
 
 -- tokens with the same kinds and gaps are written alike
-same_rest : (names texts : List (List ℕ)) (ts us : List Token) → map (λ t. t.kind) ts ≡ map (λ t. t.kind) us → map (λ t. t.gap) ts ≡ map (λ t. t.gap) us
+same_rest : (names texts : List (List ℕ)) (ts us : List Token)
+    → map (λ t. t.kind) ts ≡ map (λ t. t.kind) us → map (λ t. t.gap) ts ≡ map (λ t. t.gap) us
     → flat_map (token_text names texts) ts ≡ flat_map (token_text names texts) us
 same_rest names texts [] [] k g = refl
 same_rest names texts [] (u ∷ us) k g = absurd cc
@@ -69,19 +75,25 @@ same_rest names texts (t ∷ ts) (u ∷ us) k g =
     let kind : t.kind ≡ u.kind = cc in
     let gap_is : t.gap ≡ u.gap = cc in
     let rest = same_rest names texts ts us (cc) (cc) in
-    ap (λ x. (gap_text x ++ kind_text names texts t.kind) ++ flat_map (token_text names texts) ts) gap_is
-    ∙ ap (λ x. (gap_text u.gap ++ kind_text names texts x) ++ flat_map (token_text names texts) ts) kind
+    ap (λ x. (gap_text x ++ kind_text names texts t.kind) ++ flat_map (token_text names texts) ts)
+    gap_is
+    ∙ ap (λ x. (gap_text u.gap ++ kind_text names texts x) ++ flat_map (token_text names texts) ts)
+    kind
     ∙ ap (λ x. token_text names texts u ++ x) rest
 
-same_all : (names texts : List (List ℕ)) (ts us : List Token) → map (λ t. t.kind) ts ≡ map (λ t. t.kind) us → map (λ t. t.gap) (drop 1 ts) ≡ map (λ t. t.gap) (drop 1 us)
-    → flat_map (token_text names texts) (without_first_gap ts) ≡ flat_map (token_text names texts) (without_first_gap us)
+same_all : (names texts : List (List ℕ)) (ts us : List Token)
+    → map (λ t. t.kind) ts ≡ map (λ t. t.kind) us
+    → map (λ t. t.gap) (drop 1 ts) ≡ map (λ t. t.gap) (drop 1 us)
+    → flat_map (token_text names texts) (without_first_gap ts)
+    ≡ flat_map (token_text names texts) (without_first_gap us)
 same_all names texts [] [] k g = refl
 same_all names texts [] (u ∷ us) k g = absurd cc
 same_all names texts (t ∷ ts) [] k g = absurd cc
 same_all names texts (t ∷ ts) (u ∷ us) k g =
     let kind : t.kind ≡ u.kind = cc in
     let rest = same_rest names texts ts us (cc) g in
-    ap (λ x. kind_text names texts x ++ flat_map (token_text names texts) ts) kind ∙ ap (λ x. kind_text names texts u.kind ++ x) rest
+    ap (λ x. kind_text names texts x ++ flat_map (token_text names texts) ts) kind
+    ∙ ap (λ x. kind_text names texts u.kind ++ x) rest
 
 pub alike_shown : (ts us : Tokens) → IsAlike ts us → canonical ts ≡ canonical us
 alike_shown ts us h =

@@ -1,4 +1,5 @@
--- The chapter "Canonical text": the one text that tokens are shown as. The code appends token after token.
+-- The chapter "Canonical text": the one text that tokens are shown as. The code appends token after
+-- token.
 use Rattle.std.specs.Prelude.{ℕ, ◌==◌, if◌then◌else◌, List, [], ◌∷◌, ◌++◌, Option, Some, None, codes, get_or, encode_utf8_all, decimal}
 use Rattle.std.specs.List.{flat_map}
 use Rattle.fort_base.specs.declared.refusal.Gap.{Gap}
@@ -29,8 +30,8 @@ word_text r = sign_or (word_sign r) (word_ascii r)
 abbrev pub mark_text : Mark → List ℕ
 mark_text m = sign_or (mark_sign m) (mark_ascii m)
 
--- How an operator of the table is written: by its last spelling there, which is the Unicode one where it has one.
--- Juxtaposition has none, and an operator word has its name.
+-- How an operator of the table is written: by its last spelling there, which is the Unicode one
+-- where it has one. Juxtaposition has none, and an operator word has its name.
 abbrev pub operator_text : Op → List ℕ
 operator_text an_op.Juxt = []
 operator_text an_op.Times = encode_utf8_all (codes "×")
@@ -69,7 +70,8 @@ abbrev pub op_text : Spellings → Op → List ℕ
 op_text names (an_op.Word n) = get_or names n []
 op_text names op = operator_text op
 
--- how a byte of a text is written: a line feed, a tab, a quote and a `\` by their escapes, each other one as itself
+-- how a byte of a text is written: a line feed, a tab, a quote and a `\` by their escapes, each
+-- other one as itself
 abbrev pub escaped : ℕ → List ℕ
 escaped c =
     if c == 10 then 92 ∷ 110 ∷ [] else  -- \n
@@ -107,6 +109,8 @@ abbrev pub without_first_gap : List Token → List Token
 without_first_gap [] = []
 without_first_gap (t ∷ ts) = record { kind = t.kind; gap = gap.Empty; place = t.place } ∷ ts
 
--- The canonical text of tokens, as UTF-8: each token behind its gap, but the first, which has none; and a line feed.
+-- The canonical text of tokens, as UTF-8: each token behind its gap, but the first, which has none;
+-- and a line feed.
 abbrev pub canonical : Tokens → List ℕ
-canonical tokens = flat_map (token_text tokens.names tokens.texts) (without_first_gap tokens.list) ++ 10 ∷ []
+canonical tokens =
+    flat_map (token_text tokens.names tokens.texts) (without_first_gap tokens.list) ++ 10 ∷ []

@@ -1,5 +1,5 @@
--- The chapter "Canonical text": what the spellings that it is written with have to do with the tables, and what plays no
--- part in it. The code has a table of its own for writing.
+-- The chapter "Canonical text": what the spellings that it is written with have to do with the
+-- tables, and what plays no part in it. The code has a table of its own for writing.
 use Rattle.std.specs.Prelude.{◌≡◌, List, [], ◌∷◌, ℕ, map, drop, encode_utf8_all}
 use Rattle.std.specs.List.{Contains}
 use Rattle.fort_ops.specs.declared.op.Op.{Op}
@@ -16,7 +16,8 @@ last_spelling (w ∷ v ∷ ws) = last_spelling (v ∷ ws)
 
 -- An operator of a row of the table is written by its last spelling there.
 abbrev pub WritesLast : Type 0
-WritesLast = (row : Row) → Contains table row → operator_text row.op ≡ encode_utf8_all (last_spelling row.spellings)
+WritesLast = (row : Row) → Contains table row
+    → operator_text row.op ≡ encode_utf8_all (last_spelling row.spellings)
 
 -- an operator of the table: neither juxtaposition nor an operator word
 abbrev pub IsOfTable : Op → Type 0
@@ -26,7 +27,8 @@ IsOfTable op = Unit {0}
 
 -- An operator of the table is written by a spelling of its own.
 abbrev pub WritesSpelling : Type 0
-WritesSpelling = (op : Op) → IsOfTable op → (word : List ℕ) × Spells op word × (operator_text op ≡ encode_utf8_all word)
+WritesSpelling = (op : Op) → IsOfTable op
+    → (word : List ℕ) × Spells op word × (operator_text op ≡ encode_utf8_all word)
 
 -- The tokens differ in nothing but places and the gap before the first token.
 pub record IsAlike (ts us : Tokens) : Type 0 where

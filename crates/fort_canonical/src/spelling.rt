@@ -1,4 +1,5 @@
-//! How single tokens are written in canonical text. The tables are those of the specs of `fort_lex` and `fort_ops`.
+//! How single tokens are written in canonical text. The tables are those of the specs of `fort_lex`
+//! and `fort_ops`.
 ghost use Rattle.std.specs.Prelude.{◌≡◌};
 ghost use Rattle.fort_canonical.specs.Canonical.{word_text, mark_text, operator_text, gap_text};
 

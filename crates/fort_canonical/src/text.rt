@@ -11,8 +11,8 @@ use fort_token::{Kind, Token, Tokens};
 use itoa::Buffer;
 use std::alloc::Global;
 
-/// The canonical text of tokens, as UTF-8: each token behind its gap, which is nothing, a space or a
-/// line feed; no gap before the first; a line feed at the end.
+/// The canonical text of tokens, as UTF-8: each token behind its gap, which is nothing, a space or
+/// a line feed; no gap before the first; a line feed at the end.
 ///
 /// Each number of a name or text of the tokens is in their tables. What has a Unicode spelling is
 /// written with it. `Memory` says that memory was wanting. The chapter is "Canonical text".
@@ -32,7 +32,8 @@ pub fn shown(alloc: Global, tokens: &Tokens) -> Result<Bytes, Memory>
 /// Puts tokens at the end, each behind its gap.
 fn push_tokens(tokens: &Tokens, list: &[Token], text: &mut Bytes) -> Result<(), Memory>
     requires { NumbersAreIn tokens.now.names tokens.now.texts list.now }
-    ensures { OnOk result (text.new ≡ text.old ++ flat_map (token_text tokens.now.names tokens.now.texts) list.now) }
+    ensures { OnOk result (text.new
+        ≡ text.old ++ flat_map (token_text tokens.now.names tokens.now.texts) list.now) }
 {
     for token in list {
         text.push_slice(gap_text(token.gap))?;
@@ -44,7 +45,8 @@ fn push_tokens(tokens: &Tokens, list: &[Token], text: &mut Bytes) -> Result<(), 
 /// Puts a token's spelling at the end.
 fn push_kind(tokens: &Tokens, kind: Kind, text: &mut Bytes) -> Result<(), Memory>
     requires { IsTrue (number_is_in (length tokens.now.names) (length tokens.now.texts) kind) }
-    ensures { OnOk result (text.new ≡ text.old ++ kind_text tokens.now.names tokens.now.texts kind) }
+    ensures { OnOk result (text.new
+        ≡ text.old ++ kind_text tokens.now.names tokens.now.texts kind) }
 {
     match kind {
         Kind::Word(reserved) => text.push_slice(word_text(reserved)),

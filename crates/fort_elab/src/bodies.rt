@@ -75,7 +75,9 @@ fn body_term(
     function: u32,
     body: &TypedBody,
 ) -> Result<(Shared<Term>, u32), Memory>
-    ensures { IfOk result (λ made. (made.0 ≡ (body_made (given_of known.now) function body.now).term) × (made.1 ≡ (body_made (given_of known.now) function body.now).counter.function)) }
+    ensures { IfOk result
+        (λ made. (made.0 ≡ (body_made (given_of known.now) function body.now).term)
+        × (made.1 ≡ (body_made (given_of known.now) function body.now).counter.function)) }
 {
     let names = parameters_in_scope(alloc, body.receiver, body.parameters.as_slice())?;
     let receiver = body.receiver.unwrap_or(0);

@@ -28,7 +28,8 @@ fn core_body(
     at: usize,
     member: &Member,
 ) -> Result<CoreBody, Memory>
-    ensures { IfOk result (λ body. core_body terms.now set.now at member.now member.now.kind ≡ Some body) }
+    ensures { IfOk result (λ body. core_body terms.now set.now at member.now member.now.kind
+        ≡ Some body) }
 {
     match member.kind {
         MemberKind::BuiltIn => {
@@ -73,7 +74,8 @@ fn add_set(
     set: &MemberSet,
     list: &mut List<CoreDecl>,
 ) -> Result<(), Memory>
-    ensures { OnOk result (map Some list.new ≡ map Some list.old ++ declarations_of_set terms.now set.now) }
+    ensures { OnOk result (map Some list.new
+        ≡ map Some list.old ++ declarations_of_set terms.now set.now) }
 {
     let members = set.members.as_slice();
     for at in 0..members.len() {
@@ -88,7 +90,8 @@ pub(crate) fn declarations(
     terms: &[Placed],
     sets: &[MemberSet],
 ) -> Result<List<CoreDecl>, Memory>
-    ensures { IfOk result (λ list. map Some list ≡ flat_map (declarations_of_set terms.now) sets.now) }
+    ensures { IfOk result (λ list. map Some list
+        ≡ flat_map (declarations_of_set terms.now) sets.now) }
 {
     let mut list = List::new(alloc);
     for set in sets {

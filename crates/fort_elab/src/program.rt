@@ -42,7 +42,9 @@ fn declared(
     members: &Members,
     typed: &Typed,
 ) -> Result<List<CoreDecl>, Memory>
-    ensures { IfOk result (λ list. map Some list ≡ flat_map (declarations_of_set (bodies (given_of known.now) 0 typed.now.bodies)) members.now.sets) }
+    ensures { IfOk result (λ list. map Some list
+        ≡ flat_map (declarations_of_set (bodies (given_of known.now) 0 typed.now.bodies))
+        members.now.sets) }
 {
     let terms = bodies(alloc, known, typed.bodies.as_slice())?;
     declarations(alloc, terms.as_slice(), members.sets.as_slice())
@@ -63,7 +65,8 @@ pub fn elaborate(
     texts: &[Bytes],
     typed: &Typed,
 ) -> Result<Program, Memory>
-    ensures { IfOk result (λ program. IsProgramOf hierarchy members.now texts.now typed.now program) }
+    ensures { IfOk result
+        (λ program. IsProgramOf hierarchy members.now texts.now typed.now program) }
 {
     let Hierarchy {
         table,

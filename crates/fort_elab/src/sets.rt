@@ -10,7 +10,8 @@ use std::alloc::Global;
 
 /// The numbers of declarations, from one on, and the next one behind them.
 fn numbers(alloc: Global, first: u32, members: &[Member]) -> Result<(List<DeclId>, u32), Memory>
-    ensures { IfOk result (λ made. (made.0 ≡ numbers first members.now) × (made.1 ≡ first + length members.now)) }
+    ensures { IfOk result (λ made. (made.0 ≡ numbers first members.now)
+        × (made.1 ≡ first + length members.now)) }
 {
     let mut list = List::new(alloc);
     let mut next = first;

@@ -40,44 +40,62 @@ module _ (one : Form) (others : List Form) (G : HasFigures one) (R : AllGood oth
   units-good [] = tt
   units-good (n ∷ ns) = (unit-good n, units-good ns)
 
-  level : (l : Grouped-F Grouped) → grouped one others (roll-Grouped l) ≡ form_grouped one others (map-Grouped Grouped Form (grouped one others) l)
+  level : (l : Grouped-F Grouped)
+      → grouped one others (roll-Grouped l)
+      ≡ form_grouped one others (map-Grouped Grouped Form (grouped one others) l)
   unfolding grouped
   level l = fold-roll-Grouped Form (form_grouped one others) l
 
-  more : (ps : List Grouped) (r : Grouped) → AllGood (map (grouped one others) ps) → HasFigures (grouped one others r)
+  more : (ps : List Grouped) (r : Grouped) → AllGood (map (grouped one others) ps)
+      → HasFigures (grouped one others r)
       → AllGood (map (grouped one others) (ps ++ r ∷ []))
   more [] r g h = (h, tt)
   more (p ∷ ps) r g h = (g.0, more ps r g.1 h)
 
   module _ (joints : List Joint) where
     mutual
-      pub group-good : (i j : ℕ) (t : Grouped) → IsGrouping joints i j t → HasFigures (grouped one others t)
-      group-good i j t unit = subst HasFigures (sym (ap (grouped one others) (sym (rolls-Unit i)) ∙ level (Grouped-F.Unit i))) (unit-good i)
+      pub group-good : (i j : ℕ) (t : Grouped) → IsGrouping joints i j t
+          → HasFigures (grouped one others t)
+      group-good i j t unit =
+          subst HasFigures
+          (sym (ap (grouped one others) (sym (rolls-Unit i)) ∙ level (Grouped-F.Unit i)))
+          (unit-good i)
       group-good i j t (juxt {units = us} r) =
-          subst HasFigures (sym (ap (grouped one others) (sym (rolls-Juxt us)) ∙ level (Grouped-F.Juxt us)))
-          (good-Beside (begins (map (unit_at one others) us)) (map (unit_at one others) us) (units-good us))
+          subst HasFigures
+          (sym (ap (grouped one others) (sym (rolls-Juxt us)) ∙ level (Grouped-F.Juxt us)))
+          (good-Beside (begins (map (unit_at one others) us)) (map (unit_at one others) us)
+          (units-good us))
       group-good i j t (binary {k = k} {op = op} {left = l} {right = r} b f gl gr fl fr) =
-          subst HasFigures (sym (ap (grouped one others) (sym (rolls-Binary op l r)) ∙ level (Grouped-F.Binary op l r)))
-          (good-Operator (place_of (grouped one others l)) op (grouped one others l ∷ grouped one others r ∷ [])
+          subst HasFigures
+          (sym (ap (grouped one others) (sym (rolls-Binary op l r))
+          ∙ level (Grouped-F.Binary op l r)))
+          (good-Operator (place_of (grouped one others l)) op
+          (grouped one others l ∷ grouped one others r ∷ [])
           (group-good i k l gl, (group-good (k + 1) j r gr, tt)))
       group-good i j t (chain {ops = ops} {parts = parts} c) =
           let g = chain-good i j ops parts c in
-          subst HasFigures (sym (ap (grouped one others) (sym (rolls-Chain ops parts)) ∙ level (Grouped-F.Chain ops parts)))
-          (good-Chain (begins (map (grouped one others) parts)) ops (map (grouped one others) parts) g.0 g.1)
+          subst HasFigures
+          (sym (ap (grouped one others) (sym (rolls-Chain ops parts))
+          ∙ level (Grouped-F.Chain ops parts)))
+          (good-Chain (begins (map (grouped one others) parts)) ops (map (grouped one others) parts)
+          g.0 g.1)
 
       chain-good : (i j : ℕ) (ops : List Op) (parts : List Grouped) → IsChain joints i j ops parts
           → (1 ≤ length ops) × AllGood (map (grouped one others) parts)
       chain-good i j ops parts (first {k = k} {op = op} {left = l} {right = r} b f gl gr fl fr) =
           (some 0, (group-good i k l gl, (group-good (k + 1) j r gr, tt)))
-      chain-good i j ops parts (next {k = k} {ops = os} {parts = ps} {op = op} {right = r} c b f gr fr) =
+      chain-good i j ops parts
+          (next {k = k} {ops = os} {parts = ps} {op = op} {right = r} c b f gr fr) =
           (one-more os op, more ps r (chain-good i k os ps c).1 (group-good (k + 1) j r gr))
 
 -- Each grouping is one of some joints.
 abbrev pub IsGroupedSource : Source → Type 0
-IsGroupedSource k = (p : Place) (g : Grouped) → k.grouping p ≡ Some g → (joints : List Joint) × (i : ℕ) × (j : ℕ) × IsGrouping joints i j g
+IsGroupedSource k = (p : Place) (g : Grouped) → k.grouping p ≡ Some g
+    → (joints : List Joint) × (i : ℕ) × (j : ℕ) × IsGrouping joints i j g
 
 -- the form of a flat expression
-pub flat-good : (k : Source) → IsGroupedSource k → (one : Form) (others : List Form) → HasFigures one → AllGood others
+pub flat-good : (k : Source) → IsGroupedSource k → (one : Form) (others : List Form)
+    → HasFigures one → AllGood others
     → HasFigures (grouped_by one others (k.grouping (place_of one)))
 flat-good k S one others G R = by (k.grouping (place_of one)) refl
   where
@@ -88,17 +106,24 @@ flat-good k S one others G R = by (k.grouping (place_of one)) refl
 -- ---- the groupings of a component
 
 abbrev IsGroupedAt : List FlatGrouping → Place → Type 0
-IsGroupedAt groups p = (g : Grouped) → grouping_at groups p ≡ Some g → (joints : List Joint) × (i : ℕ) × (j : ℕ) × IsGrouping joints i j g
+IsGroupedAt groups p = (g : Grouped) → grouping_at groups p ≡ Some g
+    → (joints : List Joint) × (i : ℕ) × (j : ℕ) × IsGrouping joints i j g
 
-one-grouped : (x : Grouped) (groups : List FlatGrouping) (p : Place) → (joints : List Joint) × (i : ℕ) × (j : ℕ) × IsGrouping joints i j x
+one-grouped : (x : Grouped) (groups : List FlatGrouping) (p : Place)
+    → (joints : List Joint) × (i : ℕ) × (j : ℕ) × IsGrouping joints i j x
     → IsGroupedAt groups p
-    → (b : Bool) (g : Grouped) → cond b (Some x) (grouping_at groups p) ≡ Some g → (joints : List Joint) × (i : ℕ) × (j : ℕ) × IsGrouping joints i j g
-one-grouped x groups p here later true g e = let q : x ≡ g = cc in subst (λ y. (joints : List Joint) × (i : ℕ) × (j : ℕ) × IsGrouping joints i j y) q here
+    → (b : Bool) (g : Grouped) → cond b (Some x) (grouping_at groups p) ≡ Some g
+    → (joints : List Joint) × (i : ℕ) × (j : ℕ) × IsGrouping joints i j g
+one-grouped x groups p here later true g e =
+    let q : x ≡ g = cc
+    in subst (λ y. (joints : List Joint) × (i : ℕ) × (j : ℕ) × IsGrouping joints i j y) q here
 one-grouped x groups p here later false g e = later g e
 
-pub all-grouped : (rows : List Row) (groups : List FlatGrouping) → HasGroups rows groups → (p : Place) → IsGroupedAt groups p
+pub all-grouped : (rows : List Row) (groups : List FlatGrouping) → HasGroups rows groups
+    → (p : Place) → IsGroupedAt groups p
 all-grouped [] [] h p g e = absurd cc
 all-grouped [] (x ∷ groups) h p g e = absurd h
 all-grouped (row ∷ rows) [] h p g e = absurd h
 all-grouped (row ∷ rows) (x ∷ groups) h p g e =
-    one-grouped x.grouped groups p (row.joints, 0, length row.joints, h.1.only.0) (all-grouped rows groups h.2 p) (same_place x.place p) g e
+    one-grouped x.grouped groups p (row.joints, 0, length row.joints, h.1.only.0)
+    (all-grouped rows groups h.2 p) (same_place x.place p) g e

@@ -49,24 +49,32 @@ module _ (names : Spellings) where
   ReadsOther None = Unit {0}
   ReadsOther (Some e) = ReadsElse e
 
-  pub all-read : (allowed : Allowed) (ss : List Said) → Fit (all_tokens ss) → all_obey names allowed ss ≡ true → ReadsAll ss
+  pub all-read : (allowed : Allowed) (ss : List Said) → Fit (all_tokens ss)
+      → all_obey names allowed ss ≡ true → ReadsAll ss
   all-read allowed [] h o = tt
-  all-read allowed (s ∷ ss) h o = ((front (tokens_of s) _ h, (allowed, left _ _ o)), all-read allowed ss (back (tokens_of s) _ h) (right _ _ o))
+  all-read allowed (s ∷ ss) h o = (
+    (front (tokens_of s) _ h, (allowed, left _ _ o)),
+    all-read allowed ss (back (tokens_of s) _ h) (right _ _ o),
+  )
 
-  pub entries-read : (es : List SaidEntry) → Fit (entries_tokens es) → entries_obey names es ≡ true → ReadsEntries es
+  pub entries-read : (es : List SaidEntry) → Fit (entries_tokens es) → entries_obey names es ≡ true
+      → ReadsEntries es
   entries-read [] h o = tt
   entries-read (e ∷ es) h o = (
     (front (tokens_of e.item) _ h, (elsewhere, left _ _ o)),
     entries-read es (back _ _ (back (tokens_of e.item) _ h)) (right _ _ (right _ _ o)),
   )
 
-  pub maybe-reads : (allowed : Allowed) (m : Option Said) → Fit (maybe_tokens m) → maybe_obeys names allowed m ≡ true → ReadsMaybe m
+  pub maybe-reads : (allowed : Allowed) (m : Option Said) → Fit (maybe_tokens m)
+      → maybe_obeys names allowed m ≡ true → ReadsMaybe m
   maybe-reads allowed None h o = tt
   maybe-reads allowed (Some s) h o = (h, (allowed, o))
 
-  pub other-reads : (es : List SaidEntry) (m : Option SaidElse) → Fit (else_tokens m) → else_obeys names es m ≡ true → ReadsOther m
+  pub other-reads : (es : List SaidEntry) (m : Option SaidElse) → Fit (else_tokens m)
+      → else_obeys names es m ≡ true → ReadsOther m
   other-reads es None h o = tt
-  other-reads es (Some e) h o = (back (semicolon_tokens e.semicolon) (tokens_of e.clause) h, (elsewhere, right _ _ o))
+  other-reads es (Some e) h o =
+      (back (semicolon_tokens e.semicolon) (tokens_of e.clause) h, (elsewhere, right _ _ o))
 
   -- ---- expressions
 
@@ -86,7 +94,11 @@ module _ (names : Spellings) where
         (back (maybe_tokens head) (tokens_of value) m.1, (elsewhere, right _ _ (right _ _ o))),
       )
   expr-parts (Expr-F.Open head body) h =
-      let o = h.1.1 in ((front (tokens_of head) _ h.0, (elsewhere, left _ _ o)), (back (tokens_of head) (tokens_of body) h.0, (elsewhere, right _ _ o)))
+      let o = h.1.1
+      in (
+        (front (tokens_of head) _ h.0, (elsewhere, left _ _ o)),
+        (back (tokens_of head) (tokens_of body) h.0, (elsewhere, right _ _ o)),
+      )
   expr-parts (Expr-F.OpenAssign head target sign value) h =
       let o = h.1.1 in
       let m = back head.more _ h.0.1 in (
@@ -104,7 +116,8 @@ module _ (names : Spellings) where
   head-parts (Head-F.Tryatomic s) h = tt
   head-parts (Head-F.Throw s) h = tt
   head-parts (Head-F.Fn s left parameters right arrow) h = tt
-  head-parts (Head-F.Big big at_left generator at_right) h = (front (tokens_of generator) _ (back (big_more big) _ h.0.1).1, (elsewhere, h.1.1))
+  head-parts (Head-F.Big big at_left generator at_right) h =
+      (front (tokens_of generator) _ (back (big_more big) _ h.0.1).1, (elsewhere, h.1.1))
 
   abbrev pub GeneratorReads : OfGenerator → Type 0
   GeneratorReads (Generator-F.Parallel name arrow source) = Reads source
@@ -112,13 +125,17 @@ module _ (names : Spellings) where
 
   pub generator-parts : (x : OfGenerator) → Reads (generator_step x) → GeneratorReads x
   generator-parts (Generator-F.Parallel name arrow source) h = (h.0.1.1, h.1)
-  generator-parts (Generator-F.Sequential name arrow seq at_left source at_right) h = (front (tokens_of source) _ h.0.1.1.1.1, (elsewhere, h.1.1))
+  generator-parts (Generator-F.Sequential name arrow seq at_left source at_right) h =
+      (front (tokens_of source) _ h.0.1.1.1.1, (elsewhere, h.1.1))
 
   abbrev pub FlatReads : OfFlat → Type 0
   FlatReads x = Reads x.first × ReadsAll x.rest
 
   pub flat-parts : (x : OfFlat) → Reads (flat_step x) → FlatReads x
-  flat-parts x h = ((front (tokens_of x.first) _ h.0, (h.1.0, left _ _ h.1.1)), all-read h.1.0 x.rest (back x.first.more _ h.0.1) (right _ _ h.1.1))
+  flat-parts x h = (
+    (front (tokens_of x.first) _ h.0, (h.1.0, left _ _ h.1.1)),
+    all-read h.1.0 x.rest (back x.first.more _ h.0.1) (right _ _ h.1.1),
+  )
 
   abbrev pub FlatPartReads : OfFlatPart → Type 0
   FlatPartReads (FlatPart-F.Run run) = Reads run
@@ -143,7 +160,10 @@ module _ (names : Spellings) where
   RunReads x = Reads x.first × ReadsAll x.rest
 
   pub run-parts : (x : OfRun) → Reads (run_step x) → RunReads x
-  run-parts x h = ((front (tokens_of x.first) _ h.0, (h.1.0, left _ _ h.1.1)), all-read h.1.0 x.rest (back x.first.more _ h.0.1) (left _ _ (right _ _ h.1.1)))
+  run-parts x h = (
+    (front (tokens_of x.first) _ h.0, (h.1.0, left _ _ h.1.1)),
+    all-read h.1.0 x.rest (back x.first.more _ h.0.1) (left _ _ (right _ _ h.1.1)),
+  )
 
   abbrev pub RunPartReads : OfRunPart → Type 0
   RunPartReads (RunPart-F.Atom atom) = Reads atom
@@ -160,10 +180,12 @@ module _ (names : Spellings) where
   PostfixReads (Postfix-F.Call dot name left arguments right) = ReadsMaybe arguments
 
   pub postfix-parts : (x : OfPostfix) → Reads (postfix_step x) → PostfixReads x
-  postfix-parts (Postfix-F.Subscript at_left index at_right) h = (front (tokens_of index) _ h.0.1, (in_brackets, h.1.1))
+  postfix-parts (Postfix-F.Subscript at_left index at_right) h =
+      (front (tokens_of index) _ h.0.1, (in_brackets, h.1.1))
   postfix-parts (Postfix-F.Power power exponent) h = (h.0.1, (h.1.0, right _ _ h.1.1))
   postfix-parts (Postfix-F.Field dot name) h = tt
-  postfix-parts (Postfix-F.Call dot name at_left arguments at_right) h = maybe-reads in_brackets arguments (front _ _ h.0.1.1.1) (right _ _ (right _ _ h.1.1))
+  postfix-parts (Postfix-F.Call dot name at_left arguments at_right) h =
+      maybe-reads in_brackets arguments (front _ _ h.0.1.1.1) (right _ _ (right _ _ h.1.1))
 
   abbrev pub AtomReads : OfAtom → Type 0
   AtomReads (Atom-F.Number value s) = value ≤ 9223372036854775807
@@ -179,23 +201,34 @@ module _ (names : Spellings) where
   atom-parts (Atom-F.True s) h = tt
   atom-parts (Atom-F.False s) h = tt
   atom-parts (Atom-F.Self_ s) h = tt
-  atom-parts (Atom-F.Parens at_left contents at_right) h = maybe-reads in_brackets contents (front _ _ h.0.1) h.1.1
+  atom-parts (Atom-F.Parens at_left contents at_right) h =
+      maybe-reads in_brackets contents (front _ _ h.0.1) h.1.1
   atom-parts (Atom-F.Delimited form) h = h
   atom-parts (Atom-F.ArrayFill spots element size value) h =
       let m = (back (tokens_of (said_type element)) _ h.0.1.1).1.1 in
       let gaps = is_empty spots.left.gap && (is_empty spots.size_left.gap &&
-      (is_empty spots.dot.gap && (is_empty spots.fill.spot.gap && is_empty spots.value_left.gap))) in
+      (is_empty spots.dot.gap && (is_empty spots.fill.spot.gap && is_empty spots.value_left.gap)))
+      in
       let parts = size.obeys names in_brackets && value.obeys names in_brackets in
       let typed = (said_type element).obeys names elsewhere && parts in
       let spelled = is_spelled "fill" names spots.fill in
-      let o = right ((said_type element).obeys names elsewhere) parts (right spelled typed (right gaps (spelled && typed) h.1.1)) in
-      ((front (tokens_of size) _ m, (in_brackets, left _ _ o)), (front (tokens_of value) _ (back (tokens_of size) _ m).1.1.1.1, (in_brackets, right _ _ o)))
+      let o = right ((said_type element).obeys names elsewhere) parts
+      (right spelled typed (right gaps (spelled && typed) h.1.1)) in (
+        (front (tokens_of size) _ m, (in_brackets, left _ _ o)),
+        (
+          front (tokens_of value) _ (back (tokens_of size) _ m).1.1.1.1,
+          (in_brackets, right _ _ o),
+        ),
+      )
 
   abbrev pub ExprListReads : OfExprList → Type 0
   ExprListReads x = Reads x.first × ReadsAll x.others
 
   pub expr-list-parts : (x : OfExprList) → Reads (expr_list_step x) → ExprListReads x
-  expr-list-parts x h = ((front (tokens_of x.first) _ h.0, (h.1.0, left _ _ h.1.1)), all-read h.1.0 x.others (back x.first.more _ h.0.1) (right _ _ h.1.1))
+  expr-list-parts x h = (
+    (front (tokens_of x.first) _ h.0, (h.1.0, left _ _ h.1.1)),
+    all-read h.1.0 x.others (back x.first.more _ h.0.1) (right _ _ h.1.1),
+  )
 
   abbrev pub NextExprReads : OfNextExpr → Type 0
   NextExprReads x = Reads x.expr
@@ -206,13 +239,30 @@ module _ (names : Spellings) where
   -- ---- blocks and the forms that end with `end`
 
   after-var : (x : OfVariable) (o : Option Spot)
-      → Fit (tokens_of (variable_step (record { var = o; name = x.name; colon = x.colon; ty = x.ty; sign = x.sign; value = x.value })))
+      → Fit (tokens_of
+      (variable_step
+      (record {
+        var = o;
+        name = x.name;
+        colon = x.colon;
+        ty = x.ty;
+        sign = x.sign;
+        value = x.value;
+      })))
       → Fit (tokens_of x.value)
   after-var x None h = (back (tokens_of (said_type x.ty)) _ h.1.1).1
   after-var x (Some s) h = (back (tokens_of (said_type x.ty)) _ h.1.1.1).1
 
   after-var-obeys : (x : OfVariable) (o : Option Spot) (allowed : Allowed)
-      → (variable_step (record { var = o; name = x.name; colon = x.colon; ty = x.ty; sign = x.sign; value = x.value })).obeys names allowed ≡ true
+      → (variable_step
+      (record {
+        var = o;
+        name = x.name;
+        colon = x.colon;
+        ty = x.ty;
+        sign = x.sign;
+        value = x.value;
+      })).obeys names allowed ≡ true
       → x.value.obeys names elsewhere ≡ true
   after-var-obeys x None allowed o = right _ _ o
   after-var-obeys x (Some s) allowed o = right _ _ o
@@ -225,13 +275,20 @@ module _ (names : Spellings) where
 
   abbrev pub ItemReads : OfItem → Type 0
   ItemReads (Item-F.Variable variable) = Reads variable
-  ItemReads (Item-F.Names left first others right at_colon ty at_equals value) = (has_next_name others ≡ true) × Reads value
+  ItemReads (Item-F.Names left first others right at_colon ty at_equals value) =
+      (has_next_name others ≡ true) × Reads value
   ItemReads (Item-F.Expr expr) = Reads expr
 
   pub item-parts : (x : OfItem) → Reads (item_step x) → ItemReads x
   item-parts (Item-F.Variable variable) h = h
-  item-parts (Item-F.Names at_left first others at_right at_colon ty at_equals value) h =
-      (left _ _ h.1.1, ((back (tokens_of (said_type ty)) _ (back (next_names_tokens others) _ h.0.1.1).1.1).1, (elsewhere, right _ _ (right _ _ h.1.1))))
+  item-parts (Item-F.Names at_left first others at_right at_colon ty at_equals value) h = (
+    left _ _ h.1.1,
+    (
+      (back (tokens_of (said_type ty)) _
+          (back (next_names_tokens others) _ h.0.1.1).1.1).1,
+      (elsewhere, right _ _ (right _ _ h.1.1)),
+    ),
+  )
   item-parts (Item-F.Expr expr) h = (h.0, (elsewhere, right _ _ h.1.1))
 
   abbrev pub BlockItemReads : OfBlockItem → Type 0
@@ -270,14 +327,18 @@ module _ (names : Spellings) where
   abbrev pub NextGeneratorReads : OfNextGenerator → Type 0
   NextGeneratorReads x = Reads x.generator
 
-  pub next-generator-parts : (x : OfNextGenerator) → Reads (next_generator_step x) → NextGeneratorReads x
+  pub next-generator-parts : (x : OfNextGenerator) → Reads (next_generator_step x)
+      → NextGeneratorReads x
   next-generator-parts x h = (h.0.1, h.1)
 
   abbrev pub CaseClauseReads : OfCaseClause → Type 0
   CaseClauseReads x = Reads x.subject × Reads x.value
 
   pub case-clause-parts : (x : OfCaseClause) → ReadsEntry (case_clause_step x) → CaseClauseReads x
-  case-clause-parts x h = ((front (tokens_of x.subject) _ h.0, (elsewhere, left _ _ h.1.1)), ((back x.subject.more _ h.0.1).1, (elsewhere, right _ _ h.1.1)))
+  case-clause-parts x h = (
+    (front (tokens_of x.subject) _ h.0, (elsewhere, left _ _ h.1.1)),
+    ((back x.subject.more _ h.0.1).1, (elsewhere, right _ _ h.1.1)),
+  )
 
   abbrev pub TypeClauseReads : OfTypeClause → Type 0
   TypeClauseReads x = Reads x.value
@@ -299,14 +360,21 @@ module _ (names : Spellings) where
 
   abbrev pub DelimitedReads : OfDelimited → Type 0
   DelimitedReads (Delimited-F.Do at_do block others end) = ReadsEntries block × ReadsAll others
-  DelimitedReads (Delimited-F.If at_if condition then block elifs otherwise end) = Reads condition × ReadsEntries block × ReadsAll elifs × ReadsMaybe
+  DelimitedReads (Delimited-F.If at_if condition then block elifs otherwise end) = Reads condition
+      × ReadsEntries block × ReadsAll elifs × ReadsMaybe
       otherwise
-  DelimitedReads (Delimited-F.While at_while condition at_do block end) = Reads condition × ReadsEntries block
-  DelimitedReads (Delimited-F.For at_for generator others at_do block end) = Reads generator × ReadsAll others × ReadsEntries block
-  DelimitedReads (Delimited-F.Case at_case subject of clauses otherwise end) = Reads subject × ReadsEntries clauses × ReadsOther otherwise
-  DelimitedReads (Delimited-F.Typecase at_typecase name at_equals subject of clauses otherwise end) = Reads subject × ReadsEntries clauses × ReadsOther
+  DelimitedReads (Delimited-F.While at_while condition at_do block end) = Reads condition
+      × ReadsEntries block
+  DelimitedReads (Delimited-F.For at_for generator others at_do block end) = Reads generator
+      × ReadsAll others × ReadsEntries block
+  DelimitedReads (Delimited-F.Case at_case subject of clauses otherwise end) = Reads subject
+      × ReadsEntries clauses × ReadsOther otherwise
+  DelimitedReads
+      (Delimited-F.Typecase at_typecase name at_equals subject of clauses otherwise end) =
+      Reads subject × ReadsEntries clauses × ReadsOther
       otherwise
-  DelimitedReads (Delimited-F.Try at_try block catch finally end) = ReadsEntries block × ReadsMaybe catch × ReadsMaybe finally
+  DelimitedReads (Delimited-F.Try at_try block catch finally end) = ReadsEntries block
+      × ReadsMaybe catch × ReadsMaybe finally
 
   pub delimited-parts : (x : OfDelimited) → Reads (delimited_step x) → DelimitedReads x
   delimited-parts (Delimited-F.Do at_do block others end) h =
@@ -342,7 +410,8 @@ module _ (names : Spellings) where
         entries-read clauses (front _ _ m) (left _ _ o),
         other-reads clauses otherwise (front _ _ (back (entries_tokens clauses) _ m)) (right _ _ o),
       )
-  delimited-parts (Delimited-F.Typecase at_typecase name at_equals subject of clauses otherwise end) h =
+  delimited-parts (Delimited-F.Typecase at_typecase name at_equals subject of clauses otherwise end)
+      h =
       let o = right _ _ (right _ _ h.1.1) in
       let m = (back (tokens_of subject) _ h.0.1.1.1).1 in (
         (front (tokens_of subject) _ h.0.1.1.1, (elsewhere, left _ _ h.1.1)),

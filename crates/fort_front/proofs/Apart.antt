@@ -39,54 +39,78 @@ nothing_in [] place none has = let lt : has.0 < 0 = has.1 in omega arith
 nothing_in (p ∷ ps) place none has = absurd cc
 
 -- A flat expression that has its grouping breaks no rule, whichever stand before it.
-all_grouped : (earlier : List Row) (it : Row) (later : List Row) (groups : List FlatGrouping) (rule : Rule) (place : Place)
+all_grouped : (earlier : List Row) (it : Row) (later : List Row) (groups : List FlatGrouping)
+    (rule : Rule) (place : Place)
     → HasGroups (earlier ++ it ∷ later) groups → grouping.Breaks it rule place → ⊥
 all_grouped [] it later [] rule place has breaks = absurd has
-all_grouped [] it later (g ∷ gs) rule place has breaks = breaks_none it g.grouped has.1 rule place breaks
+all_grouped [] it later (g ∷ gs) rule place has breaks =
+    breaks_none it g.grouped has.1 rule place breaks
 all_grouped (row ∷ rows) it later [] rule place has breaks = absurd has
-all_grouped (row ∷ rows) it later (g ∷ gs) rule place has breaks = all_grouped rows it later gs rule place has.2 breaks
+all_grouped (row ∷ rows) it later (g ∷ gs) rule place has breaks =
+    all_grouped rows it later gs rule place has.2 breaks
 
-in_grammar_never : (tokens : Tokens) (rule : ℕ) (at : Place) (c : Component) → grammar.IsComponent tokens c → grammar.Breaks tokens rule at → ⊥
+in_grammar_never : (tokens : Tokens) (rule : ℕ) (at : Place) (c : Component)
+    → grammar.IsComponent tokens c → grammar.Breaks tokens rule at → ⊥
 in_grammar_never tokens rule at c is (TooDeep deep) = none_deep tokens.list at is.shallow deep
 in_grammar_never tokens rule at c is (Syntax shallow none fault) = none c is.tree
 in_grammar_never tokens rule at c is (TooMany shallow d tree breaks) =
-    nothing_in (crowded c) at is.small (subst (λ (x : Component). Contains (crowded x) at) (is.only d tree) breaks.0)
+    nothing_in (crowded c) at is.small (subst (λ
+    (x : Component). Contains (crowded x) at) (is.only d tree) breaks.0)
 
 pub never_in_grammar : NeverBothInGrammar
 never_in_grammar tokens rule at g breaks = in_grammar_never tokens rule.0 at g.component g.is breaks
 
-in_grouping_never : (tokens : Tokens) (rule : Rule) (at : Place) (c : Component) → IsFormed tokens → grammar.IsComponent tokens c → IsFirstBreak (flats c) rule at → ⊥
+in_grouping_never : (tokens : Tokens) (rule : Rule) (at : Place) (c : Component) → IsFormed tokens
+    → grammar.IsComponent tokens c → IsFirstBreak (flats c) rule at → ⊥
 in_grouping_never tokens rule at c f is first =
     let same : f.component ≡ c = is.only f.component f.is.tree in
-    let has : HasGroups (flats c) f.groups = subst (λ (x : Component). HasGroups (flats x) f.groups) same f.grouped in
-    all_grouped first.earlier first.it first.later f.groups rule at (subst (λ rows. HasGroups rows f.groups) first.order has) first.breaks
+    let has : HasGroups (flats c) f.groups =
+    subst (λ (x : Component). HasGroups (flats x) f.groups) same f.grouped in
+    all_grouped first.earlier first.it first.later f.groups rule at
+    (subst (λ rows. HasGroups rows f.groups) first.order has) first.breaks
 
-in_hierarchy_never : (tokens : Tokens) (rule : Rule) (at : Place) (c : Component) → IsFormed tokens → grammar.IsComponent tokens c
+in_hierarchy_never : (tokens : Tokens) (rule : Rule) (at : Place) (c : Component) → IsFormed tokens
+    → grammar.IsComponent tokens c
     → IsReported c (type_names c) rule.0 at → ⊥
 in_hierarchy_never tokens rule at c f is reported =
     let same : c ≡ f.component = f.is.only c is.tree in
-    f.typed.kept rule.0 at (subst (λ (x : Component). Broken x (type_names x) rule.0 at) same reported.earliest.breaks)
+    f.typed.kept rule.0 at (subst (λ
+    (x : Component). Broken x (type_names x) rule.0 at) same reported.earliest.breaks)
 
-in_fields_never : (tokens : Tokens) (rule : Rule) (at : Place) (c : Component) → IsFormed tokens → grammar.IsComponent tokens c
+in_fields_never : (tokens : Tokens) (rule : Rule) (at : Place) (c : Component) → IsFormed tokens
+    → grammar.IsComponent tokens c
     → fields.IsReported c rule.0 at → ⊥
 in_fields_never tokens rule at c f is reported =
     let same : c ≡ f.component = f.is.only c is.tree in
-    f.belong.fields.kept rule.0 at (subst (λ (x : Component). fields.Broken x rule.0 at) same reported.earliest.breaks)
+    f.belong.fields.kept rule.0 at (subst (λ
+    (x : Component). fields.Broken x rule.0 at) same reported.earliest.breaks)
 
-in_overloads_never : (tokens : Tokens) (rule : Rule) (at : Place) (c : Component) (members : Members) → IsFormed tokens → grammar.IsComponent tokens c
+in_overloads_never : (tokens : Tokens) (rule : Rule) (at : Place) (c : Component)
+    (members : Members) → IsFormed tokens → grammar.IsComponent tokens c
     → AreMembers c members → overloads.IsReported (declares c) members rule.0 at → ⊥
 in_overloads_never tokens rule at c members f is belong reported =
     let same : c ≡ f.component = f.is.only c is.tree in
-    let other : AreMembers f.component members = subst (λ (x : Component). AreMembers x members) same belong in
-    none_reported (declares f.component) (accepted_sound f.component (type_names f.component) f.types f.typed) f.members members rule.0 at
-    (other.sets ∙ sym f.belong.sets) f.ruled (subst (λ (x : Component). overloads.IsReported (declares x) members rule.0 at) same reported)
+    let other : AreMembers f.component members =
+    subst (λ (x : Component). AreMembers x members) same belong in
+    none_reported (declares f.component)
+    (accepted_sound f.component (type_names f.component) f.types f.typed) f.members members
+    rule.0 at
+    (other.sets ∙ sym f.belong.sets) f.ruled (subst (λ
+    (x : Component). overloads.IsReported (declares x) members rule.0 at) same reported)
 
 pub never : NeverBoth
-never tokens program rule at a (in_grammar breaks) = in_grammar_never tokens rule.0 at a.formed.component a.formed.is breaks
-never tokens program rule at a (in_grouping c is first) = in_grouping_never tokens rule at c a.formed is first
-never tokens program rule at a (in_hierarchy c groups is grouped reported) = in_hierarchy_never tokens rule at c a.formed is reported
-never tokens program rule at a (in_fields c groups types is grouped typed reported) = in_fields_never tokens rule at c a.formed is reported
-never tokens program rule at a (in_overloads c groups types members is grouped typed belong reported) = in_overloads_never tokens rule at c members a.formed is belong reported
+never tokens program rule at a (in_grammar breaks) =
+    in_grammar_never tokens rule.0 at a.formed.component a.formed.is breaks
+never tokens program rule at a (in_grouping c is first) =
+    in_grouping_never tokens rule at c a.formed is first
+never tokens program rule at a (in_hierarchy c groups is grouped reported) =
+    in_hierarchy_never tokens rule at c a.formed is reported
+never tokens program rule at a (in_fields c groups types is grouped typed reported) =
+    in_fields_never tokens rule at c a.formed is reported
+never tokens program rule at a
+    (in_overloads c groups types members is grouped typed belong reported) =
+    in_overloads_never tokens rule at c members a.formed is belong reported
 never tokens program rule at a (in_typing g reported) =
-    typed_once.never_both (known tokens a.formed) (forms tokens a.formed) (ready tokens a.formed) a.typed a.has_types (record { rule = rule; place = at })
+    typed_once.never_both (known tokens a.formed) (forms tokens a.formed) (ready tokens a.formed)
+    a.typed a.has_types (record { rule = rule; place = at })
     (same_report tokens g a.formed (record { rule = rule; place = at }) reported)

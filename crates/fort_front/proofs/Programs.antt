@@ -6,4 +6,5 @@ use Rattle.fort_front.specs.Written.{AcceptedIsWritten}
 pub accepted_written : ComponentIsWritten → AcceptedIsWritten
 accepted_written written tokens p apart a =
     let f = a.formed in
-    written tokens f.component f.types f.members (record { list = f.groups }) (known tokens f) a.typed p apart f.is.tree f.typed f.belong a.has_types a.becomes
+    written tokens f.component f.types f.members (record { list = f.groups }) (known tokens f)
+    a.typed p apart f.is.tree f.typed f.belong a.has_types a.becomes

@@ -1,4 +1,5 @@
--- The chapter "Overload rules", its law, of the sets of a component that keeps all the rules. The code asks none of this.
+-- The chapter "Overload rules", its law, of the sets of a component that keeps all the rules. The
+-- code asks none of this.
 use Rattle.std.specs.Prelude.{◌≡◌, ◌≢◌, ℕ, List, slice_get, Some}
 use Rattle.fort_base.specs.declared.ty.Ty.{Ty}
 use Rattle.fort_token.specs.declared.token.Tokens.{Tokens}
@@ -11,14 +12,19 @@ use Rattle.fort_set.specs.Best.{IsMostSpecific, AreSolid, AreOfValues}
 use Rattle.fort_set.specs.Rules.{StandsAt}
 use Rattle.fort_front.specs.Front.{IsFormed}
 
--- In a component that keeps the rules, of each overload set exactly one declaration is most specific for all solid types to which one of its
--- declarations is applicable.
+-- In a component that keeps the rules, of each overload set exactly one declaration is most
+-- specific for all solid types to which one of its declarations is applicable.
 abbrev pub ExactlyOne : Type 0
-ExactlyOne = (tokens : Tokens) (f : IsFormed tokens) (n : ℕ) (s : MemberSet) → slice_get f.members.sets n ≡ Some s → (types : List Ty) → AreSolid types
+ExactlyOne = (tokens : Tokens) (f : IsFormed tokens) (n : ℕ) (s : MemberSet)
+    → slice_get f.members.sets n ≡ Some s → (types : List Ty) → AreSolid types
     → (i : ℕ) (d : Member) → StandsAt s i d → IsApplicable (declares f.component) d types
-    → (k : ℕ) × IsMostSpecific (declares f.component) s types k × ((j : ℕ) → IsMostSpecific (declares f.component) s types j → j ≡ k)
+    → (k : ℕ) × IsMostSpecific (declares f.component) s types k
+    × ((j : ℕ) → IsMostSpecific (declares f.component) s types j → j ≡ k)
 
 -- There the most specific declaration for types of values isn't abstract.
 abbrev pub NeverAbstract : Type 0
-NeverAbstract = (tokens : Tokens) (f : IsFormed tokens) (n : ℕ) (s : MemberSet) → slice_get f.members.sets n ≡ Some s → (types : List Ty) → AreSolid types
-    → AreOfValues (declares f.component) types → (k : ℕ) (best : IsMostSpecific (declares f.component) s types k) → best.chosen.kind ≢ a_kind.Abstract
+NeverAbstract = (tokens : Tokens) (f : IsFormed tokens) (n : ℕ) (s : MemberSet)
+    → slice_get f.members.sets n ≡ Some s → (types : List Ty) → AreSolid types
+    → AreOfValues (declares f.component) types
+    → (k : ℕ) (best : IsMostSpecific (declares f.component) s types k)
+    → best.chosen.kind ≢ a_kind.Abstract

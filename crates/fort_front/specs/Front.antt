@@ -1,5 +1,5 @@
--- The chapters "Grammar", "Operators", "Types", "Members", "Overload rules" and "Typing", their refusals one after another, then docs/TRANSLATION.md: what
--- `check_grammar` and `check` answer.
+-- The chapters "Grammar", "Operators", "Types", "Members", "Overload rules" and "Typing", their
+-- refusals one after another, then docs/TRANSLATION.md: what `check_grammar` and `check` answer.
 use Rattle.std.specs.Prelude.{◌≡◌, List, Result, Ok, Err}
 use Rattle.fort_base.specs.declared.refusal.Place.{Place}
 use Rattle.fort_base.specs.declared.refusal.Rule.{Rule}
@@ -44,8 +44,9 @@ GrammarAnswers tokens (Ok u) = IsGrammatical tokens
 GrammarAnswers tokens (Err (Refused rule at)) = BreaksGrammar tokens rule at
 GrammarAnswers tokens (Err Memory) = Unit {0}
 
--- The tokens are those of one component, which passes no limit, each of its flat expressions has its grouping, its declared types
--- are a hierarchy, it has these members, and each of its overload sets keeps the rules.
+-- The tokens are those of one component, which passes no limit, each of its flat expressions has
+-- its grouping, its declared types are a hierarchy, it has these members, and each of its overload
+-- sets keeps the rules.
 pub record IsFormed (tokens : Tokens) : Type 0 where
   pub component : Component
   pub is : grammar.IsComponent tokens component
@@ -65,28 +66,38 @@ known tokens f = known_of f.component f.types f.members
 abbrev pub forms : (tokens : Tokens) → IsFormed tokens → Forms
 forms tokens f = forms_of f.component (record { list = f.groups })
 
--- The tokens are those of one component that keeps all the rules: those before typing, and its forms have these types; and this is its program.
+-- The tokens are those of one component that keeps all the rules: those before typing, and its
+-- forms have these types; and this is its program.
 pub record IsAccepted (tokens : Tokens) (program : Program) : Type 0 where
   pub formed : IsFormed tokens
   pub typed : Typed
   pub has_types : HasTypes (known tokens formed) (forms tokens formed) typed
   pub becomes : IsProgramOf formed.types formed.members formed.component.texts typed program
 
--- The token list breaks this rule, at this place: one of 202, 201 and 203; or, where it is a component, the first of 301 to 304
--- that one of its flat expressions breaks; or, where each has its grouping, the lowest of 401 to 407 that its types break; or, where
--- these are a hierarchy, the lower of 451 and 452 that its fields break; or, where it has members, the first of 501 to 507 that its
--- overload sets break; or, where these keep the rules, the one of 601 to 614 that is reported of its forms.
+-- The token list breaks this rule, at this place: one of 202, 201 and 203; or, where it is a
+-- component, the first of 301 to 304 that one of its flat expressions breaks; or, where each has
+-- its grouping, the lowest of 401 to 407 that its types break; or, where these are a hierarchy, the
+-- lower of 451 and 452 that its fields break; or, where it has members, the first of 501 to 507
+-- that its overload sets break; or, where these keep the rules, the one of 601 to 614 that is
+-- reported of its forms.
 pub data Breaks (tokens : Tokens) (rule : Rule) (at : Place) : Type 0 where
   in_grammar : BreaksGrammar tokens rule at → Breaks tokens rule at
-  in_grouping : (c : Component) → grammar.IsComponent tokens c → IsFirstBreak (flats c) rule at → Breaks tokens rule at
-  in_hierarchy : (c : Component) (groups : List FlatGrouping) → grammar.IsComponent tokens c → HasGroups (flats c) groups
-      → IsReported c (type_names c) rule.0 at → Breaks tokens rule at
-  in_fields : (c : Component) (groups : List FlatGrouping) (types : Hierarchy) → grammar.IsComponent tokens c → HasGroups (flats c) groups
-      → IsHierarchy c (type_names c) types → fields.IsReported c rule.0 at → Breaks tokens rule at
-  in_overloads : (c : Component) (groups : List FlatGrouping) (types : Hierarchy) (members : Members) → grammar.IsComponent tokens c
-      → HasGroups (flats c) groups → IsHierarchy c (type_names c) types → AreMembers c members → overloads.IsReported (declares c) members rule.0 at
+  in_grouping : (c : Component) → grammar.IsComponent tokens c → IsFirstBreak (flats c) rule at
       → Breaks tokens rule at
-  in_typing : (f : IsFormed tokens) → typing.IsReported (known tokens f) (forms tokens f) (record { rule = rule; place = at }) → Breaks tokens rule at
+  in_hierarchy : (c : Component) (groups : List FlatGrouping) → grammar.IsComponent tokens c
+      → HasGroups (flats c) groups
+      → IsReported c (type_names c) rule.0 at → Breaks tokens rule at
+  in_fields : (c : Component) (groups : List FlatGrouping) (types : Hierarchy)
+      → grammar.IsComponent tokens c → HasGroups (flats c) groups
+      → IsHierarchy c (type_names c) types → fields.IsReported c rule.0 at → Breaks tokens rule at
+  in_overloads : (c : Component) (groups : List FlatGrouping) (types : Hierarchy)
+      (members : Members) → grammar.IsComponent tokens c
+      → HasGroups (flats c) groups → IsHierarchy c (type_names c) types → AreMembers c members
+      → overloads.IsReported (declares c) members rule.0 at
+      → Breaks tokens rule at
+  in_typing : (f : IsFormed tokens)
+      → typing.IsReported (known tokens f) (forms tokens f) (record { rule = rule; place = at })
+      → Breaks tokens rule at
 
 -- The component is accepted, with this program; or this is the rule that is reported.
 abbrev pub Checks : Tokens → Result Program CheckFault → Type 0
@@ -100,11 +111,13 @@ ChecksTree c found = (tokens : Tokens) → grammar.IsComponent tokens c → Chec
 
 -- No token list keeps the rules of the grammar and breaks one of them.
 abbrev pub NeverBothInGrammar : Type 0
-NeverBothInGrammar = (tokens : Tokens) (rule : Rule) (at : Place) → IsGrammatical tokens → BreaksGrammar tokens rule at → ⊥
+NeverBothInGrammar = (tokens : Tokens) (rule : Rule) (at : Place) → IsGrammatical tokens
+    → BreaksGrammar tokens rule at → ⊥
 
 -- No token list is accepted and breaks a rule.
 abbrev pub NeverBoth : Type 0
-NeverBoth = (tokens : Tokens) (program : Program) (rule : Rule) (at : Place) → IsAccepted tokens program → Breaks tokens rule at → ⊥
+NeverBoth = (tokens : Tokens) (program : Program) (rule : Rule) (at : Place)
+    → IsAccepted tokens program → Breaks tokens rule at → ⊥
 
 -- Tokens that are accepted have one program.
 abbrev pub OneProgram : Type 0

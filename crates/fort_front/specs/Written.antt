@@ -1,4 +1,5 @@
--- The chapter "Programs as written" of docs/MACHINE.md, of the programs that the check of tokens gives.
+-- The chapter "Programs as written" of docs/MACHINE.md, of the programs that the check of tokens
+-- gives.
 use Rattle.fort_core.specs.declared.program.Program.{Program}
 use Rattle.fort_token.specs.declared.token.Tokens.{Tokens}
 use Rattle.fort_machine.specs.Written.{WrittenProgram}
@@ -7,4 +8,5 @@ use Rattle.fort_front.specs.Front.{IsAccepted}
 
 -- The program of accepted tokens that stand at places of their own is as it is written.
 abbrev pub AcceptedIsWritten : Type 0
-AcceptedIsWritten = (tokens : Tokens) (program : Program) → StandApart tokens.list → IsAccepted tokens program → WrittenProgram program
+AcceptedIsWritten = (tokens : Tokens) (program : Program) → StandApart tokens.list
+    → IsAccepted tokens program → WrittenProgram program

@@ -7,13 +7,19 @@ use Rattle.fort_token.specs.declared.token.Token.{Token}
 use Rattle.fort_reading.specs.Parser.{Row}
 use Rattle.fort_longest.specs.Parts.{IsPlaceAt, of_token, of_last}
 
-pub token_at : (ts : Row) (at : ℕ) (d : Token) (place : Place) → at < length ts → (get_or ts at d).place ≡ place → IsPlaceAt ts at place
+pub token_at : (ts : Row) (at : ℕ) (d : Token) (place : Place) → at < length ts
+    → (get_or ts at d).place ≡ place → IsPlaceAt ts at place
 token_at ts at d place lt is =
-    let whole : ts ≡ take at ts ++ get_or ts at d ∷ drop (at + 1) ts = sym (take-append-drop at ts) ∙ ap (λ (z : Row). take at ts ++ z) (drop_more ts at d lt) in
-    of_token (take at ts) (get_or ts at d) (drop (at + 1) ts) whole (length-take-le at ts (omega arith)) is
+    let whole : ts ≡ take at ts ++ get_or ts at d ∷ drop (at + 1) ts =
+    sym (take-append-drop at ts) ∙ ap (λ (z : Row). take at ts ++ z) (drop_more ts at d lt) in
+    of_token (take at ts) (get_or ts at d) (drop (at + 1) ts) whole
+    (length-take-le at ts (omega arith)) is
 
-pub last_at : (ts : Row) (d : Token) (place : Place) → 1 ≤ length ts → (get_or ts (length ts - 1) d).place ≡ place → IsPlaceAt ts (length ts) place
+pub last_at : (ts : Row) (d : Token) (place : Place) → 1 ≤ length ts
+    → (get_or ts (length ts - 1) d).place ≡ place → IsPlaceAt ts (length ts) place
 last_at ts d place some is =
     let at : length ts - 1 + 1 ≡ length ts = omega arith in
-    let whole : ts ≡ take (length ts - 1) ts ++ get_or ts (length ts - 1) d ∷ [] = sym (take-length ts) ∙ (ap (λ (n : ℕ). take n ts) (sym at) ∙ take_more ts (length ts - 1) d (omega arith)) in
+    let whole : ts ≡ take (length ts - 1) ts ++ get_or ts (length ts - 1) d ∷ [] =
+    sym (take-length ts)
+    ∙ (ap (λ (n : ℕ). take n ts) (sym at) ∙ take_more ts (length ts - 1) d (omega arith)) in
     of_last (take (length ts - 1) ts) (get_or ts (length ts - 1) d) whole refl is

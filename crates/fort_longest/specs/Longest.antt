@@ -1,4 +1,5 @@
--- The chapter "Grammar": the longest expression that begins a row of tokens, and what one reading of the row shows of it.
+-- The chapter "Grammar": the longest expression that begins a row of tokens, and what one reading
+-- of the row shows of it.
 use Rattle.std.specs.Prelude.{ℕ, ◌≤◌, List, length, Option, Some, None}
 use Rattle.fort_token.specs.declared.token.Token.{Token}
 use Rattle.fort_tree.specs.declared.expr.Expr.{Expr}
@@ -13,7 +14,8 @@ use Rattle.fort_longest.specs.declared.longest.First.TheVariants as a_first
 abbrev pub NoLongerExpr : Spellings → List Token → ℕ → Type 0
 NoLongerExpr names ts k = NoneLonger names elsewhere said_expr ts k
 
--- The longest expression that begins the tokens, and how many of them it is; none where no expression begins them.
+-- The longest expression that begins the tokens, and how many of them it is; none where no
+-- expression begins them.
 abbrev pub LongestExpr : Spellings → List Token → Option (Expr × ℕ) → Type 0
 LongestExpr names ts None = NoPart names elsewhere said_expr ts
 LongestExpr names ts (Some found) = LongestPart names elsewhere said_expr ts found.0 found.1

@@ -68,9 +68,10 @@ fn shorter_expr(
     Ok(None)
 }
 
-/// The longest expression that begins the tokens, with the number of its tokens, or `None` where no expression begins them.
-/// The names are the spellings of those that the tokens have, by their numbers. The error is want of memory, and parts that
-/// lie deeper in one another than [`MOST_NESTED`]. Where a reading fails, it reads again with fewer and fewer tokens.
+/// The longest expression that begins the tokens, with the number of its tokens, or `None` where no
+/// expression begins them. The names are the spellings of those that the tokens have, by their
+/// numbers. The error is want of memory, and parts that lie deeper in one another than
+/// [`MOST_NESTED`]. Where a reading fails, it reads again with fewer and fewer tokens.
 pub fn longest_expr(
     alloc: Global,
     names: &[Bytes],

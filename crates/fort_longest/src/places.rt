@@ -7,8 +7,8 @@ use fort_token::Token;
 /// Where a file begins.
 const BEGINNING: Place = Place { line: 1, column: 1 };
 
-/// The place of the token with that number, or of the last one where the number is behind all, or the first one of a file
-/// where there are none.
+/// The place of the token with that number, or of the last one where the number is behind all, or
+/// the first one of a file where there are none.
 pub fn place_at(list: &[Token], at: usize) -> Place
     requires { at ≤ length list.now }
     ensures { IsPlaceAt list.now at result }

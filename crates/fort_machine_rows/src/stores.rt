@@ -21,7 +21,8 @@ fn filled(alloc: Global) -> Result<Store, Memory> {
     Ok(store)
 }
 
-// The store of a program whose opening list has 1 and then 2 at 7, and 3 at the last location of all.
+// The store of a program whose opening list has 1 and then 2 at 7, and 3 at the last location of
+// all.
 fn opened(alloc: Global) -> Result<Store, Memory> {
     let mut opening = List::new(alloc);
     opening.push((Loc(7), Value::Small(1)))?;

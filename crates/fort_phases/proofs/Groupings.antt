@@ -19,4 +19,6 @@ groupings_once [] [] (y ∷ b) h k = absurd k
 groupings_once [] (x ∷ a) b h k = absurd h
 groupings_once (row ∷ rows) [] b h k = absurd h
 groupings_once (row ∷ rows) (x ∷ a) [] h k = absurd k
-groupings_once (row ∷ rows) (x ∷ a) (y ∷ b) h k = ap (λ z. z ∷ a) (same x y (h.0 ∙ sym k.0) (h.1.only.1 y.grouped k.1.only.0)) ∙ ap (λ z. y ∷ z) (groupings_once rows a b h.2 k.2)
+groupings_once (row ∷ rows) (x ∷ a) (y ∷ b) h k =
+    ap (λ z. z ∷ a) (same x y (h.0 ∙ sym k.0) (h.1.only.1 y.grouped k.1.only.0))
+    ∙ ap (λ z. y ∷ z) (groupings_once rows a b h.2 k.2)

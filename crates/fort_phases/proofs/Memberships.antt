@@ -9,10 +9,12 @@ use Rattle.fort_field.specs.Own.{own_fields}
 use Rattle.fort_phases.specs.Phases.{OneMembership}
 use Rattle.fort_phases.proofs.Fields.{fields_once}
 
-abbrev members : List (Option Place) → List Bool → List (List Field) → List MemberSet → List Field → Members
+abbrev members : List (Option Place) → List Bool → List (List Field) → List MemberSet → List Field
+    → Members
 members p o f s v = record { places = p; objects = o; fields = f; sets = s; variables = v }
 
-same : (m n : Members) → m.places ≡ n.places → m.objects ≡ n.objects → m.fields ≡ n.fields → m.sets ≡ n.sets → m.variables ≡ n.variables → m ≡ n
+same : (m n : Members) → m.places ≡ n.places → m.objects ≡ n.objects → m.fields ≡ n.fields
+    → m.sets ≡ n.sets → m.variables ≡ n.variables → m ≡ n
 same m n p o f s v = ap (λ z. members z m.objects m.fields m.sets m.variables) p
     ∙ ap (λ z. members n.places z m.fields m.sets m.variables) o
     ∙ ap (λ z. members n.places n.objects z m.sets m.variables) f
@@ -21,4 +23,5 @@ same m n p o f s v = ap (λ z. members z m.objects m.fields m.sets m.variables) 
 
 pub members_once : OneMembership
 members_once c m n a b = same m n (a.places ∙ sym b.places) (a.objects ∙ sym b.objects)
-    (fields_once (declares c) (own_fields c) m.fields n.fields a.fields.fields b.fields.fields) (a.sets ∙ sym b.sets) (a.variables ∙ sym b.variables)
+    (fields_once (declares c) (own_fields c) m.fields n.fields a.fields.fields b.fields.fields)
+    (a.sets ∙ sym b.sets) (a.variables ∙ sym b.variables)

@@ -1,4 +1,5 @@
--- The chapters "Operators", "Types" and "Members", and docs/TRANSLATION.md: each phase has one answer. The code finds one and doesn't ask for others.
+-- The chapters "Operators", "Types" and "Members", and docs/TRANSLATION.md: each phase has one
+-- answer. The code finds one and doesn't ask for others.
 use Rattle.std.specs.Prelude.{◌≡◌, ℕ, List}
 use Rattle.fort_core.specs.declared.program.Program.{Program}
 use Rattle.fort_tree.specs.declared.declarations.Component.{Component}
@@ -15,11 +16,13 @@ use Rattle.fort_translation.specs.Programs.{IsProgramOf}
 
 -- Flat expressions that break no rule have one list of groupings.
 abbrev pub OneGrouping : Type 0
-OneGrouping = (rows : List Row) (a b : List FlatGrouping) → HasGroups rows a → HasGroups rows b → a ≡ b
+OneGrouping = (rows : List Row) (a b : List FlatGrouping) → HasGroups rows a → HasGroups rows b
+    → a ≡ b
 
 -- A component has one hierarchy.
 abbrev pub OneHierarchy : Type 0
-OneHierarchy = (c : Component) (h g : Hierarchy) → IsHierarchy c (type_names c) h → IsHierarchy c (type_names c) g → h ≡ g
+OneHierarchy = (c : Component) (h g : Hierarchy) → IsHierarchy c (type_names c) h
+    → IsHierarchy c (type_names c) g → h ≡ g
 
 -- A component has one list of its places, fields, sets and variables.
 abbrev pub OneMembership : Type 0
@@ -27,4 +30,5 @@ OneMembership = (c : Component) (m n : Members) → AreMembers c m → AreMember
 
 -- What typing gives is translated to one program.
 abbrev pub OneTranslation : Type 0
-OneTranslation = (h : Hierarchy) (m : Members) (texts : List (List ℕ)) (typed : Typed) (p q : Program) → IsProgramOf h m texts typed p → IsProgramOf h m texts typed q → p ≡ q
+OneTranslation = (h : Hierarchy) (m : Members) (texts : List (List ℕ)) (typed : Typed)
+    (p q : Program) → IsProgramOf h m texts typed p → IsProgramOf h m texts typed q → p ≡ q

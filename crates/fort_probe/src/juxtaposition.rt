@@ -1,5 +1,6 @@
-//! What stands side by side, in letters: `x` a plain atom, `p` one in parentheses, `h` one with an arrow type, `f` a function set's
-//! name, `s` a postfix. Each element stands at the column of its letter.
+//! What stands side by side, in letters: `x` a plain atom, `p` one in parentheses, `h` one with an
+//! arrow type, `f` a function set's name, `s` a postfix. Each element stands at the column of its
+//! letter.
 ghost use Rattle.std.specs.Prelude.{◌≡◌, ◌<◌, false, IsTrue, length};
 ghost use Rattle.fort_juxt.specs.Loose.{AreAtoms};
 ghost use Rattle.fort_juxt.specs.Tight.{postfix_first};
@@ -51,7 +52,8 @@ fn are_atoms(elements: &[Element]) -> bool
     }
 }
 
-/// The next rewriting of a run: `apply`, `postfix` with the element's number, counted from 0, `left` or `whole`.
+/// The next rewriting of a run: `apply`, `postfix` with the element's number, counted from 0,
+/// `left` or `whole`.
 pub fn tight_answer(alloc: Global, letters: &str) -> Result<String, AllocError> {
     let elements = elements_of(alloc, letters)?;
     if !is_run(&elements) {
@@ -66,8 +68,8 @@ pub fn tight_answer(alloc: Global, letters: &str) -> Result<String, AllocError> 
     }
 }
 
-/// The grouping of units: `@` before two parts of which the first is applied to the second, `+` before two that are joined, and a
-/// unit's number, counted from 0.
+/// The grouping of units: `@` before two parts of which the first is applied to the second, `+`
+/// before two that are joined, and a unit's number, counted from 0.
 pub fn loose_answer(alloc: Global, letters: &str) -> Result<String, AllocError> {
     let elements = elements_of(alloc, letters)?;
     if !is_run(&elements) || !are_atoms(&elements) {

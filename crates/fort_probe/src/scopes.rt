@@ -1,6 +1,7 @@
-//! Names in scope, in steps: `+x` binds the name `x` at the step's place, `(` enters a block, `)` leaves it, and `?x` asks for `x`.
-//! Steps stand behind one another, each at the column of its first character. The answer has a word for each `+` and `?`: `bound`, or
-//! the rule that refuses it and its place; the column where the name was bound, or `none`.
+//! Names in scope, in steps: `+x` binds the name `x` at the step's place, `(` enters a block, `)`
+//! leaves it, and `?x` asks for `x`. Steps stand behind one another, each at the column of its
+//! first character. The answer has a word for each `+` and `?`: `bound`, or the rule that refuses
+//! it and its place; the column where the name was bound, or `none`.
 use crate::answers::fault_answer;
 use fort_base::{NameId, Place, Ty};
 use fort_scope::Scope;

@@ -30,11 +30,14 @@ use Rattle.fort_reread_text.proofs.Written.{shown_shape, shown_word}
 -- ---- characters
 
 -- characters of Unicode, one list behind another
-pub scalars-append : (xs ys : List ℕ) → scalars xs ≡ true → scalars ys ≡ true → scalars (xs ++ ys) ≡ true
+pub scalars-append : (xs ys : List ℕ) → scalars xs ≡ true → scalars ys ≡ true
+    → scalars (xs ++ ys) ≡ true
 scalars-append [] ys h k = k
-scalars-append (x ∷ xs) ys h k = let b = and_both (scalar x) (scalars xs) h in rw b.0 (scalars-append xs ys b.1 k)
+scalars-append (x ∷ xs) ys h k =
+    let b = and_both (scalar x) (scalars xs) h in rw b.0 (scalars-append xs ys b.1 k)
 
-pub scalars-split : (xs ys : List ℕ) → scalars (xs ++ ys) ≡ true → (scalars xs ≡ true) × (scalars ys ≡ true)
+pub scalars-split : (xs ys : List ℕ) → scalars (xs ++ ys) ≡ true
+    → (scalars xs ≡ true) × (scalars ys ≡ true)
 scalars-split [] ys h = (refl, h)
 scalars-split (x ∷ xs) ys h =
     let b = and_both (scalar x) (scalars (xs ++ ys)) h in
@@ -51,7 +54,11 @@ digit_scalars (d ∷ ds) h =
 escaped_scalars : (c : ℕ) → scalar c ≡ true → scalars (escaped c) ≡ true
 escaped_scalars c h = by (c == 10) (c == 9) (c == 34) (c == 92)
   where
-    by : (p q r t : Bool) → scalars (cond p (92 ∷ 110 ∷ []) (cond q (92 ∷ 116 ∷ []) (cond r (92 ∷ 34 ∷ []) (cond t (92 ∷ 92 ∷ []) (c ∷ []))))) ≡ true
+    by : (p q r t : Bool)
+        → scalars
+        (cond p (92 ∷ 110 ∷ [])
+        (cond q (92 ∷ 116 ∷ []) (cond r (92 ∷ 34 ∷ []) (cond t (92 ∷ 92 ∷ []) (c ∷ [])))))
+        ≡ true
     by true q r t = refl
     by false true r t = refl
     by false false true t = refl
@@ -60,7 +67,10 @@ escaped_scalars c h = by (c == 10) (c == 9) (c == 34) (c == 92)
 
 written_scalars : (s : List ℕ) → scalars s ≡ true → scalars (flat_map escaped s) ≡ true
 written_scalars [] h = refl
-written_scalars (c ∷ s) h = let b = and_both (scalar c) (scalars s) h in scalars-append (escaped c) (flat_map escaped s) (escaped_scalars c b.0) (written_scalars s b.1)
+written_scalars (c ∷ s) h =
+    let b = and_both (scalar c) (scalars s) h
+    in scalars-append (escaped c) (flat_map escaped s) (escaped_scalars c b.0)
+    (written_scalars s b.1)
 
 escaped_char_scalar : (c : ℕ) → scalar c ≡ true → scalar (escaped_char c) ≡ true
 escaped_char_scalar c h = by (c == 110) (c == 116)
@@ -74,10 +84,15 @@ escaped_char_scalar c h = by (c == 110) (c == 116)
 said_scalars : (b : Bool) (ys : List ℕ) → scalars ys ≡ true → scalars (said_behind b ys) ≡ true
 said_scalars true [] h = refl
 said_scalars false [] h = refl
-said_scalars true (c ∷ ys) h = let b = and_both (scalar c) (scalars ys) h in rw (escaped_char_scalar c b.0) (said_scalars false ys b.1)
-said_scalars false (c ∷ ys) h = let b = and_both (scalar c) (scalars ys) h in by (c == 34) (c == 92) b.0 (said_scalars true ys b.1) (said_scalars false ys b.1)
+said_scalars true (c ∷ ys) h =
+    let b = and_both (scalar c) (scalars ys) h
+    in rw (escaped_char_scalar c b.0) (said_scalars false ys b.1)
+said_scalars false (c ∷ ys) h =
+    let b = and_both (scalar c) (scalars ys) h
+    in by (c == 34) (c == 92) b.0 (said_scalars true ys b.1) (said_scalars false ys b.1)
   where
-    by : (p q : Bool) → scalar c ≡ true → scalars (said_behind true ys) ≡ true → scalars (said_behind false ys) ≡ true
+    by : (p q : Bool) → scalar c ≡ true → scalars (said_behind true ys) ≡ true
+        → scalars (said_behind false ys) ≡ true
         → scalars (cond p [] (cond q (said_behind true ys) (c ∷ said_behind false ys))) ≡ true
     by true q x y z = refl
     by false true x y z = y
@@ -91,29 +106,39 @@ rest_scalars (c ∷ w) h = (and_both (scalar c) (scalars w) h).1
 
 -- The word v stands for what w does, and is the bytes that canonical text has for it.
 pub record Keeps (w v : List ℕ) : Type 0 where
-  pub means : (words : List (List ℕ)) (texts : ℕ) (k : Kind) → Means words texts w k → Means words texts v k
+  pub means : (words : List (List ℕ)) (texts : ℕ) (k : Kind) → Means words texts w k
+      → Means words texts v k
   pub text : is_text_word v ≡ is_text_word w
   pub numbered : has_number v ≡ has_number w
   pub named : has_number w ≡ true → v ≡ w
   pub says : is_text_word w ≡ true → said v ≡ said w
-  pub bytes : (words table : List (List ℕ)) (texts : ℕ) (k : Kind) → Means words texts w k → (is_text_word w ≡ true → get_or table texts [] ≡ encode_utf8_all (said w))
+  pub bytes : (words table : List (List ℕ)) (texts : ℕ) (k : Kind) → Means words texts w k
+      → (is_text_word w ≡ true → get_or table texts [] ≡ encode_utf8_all (said w))
       → kind_text (map encode_utf8_all words) table k ≡ encode_utf8_all v
   pub scalars_are : scalars w ≡ true → scalars v ≡ true
 
 -- the bytes of a name
-name_at : (words : List (List ℕ)) (n : ℕ) (w : List ℕ) → slice_get words n ≡ Some w → get_or (map encode_utf8_all words) n [] ≡ encode_utf8_all w
+name_at : (words : List (List ℕ)) (n : ℕ) (w : List ℕ) → slice_get words n ≡ Some w
+    → get_or (map encode_utf8_all words) n [] ≡ encode_utf8_all w
 name_at [] n w h = absurd cc
 name_at (v ∷ words) zero w h = let is : v ≡ w = cc in ap encode_utf8_all is
 name_at (v ∷ words) (suc n) w h = name_at words n w h
 
 -- the bytes of a word of the tables, of a name or of an operator word
-kind_bytes : (words table : List (List ℕ)) (w : List ℕ) (m : Meaning) (k : Kind) → meaning_of w ≡ m → KindFor words w m k
+kind_bytes : (words table : List (List ℕ)) (w : List ℕ) (m : Meaning) (k : Kind) → meaning_of w ≡ m
+    → KindFor words w m k
     → kind_text (map encode_utf8_all words) table k ≡ encode_utf8_all (sign_else (sign_of m) w)
-kind_bytes words table w (a_meaning.Word r) k e h = ap (kind_text (map encode_utf8_all words) table) h ∙ word_written w r e
-kind_bytes words table w (a_meaning.Mark m) k e h = ap (kind_text (map encode_utf8_all words) table) h ∙ mark_written w m e
-kind_bytes words table w (a_meaning.Op op) k e h = ap (kind_text (map encode_utf8_all words) table) h ∙ op_written (map encode_utf8_all words) w op e
-kind_bytes words table w a_meaning.OperatorWord k e h = ap (kind_text (map encode_utf8_all words) table) h.2 ∙ name_at words h.0 w h.1
-kind_bytes words table w a_meaning.Name k e h = ap (kind_text (map encode_utf8_all words) table) h.2 ∙ name_at words h.0 w h.1
+kind_bytes words table w (a_meaning.Word r) k e h =
+    ap (kind_text (map encode_utf8_all words) table) h ∙ word_written w r e
+kind_bytes words table w (a_meaning.Mark m) k e h =
+    ap (kind_text (map encode_utf8_all words) table) h ∙ mark_written w m e
+kind_bytes words table w (a_meaning.Op op) k e h =
+    ap (kind_text (map encode_utf8_all words) table) h
+    ∙ op_written (map encode_utf8_all words) w op e
+kind_bytes words table w a_meaning.OperatorWord k e h =
+    ap (kind_text (map encode_utf8_all words) table) h.2 ∙ name_at words h.0 w h.1
+kind_bytes words table w a_meaning.Name k e h =
+    ap (kind_text (map encode_utf8_all words) table) h.2 ∙ name_at words h.0 w h.1
 
 -- ---- names and symbols
 
@@ -123,11 +148,14 @@ sign_shape c s = rw s.name (rw s.digit (rw s.quote refl))
 
 -- a name or a symbol, by its meaning
 abbrev IsWord : List ℕ → Shape → Type 0
-IsWord w s = (shape_of w ≡ s) × (is_text_shape s ≡ false) × ((words : List (List ℕ)) (texts : ℕ) (k : Kind) → MeansShape words texts w s k → KindFor words w (meaning_of w) k)
+IsWord w s = (shape_of w ≡ s) × (is_text_shape s ≡ false)
+    × ((words : List (List ℕ)) (texts : ℕ) (k : Kind) → MeansShape words texts w s k
+    → KindFor words w (meaning_of w) k)
     × (is_numbered_shape s w ≡ is_numbered (meaning_of w))
 
 -- a name or a symbol is written by its sign, or as it was
-kept_as : (w : List ℕ) (s : Shape) → IsWord w s → (o : Option ℕ) → sign_of (meaning_of w) ≡ o → Keeps w (sign_else o w)
+kept_as : (w : List ℕ) (s : Shape) → IsWord w s → (o : Option ℕ) → sign_of (meaning_of w) ≡ o
+    → Keeps w (sign_else o w)
 kept_as w s h None e =
     record {
       means = λ words texts k m. m;
@@ -136,7 +164,9 @@ kept_as w s h None e =
       named = λ n. refl;
       says = λ t. refl;
       bytes = λ words table texts k m t.
-          kind_bytes words table w (meaning_of w) k refl (h.2 words texts k (subst (λ z. MeansShape words texts w z k) h.0 m)) ∙ ap (λ o. encode_utf8_all (sign_else o w)) e;
+          kind_bytes words table w (meaning_of w) k refl
+          (h.2 words texts k (subst (λ z. MeansShape words texts w z k) h.0 m))
+          ∙ ap (λ o. encode_utf8_all (sign_else o w)) e;
       scalars_are = λ x. x;
     }
 kept_as w s h (Some c) e =
@@ -147,47 +177,62 @@ kept_as w s h (Some c) e =
     let none : has_number w ≡ false = ap (λ z. is_numbered_shape z w) h.0 ∙ h.3 ∙ a.plain in
     record {
       means = λ words texts k m.
-          let l : KindFor words w (meaning_of w) k = h.2 words texts k (subst (λ z. MeansShape words texts w z k) h.0 m) in
-          let n : KindFor words (c ∷ []) (meaning_of (c ∷ [])) k = subst (λ z. KindFor words (c ∷ []) z k) (sym a.means) (kind_any words w (c ∷ []) (meaning_of w) k a.plain l) in
+          let l : KindFor words w (meaning_of w) k =
+          h.2 words texts k (subst (λ z. MeansShape words texts w z k) h.0 m) in
+          let n : KindFor words (c ∷ []) (meaning_of (c ∷ [])) k =
+          subst (λ z. KindFor words (c ∷ []) z k) (sym a.means)
+          (kind_any words w (c ∷ []) (meaning_of w) k a.plain l) in
           subst (λ z. MeansShape words texts (c ∷ []) z k) (sym shape_is) n;
       text = ap is_text_shape shape_is ∙ sym (ap is_text_shape h.0 ∙ h.1);
       numbered = ap (λ z. is_numbered_shape z (c ∷ [])) shape_is ∙ plain ∙ sym none;
       named = λ n. absurd (never (has_number w) none n);
       says = λ t. absurd (never (is_text_word w) (ap is_text_shape h.0 ∙ h.1) t);
       bytes = λ words table texts k m t.
-          kind_bytes words table w (meaning_of w) k refl (h.2 words texts k (subst (λ z. MeansShape words texts w z k) h.0 m)) ∙ ap (λ o. encode_utf8_all (sign_else o w)) e;
+          kind_bytes words table w (meaning_of w) k refl
+          (h.2 words texts k (subst (λ z. MeansShape words texts w z k) h.0 m))
+          ∙ ap (λ o. encode_utf8_all (sign_else o w)) e;
       scalars_are = λ x. rw g.scalar_is refl;
     }
 
 -- ---- numbers
 
 -- digits are a number
-number_shape : (c : ℕ) (cs : List ℕ) → every is_ascii_digit (c ∷ cs) ≡ true → shape_of (c ∷ cs) ≡ shape.Number (decimal 0 (c ∷ cs))
+number_shape : (c : ℕ) (cs : List ℕ) → every is_ascii_digit (c ∷ cs) ≡ true
+    → shape_of (c ∷ cs) ≡ shape.Number (decimal 0 (c ∷ cs))
 number_shape c cs h =
     let b = and_both (is_ascii_digit c) (every is_ascii_digit cs) h in
     let name : is_name (c ∷ cs) ≡ false = rw (digit_name c b.0) refl in
     rw name (rw h refl)
 
-number_shape_of : (n : ℕ) (v : List ℕ) → every is_ascii_digit v ≡ true → 0 < length v → decimal 0 v ≡ n → shape_of v ≡ shape.Number n
+number_shape_of : (n : ℕ) (v : List ℕ) → every is_ascii_digit v ≡ true → 0 < length v
+    → decimal 0 v ≡ n → shape_of v ≡ shape.Number n
 number_shape_of n [] d s e = absurd (omega arith)
 number_shape_of n (c ∷ cs) d s e = number_shape c cs d ∙ ap (λ z. shape.Number z) e
 
-kept_number : (w : List ℕ) (n : ℕ) → shape_of w ≡ shape.Number n → n ≤ 9223372036854775807 → Keeps w (fmt.decimal n)
+kept_number : (w : List ℕ) (n : ℕ) → shape_of w ≡ shape.Number n → n ≤ 9223372036854775807
+    → Keeps w (fmt.decimal n)
 kept_number w n e l =
     let d = decimal_is n (omega arith) in
     let is = number_shape_of n (fmt.decimal n) d.digits d.some d.value in
     record {
-      means = λ words texts k m. subst (λ z. MeansShape words texts (fmt.decimal n) z k) (sym is) (subst (λ z. MeansShape words texts w z k) e m);
+      means = λ words texts k m. subst (λ z. MeansShape words texts (fmt.decimal n) z k) (sym is)
+          (subst (λ z. MeansShape words texts w z k) e m);
       text = ap is_text_shape is ∙ sym (ap is_text_shape e);
-      numbered = ap (λ z. is_numbered_shape z (fmt.decimal n)) is ∙ sym (ap (λ z. is_numbered_shape z w) e);
+      numbered =
+          ap (λ z. is_numbered_shape z (fmt.decimal n)) is
+          ∙ sym (ap (λ z. is_numbered_shape z w) e);
       named = λ h. absurd (never (has_number w) (ap (λ z. is_numbered_shape z w) e) h);
       says = λ h. absurd (never (is_text_word w) (ap is_text_shape e) h);
-      bytes = λ words table texts k m t. written_number words table k (subst (λ z. MeansShape words texts w z k) e m);
+      bytes = λ words table texts k m t. written_number words table k
+          (subst (λ z. MeansShape words texts w z k) e m);
       scalars_are = λ h. digit_scalars (fmt.decimal n) d.digits;
     }
   where
-    written_number : (words table : List (List ℕ)) (k : Kind) → k ≡ kind.Number n → kind_text (map encode_utf8_all words) table k ≡ encode_utf8_all (fmt.decimal n)
-    written_number words table k h = ap (kind_text (map encode_utf8_all words) table) h ∙ sym (encodes-IsAscii (fmt.decimal n) (IsAscii-decimal n (omega arith)))
+    written_number : (words table : List (List ℕ)) (k : Kind) → k ≡ kind.Number n
+        → kind_text (map encode_utf8_all words) table k ≡ encode_utf8_all (fmt.decimal n)
+    written_number words table k h =
+        ap (kind_text (map encode_utf8_all words) table) h
+        ∙ sym (encodes-IsAscii (fmt.decimal n) (IsAscii-decimal n (omega arith)))
 
 -- ---- texts
 
@@ -200,33 +245,49 @@ quote_byte = ap (λ z. z ++ []) (encode_ascii 34 (omega arith))
 -- what is said, in bytes
 quoted_bytes : (s : List ℕ) → quoted (encode_utf8_all s) ≡ encode_utf8_all (34 ∷ written s)
 quoted_bytes s =
-    ap (λ z. 34 ∷ (z ++ 34 ∷ [])) (written_bytes s) ∙ ap (λ z. 34 ∷ (encode_utf8_all (flat_map escaped s) ++ z)) (sym quote_byte)
-    ∙ ap (λ z. 34 ∷ z) (sym (encodes-append (flat_map escaped s) (34 ∷ []))) ∙ ap (λ z. z ++ encode_utf8_all (written s)) (sym (encode_ascii 34 (omega arith)))
+    ap (λ z. 34 ∷ (z ++ 34 ∷ [])) (written_bytes s)
+    ∙ ap (λ z. 34 ∷ (encode_utf8_all (flat_map escaped s) ++ z)) (sym quote_byte)
+    ∙ ap (λ z. 34 ∷ z) (sym (encodes-append (flat_map escaped s) (34 ∷ [])))
+    ∙ ap (λ z. z ++ encode_utf8_all (written s)) (sym (encode_ascii 34 (omega arith)))
 
 kept_text : (w : List ℕ) → shape_of w ≡ shape.Text → Keeps w (34 ∷ written (said w))
 kept_text w e =
     let v = 34 ∷ written (said w) in
     let is = text_shape (written (said w)) (written_closes (said w)) in
     record {
-      means = λ words texts k m. subst (λ z. MeansShape words texts v z k) (sym is) (subst (λ z. MeansShape words texts w z k) e m);
+      means = λ words texts k m. subst (λ z. MeansShape words texts v z k) (sym is)
+          (subst (λ z. MeansShape words texts w z k) e m);
       text = ap is_text_shape is ∙ sym (ap is_text_shape e);
       numbered = ap (λ z. is_numbered_shape z v) is ∙ sym (ap (λ z. is_numbered_shape z w) e);
       named = λ h. absurd (never (has_number w) (ap (λ z. is_numbered_shape z w) e) h);
       says = λ h. written_says (said w);
       bytes = λ words table texts k m t.
           let said_there = t (ap is_text_shape e) in
-          ap (kind_text (map encode_utf8_all words) table) (subst (λ z. MeansShape words texts w z k) e m) ∙ ap quoted said_there ∙ quoted_bytes (said w);
-      scalars_are = λ h. scalars-append (flat_map escaped (said w)) (34 ∷ []) (written_scalars (said w) (said_scalars false (drop 1 w) (rest_scalars w h))) refl;
+          ap (kind_text (map encode_utf8_all words) table)
+          (subst (λ z. MeansShape words texts w z k) e m) ∙ ap quoted said_there
+          ∙ quoted_bytes (said w);
+      scalars_are =
+          λ h. scalars-append (flat_map escaped (said w)) (34 ∷ [])
+          (written_scalars (said w) (said_scalars false (drop 1 w) (rest_scalars w h))) refl;
     }
 
 -- ---- each word
 
-pub keeps : (w : List ℕ) → (is_number w ≡ true → decimal 0 w ≤ 9223372036854775807) → Keeps w (shown_word w)
+pub keeps : (w : List ℕ) → (is_number w ≡ true → decimal 0 w ≤ 9223372036854775807)
+    → Keeps w (shown_word w)
 keeps w l = by (is_name w) (is_number w) (is_text w) refl l
   where
-    by : (n m t : Bool) → shape_of w ≡ cond n shape.Name (cond m (shape.Number (decimal 0 w)) (cond t shape.Text shape.Symbol)) → (m ≡ true → decimal 0 w ≤ 9223372036854775807)
-        → Keeps w (shown_shape (cond n shape.Name (cond m (shape.Number (decimal 0 w)) (cond t shape.Text shape.Symbol))) w)
-    by true m t e l = kept_as w shape.Name (e, refl, (λ words texts k h. h), refl) (sign_of (meaning_of w)) refl
+    by : (n m t : Bool)
+        → shape_of w
+        ≡ cond n shape.Name (cond m (shape.Number (decimal 0 w)) (cond t shape.Text shape.Symbol))
+        → (m ≡ true → decimal 0 w ≤ 9223372036854775807)
+        → Keeps w
+        (shown_shape
+        (cond n shape.Name
+        (cond m (shape.Number (decimal 0 w)) (cond t shape.Text shape.Symbol))) w)
+    by true m t e l =
+        kept_as w shape.Name (e, refl, (λ words texts k h. h), refl) (sign_of (meaning_of w)) refl
     by false true t e l = kept_number w (decimal 0 w) e (l refl)
     by false false true e l = kept_text w e
-    by false false false e l = kept_as w shape.Symbol (e, refl, (λ words texts k h. h), refl) (sign_of (meaning_of w)) refl
+    by false false false e l =
+        kept_as w shape.Symbol (e, refl, (λ words texts k h. h), refl) (sign_of (meaning_of w)) refl

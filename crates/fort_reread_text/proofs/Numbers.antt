@@ -9,9 +9,11 @@ use Rattle.fort_scan.specs.Spelling.{decimal}
 use Rattle.fort_reread_text.proofs.Signs.{and_both}
 
 -- digits, one list behind another
-pub every-append : (p : ℕ → Bool) (xs ys : List ℕ) → every p xs ≡ true → every p ys ≡ true → every p (xs ++ ys) ≡ true
+pub every-append : (p : ℕ → Bool) (xs ys : List ℕ) → every p xs ≡ true → every p ys ≡ true
+    → every p (xs ++ ys) ≡ true
 every-append p [] ys h k = k
-every-append p (x ∷ xs) ys h k = let b = and_both (p x) (every p xs) h in rw b.0 (every-append p xs ys b.1 k)
+every-append p (x ∷ xs) ys h k =
+    let b = and_both (p x) (every p xs) h in rw b.0 (every-append p xs ys b.1 k)
 
 -- one more digit at the end
 value_last : (n : ℕ) (xs : List ℕ) (d : ℕ) → decimal n (xs ++ d ∷ []) ≡ decimal n xs * 10 + (d - 48)
@@ -30,12 +32,14 @@ one_digit n h = grind (arith, nat_tests)
 one : (n : ℕ) → n < 10 → IsDecimal n ((48 + n) ∷ [])
 one n h = record { digits = rw (one_digit n h) refl; some = omega arith; value = omega arith }
 
-more : (n : ℕ) (ds : List ℕ) → 10 ≤ n → IsDecimal (n / 10) ds → IsDecimal n (ds ++ (48 + n % 10) ∷ [])
+more : (n : ℕ) (ds : List ℕ) → 10 ≤ n → IsDecimal (n / 10) ds
+    → IsDecimal n (ds ++ (48 + n % 10) ∷ [])
 more n ds l h =
     let v = h.value in
     let m : n % 10 < 10 = omega arith in
     record {
-      digits = every-append is_ascii_digit ds ((48 + n % 10) ∷ []) h.digits (rw (one_digit (n % 10) m) refl);
+      digits = every-append is_ascii_digit ds ((48 + n % 10) ∷ []) h.digits
+          (rw (one_digit (n % 10) m) refl);
       some = by ds;
       value = value_last 0 ds (48 + n % 10) ∙ omega arith;
     }

@@ -1,4 +1,5 @@
--- The signs that canonical text is written with: characters that are words of their own, whatever follows.
+-- The signs that canonical text is written with: characters that are words of their own, whatever
+-- follows.
 use Rattle.std.specs.Prelude.{codes}
 use Rattle.std.proofs.Common.{◌≡◌, ℕ, Bool, true, false, not, ◌&&◌, ◌||◌, ◌==◌, List, [], ◌∷◌, refl, sym, subst, arith}
 use Rattle.std.proofs.Math.Utf8.{scalar}
@@ -29,12 +30,16 @@ not_true true h = absurd cc
 not_true false h = refl
 
 -- what each of some characters passes
-pub each_of : (p : ℕ → Bool) (c : ℕ) (ds : List ℕ) → every p ds ≡ true → is_among c ds ≡ true → p c ≡ true
+pub each_of : (p : ℕ → Bool) (c : ℕ) (ds : List ℕ) → every p ds ≡ true → is_among c ds ≡ true
+    → p c ≡ true
 each_of p c [] h k = absurd cc
-each_of p c (d ∷ ds) h k = let b = and_both (p d) (every p ds) h in by (c == d) refl k b.0 (each_of p c ds b.1)
+each_of p c (d ∷ ds) h k =
+    let b = and_both (p d) (every p ds) h in by (c == d) refl k b.0 (each_of p c ds b.1)
   where
-    by : (b : Bool) → (c == d) ≡ b → (b || is_among c ds) ≡ true → p d ≡ true → (is_among c ds ≡ true → p c ≡ true) → p c ≡ true
-    by true e k h ih = let is : c ≡ d = grind (arith, nat_tests) in subst (λ z. p z ≡ true) (sym is) h
+    by : (b : Bool) → (c == d) ≡ b → (b || is_among c ds) ≡ true → p d ≡ true
+        → (is_among c ds ≡ true → p c ≡ true) → p c ≡ true
+    by true e k h ih =
+        let is : c ≡ d = grind (arith, nat_tests) in subst (λ z. p z ≡ true) (sym is) h
     by false e k h ih = ih k
 
 -- what the signs are not, and that they are characters
@@ -45,7 +50,9 @@ none_names = refl
 none_digits : every (λ c. not (is_ascii_digit c)) signs ≡ true
 none_digits = refl
 
-none_plain : every (λ c. not (is_white c) && (not (c == 34) && (not (c == 40) && (not (c == 65279) && not (is_inner c))))) signs ≡ true
+none_plain : every (λ c. not (is_white c)
+    && (not (c == 34) && (not (c == 40) && (not (c == 65279) && not (is_inner c))))) signs
+    ≡ true
 none_plain = refl
 
 all_scalars : every scalar signs ≡ true
@@ -82,14 +89,19 @@ pub record IsSign (c : ℕ) : Type 0 where
 -- each of the signs is one
 pub is_sign : (c : ℕ) → is_among c signs ≡ true → IsSign c
 is_sign c h =
-    let a = and_both (not (is_white c)) (not (c == 34) && (not (c == 40) && (not (c == 65279) && not (is_inner c))))
-    (each_of (λ c. not (is_white c) && (not (c == 34) && (not (c == 40) && (not (c == 65279) && not (is_inner c))))) c signs none_plain h) in
-    let b = and_both (not (c == 34)) (not (c == 40) && (not (c == 65279) && not (is_inner c))) a.1 in
+    let a = and_both (not (is_white c)) (not (c == 34)
+    && (not (c == 40) && (not (c == 65279) && not (is_inner c))))
+    (each_of (λ c. not (is_white c)
+    && (not (c == 34) && (not (c == 40) && (not (c == 65279) && not (is_inner c))))) c signs
+    none_plain h) in
+    let b = and_both (not (c == 34)) (not (c == 40) && (not (c == 65279) && not (is_inner c))) a.1
+    in
     let d = and_both (not (c == 40)) (not (c == 65279) && not (is_inner c)) b.1 in
     let e = and_both (not (c == 65279)) (not (is_inner c)) d.1 in
     record {
       name = not_true (begins_name c) (each_of (λ c. not (begins_name c)) c signs none_names h);
-      digit = not_true (is_ascii_digit c) (each_of (λ c. not (is_ascii_digit c)) c signs none_digits h);
+      digit = not_true (is_ascii_digit c)
+          (each_of (λ c. not (is_ascii_digit c)) c signs none_digits h);
       white = not_true (is_white c) a.0;
       quote = not_true (c == 34) b.0;
       paren = not_true (c == 40) d.0;

@@ -27,7 +27,8 @@ written s = flat_map escaped s ++ 34 ∷ []
 equal : (c d : ℕ) → (c == d) ≡ true → c ≡ d
 equal c d h = grind (arith, nat_tests)
 
-plain : (c : ℕ) → (c == 10) ≡ false → (c == 9) ≡ false → (c == 34) ≡ false → (c == 92) ≡ false → escaped c ≡ c ∷ []
+plain : (c : ℕ) → (c == 10) ≡ false → (c == 9) ≡ false → (c == 34) ≡ false → (c == 92) ≡ false
+    → escaped c ≡ c ∷ []
 plain c p q r t = rw p (rw q (rw r (rw t refl)))
 
 more : (c : ℕ) (s : List ℕ) → written (c ∷ s) ≡ escaped c ++ written s
@@ -39,7 +40,8 @@ data Escaped (c : ℕ) : Type 0 where
   tab : c ≡ 9 → escaped c ≡ 92 ∷ 116 ∷ [] → Escaped c
   quote : c ≡ 34 → escaped c ≡ 92 ∷ 34 ∷ [] → Escaped c
   stroke : c ≡ 92 → escaped c ≡ 92 ∷ 92 ∷ [] → Escaped c
-  itself : (c == 10) ≡ false → (c == 9) ≡ false → (c == 34) ≡ false → (c == 92) ≡ false → escaped c ≡ c ∷ [] → Escaped c
+  itself : (c == 10) ≡ false → (c == 9) ≡ false → (c == 34) ≡ false → (c == 92) ≡ false
+      → escaped c ≡ c ∷ [] → Escaped c
 
 escapes_of : (c : ℕ) → Escaped c
 escapes_of c = by (c == 10) (c == 9) (c == 34) (c == 92) refl refl refl refl
@@ -54,7 +56,8 @@ escapes_of c = by (c == 10) (c == 9) (c == 34) (c == 92) refl refl refl refl
 -- ---- it is closed
 
 -- what is written for a character closes no text
-closes_step : (c : ℕ) (rest : List ℕ) → Escaped c → closes_text false rest ≡ true → closes_text false (escaped c ++ rest) ≡ true
+closes_step : (c : ℕ) (rest : List ℕ) → Escaped c → closes_text false rest ≡ true
+    → closes_text false (escaped c ++ rest) ≡ true
 closes_step c rest (feed i e) h = rw e h
 closes_step c rest (tab i e) h = rw e h
 closes_step c rest (quote i e) h = rw e h
@@ -63,11 +66,13 @@ closes_step c rest (itself a b d f e) h = rw e (rw d (rw a (rw f h)))
 
 pub written_closes : (s : List ℕ) → closes_text false (written s) ≡ true
 written_closes [] = refl
-written_closes (c ∷ s) = ap (closes_text false) (more c s) ∙ closes_step c (written s) (escapes_of c) (written_closes s)
+written_closes (c ∷ s) =
+    ap (closes_text false) (more c s) ∙ closes_step c (written s) (escapes_of c) (written_closes s)
 
 -- ---- it says the characters
 
-said_step : (c : ℕ) (rest : List ℕ) → Escaped c → said_behind false (escaped c ++ rest) ≡ c ∷ said_behind false rest
+said_step : (c : ℕ) (rest : List ℕ) → Escaped c
+    → said_behind false (escaped c ++ rest) ≡ c ∷ said_behind false rest
 said_step c rest (feed i e) = rw e (ap (λ z. z ∷ said_behind false rest) (sym i))
 said_step c rest (tab i e) = rw e (ap (λ z. z ∷ said_behind false rest) (sym i))
 said_step c rest (quote i e) = rw e (ap (λ z. z ∷ said_behind false rest) (sym i))
@@ -76,7 +81,9 @@ said_step c rest (itself a b d f e) = rw e (rw d (rw f refl))
 
 pub written_says : (s : List ℕ) → said_behind false (written s) ≡ s
 written_says [] = refl
-written_says (c ∷ s) = ap (said_behind false) (more c s) ∙ said_step c (written s) (escapes_of c) ∙ ap (λ t. c ∷ t) (written_says s)
+written_says (c ∷ s) =
+    ap (said_behind false) (more c s) ∙ said_step c (written s) (escapes_of c)
+    ∙ ap (λ t. c ∷ t) (written_says s)
 
 -- ---- it breaks no rule
 
@@ -84,12 +91,14 @@ written_says (c ∷ s) = ap (said_behind false) (more c s) ∙ said_step c (writ
 abbrev pub is_sayable : ℕ → Bool
 is_sayable c = not (is_control c) || ((c == 10) || (c == 9))
 
-no_control : (is_control 34 ≡ false) × (is_control 92 ≡ false) × (is_control 110 ≡ false) × (is_control 116 ≡ false)
+no_control : (is_control 34 ≡ false) × (is_control 92 ≡ false) × (is_control 110 ≡ false)
+    × (is_control 116 ≡ false)
 unfolding ucd_category
 no_control = (refl, refl, refl, refl)
 
 -- the two characters of an escape
-pair_sound : (n c : ℕ) (rest : List ℕ) → is_control c ≡ false → is_escape (c ∷ rest) ≡ true → ((m : ℕ) → text_fault m false rest ≡ None) → text_fault n false (92 ∷ c ∷ rest) ≡ None
+pair_sound : (n c : ℕ) (rest : List ℕ) → is_control c ≡ false → is_escape (c ∷ rest) ≡ true
+    → ((m : ℕ) → text_fault m false rest ≡ None) → text_fault n false (92 ∷ c ∷ rest) ≡ None
 pair_sound n c rest k e h = rw no_control.1 (rw e (rw k (rw (off (c == 92)) (h (n + 1 + 1)))))
   where
     off : (b : Bool) → (b && false) ≡ false
@@ -100,24 +109,31 @@ sayable_by : (p : Bool) → (not p || (false || false)) ≡ true → p ≡ false
 sayable_by true h = absurd cc
 sayable_by false h = refl
 
-sound_step : (n c : ℕ) (rest : List ℕ) → Escaped c → is_sayable c ≡ true → ((m : ℕ) → text_fault m false rest ≡ None) → text_fault n false (escaped c ++ rest) ≡ None
+sound_step : (n c : ℕ) (rest : List ℕ) → Escaped c → is_sayable c ≡ true
+    → ((m : ℕ) → text_fault m false rest ≡ None) → text_fault n false (escaped c ++ rest) ≡ None
 sound_step n c rest (feed i e) y h = rw e (pair_sound n 110 rest no_control.2 refl h)
 sound_step n c rest (tab i e) y h = rw e (pair_sound n 116 rest no_control.3 refl h)
 sound_step n c rest (quote i e) y h = rw e (pair_sound n 34 rest no_control.0 refl h)
 sound_step n c rest (stroke i e) y h = rw e (pair_sound n 92 rest no_control.1 refl h)
 sound_step n c rest (itself a b d f e) y h =
-    let k : is_control c ≡ false = sayable_by (is_control c) (sym (ap (λ z. not (is_control c) || (z || (c == 9))) a ∙ ap (λ z. not (is_control c) || (false || z)) b) ∙ y) in
+    let k : is_control c ≡ false =
+    sayable_by (is_control c)
+    (sym (ap (λ z. not (is_control c) || (z || (c == 9))) a
+    ∙ ap (λ z. not (is_control c) || (false || z)) b) ∙ y) in
     rw e (rw k (rw f (h (n + 1))))
 
-pub written_sound : (s : List ℕ) → every is_sayable s ≡ true → (n : ℕ) → text_fault n false (written s) ≡ None
+pub written_sound : (s : List ℕ) → every is_sayable s ≡ true → (n : ℕ)
+    → text_fault n false (written s) ≡ None
 written_sound [] y n = rw no_control.0 refl
 written_sound (c ∷ s) y n =
     let b = and_both (is_sayable c) (every is_sayable s) y in
-    ap (text_fault n false) (more c s) ∙ sound_step n c (written s) (escapes_of c) b.0 (written_sound s b.1)
+    ap (text_fault n false) (more c s)
+    ∙ sound_step n c (written s) (escapes_of c) b.0 (written_sound s b.1)
 
 -- ---- what a text without faults says
 
-none_by : (p q : Bool) (x y : Rule × ℕ) (o : Option (Rule × ℕ)) → cond p (Some x) (cond q (Some y) o) ≡ None → (p ≡ false) × (o ≡ None)
+none_by : (p q : Bool) (x y : Rule × ℕ) (o : Option (Rule × ℕ))
+    → cond p (Some x) (cond q (Some y) o) ≡ None → (p ≡ false) × (o ≡ None)
 none_by true q x y o h = absurd cc
 none_by false true x y o h = absurd cc
 none_by false false x y o h = (refl, h)
@@ -140,20 +156,28 @@ and_false true = refl
 and_false false = refl
 
 -- a text without faults says no control character but line feeds and tabs
-pub sayable : (n : ℕ) (b : Bool) (ys : List ℕ) → text_fault n b ys ≡ None → every is_sayable (said_behind b ys) ≡ true
+pub sayable : (n : ℕ) (b : Bool) (ys : List ℕ) → text_fault n b ys ≡ None
+    → every is_sayable (said_behind b ys) ≡ true
 sayable n true [] h = refl
 sayable n false [] h = refl
 sayable n true (c ∷ cs) h =
-    let k = none_by (is_control c) (((c == 92) && false) && not (is_escape cs)) _ _ (text_fault (n + 1) ((c == 92) && false) cs) h in
-    let rest = sayable (n + 1) false cs (sym (ap (λ z. text_fault (n + 1) z cs) (and_false (c == 92))) ∙ k.1) in
+    let k = none_by (is_control c) (((c == 92) && false)
+    && not (is_escape cs)) _ _ (text_fault (n + 1) ((c == 92) && false) cs) h in
+    let rest =
+    sayable (n + 1) false cs (sym (ap (λ z. text_fault (n + 1) z cs) (and_false (c == 92)))
+    ∙ k.1) in
     rw (says_by c (c == 110) (c == 116) k.0) rest
 sayable n false (c ∷ cs) h =
-    let k = none_by (is_control c) (((c == 92) && true) && not (is_escape cs)) _ _ (text_fault (n + 1) ((c == 92) && true) cs) h in
-    let rest = sayable (n + 1) (c == 92) cs (sym (ap (λ z. text_fault (n + 1) z cs) (and_true (c == 92))) ∙ k.1) in
+    let k = none_by (is_control c) (((c == 92) && true)
+    && not (is_escape cs)) _ _ (text_fault (n + 1) ((c == 92) && true) cs) h in
+    let rest =
+    sayable (n + 1) (c == 92) cs (sym (ap (λ z. text_fault (n + 1) z cs) (and_true (c == 92)))
+    ∙ k.1) in
     by (c == 34) (c == 92) rest k.0
   where
     by : (p q : Bool) → every is_sayable (said_behind q cs) ≡ true → is_control c ≡ false
-        → every is_sayable (cond p [] (cond q (said_behind true cs) (c ∷ said_behind false cs))) ≡ true
+        → every is_sayable (cond p [] (cond q (said_behind true cs) (c ∷ said_behind false cs)))
+        ≡ true
     by true q r k = refl
     by false true r k = r
     by false false r k = rw k r
@@ -162,17 +186,23 @@ sayable n false (c ∷ cs) h =
 
 -- bytes from 128 on are written as themselves, and all bytes of a character beyond ASCII are such
 high : (b : ℕ) → 128 ≤ b → escaped b ≡ b ∷ []
-high b h = plain b (grind (arith, nat_tests)) (grind (arith, nat_tests)) (grind (arith, nat_tests)) (grind (arith, nat_tests))
+high b h =
+    plain b (grind (arith, nat_tests)) (grind (arith, nat_tests)) (grind (arith, nat_tests))
+    (grind (arith, nat_tests))
 
-all_high : (bs : List ℕ) → ((k : ℕ) → k < length bs → 128 ≤ get_or bs k 0) → flat_map escaped bs ≡ bs
+all_high : (bs : List ℕ) → ((k : ℕ) → k < length bs → 128 ≤ get_or bs k 0)
+    → flat_map escaped bs ≡ bs
 all_high [] h = refl
-all_high (b ∷ bs) h = rw (high b (h 0 (omega arith))) (ap (λ t. b ∷ t) (all_high bs (λ k l. h (suc k) (omega arith))))
+all_high (b ∷ bs) h =
+    rw (high b (h 0 (omega arith))) (ap (λ t. b ∷ t) (all_high bs (λ k l. h (suc k) (omega arith))))
 
 high_bytes : (c : ℕ) → 128 ≤ c → (k : ℕ) → k < length (encode c) → 128 ≤ get_or (encode c) k 0
 high_bytes c h k l = by (cases_lt (get_or (encode c) k 0) 128)
   where
     by : (get_or (encode c) k 0 < 128) ⊎ (128 ≤ get_or (encode c) k 0) → 128 ≤ get_or (encode c) k 0
-    by (inl m) = let e = inside_one c [] (encode c) k (sym (append-nil (encode c))) l m in absurd (omega arith)
+    by (inl m) =
+        let e = inside_one c [] (encode c) k (sym (append-nil (encode c))) l m
+        in absurd (omega arith)
     by (inr m) = m
 
 small : (c : ℕ) → c < 128 → Escaped c → encode_utf8_all (escaped c) ≡ escaped c
@@ -187,12 +217,19 @@ one_bytes : (c : ℕ) → flat_map escaped (encode c) ≡ encode_utf8_all (escap
 one_bytes c = by (cases_lt c 128)
   where
     by : (c < 128) ⊎ (128 ≤ c) → flat_map escaped (encode c) ≡ encode_utf8_all (escaped c)
-    by (inl h) = ap (flat_map escaped) (encode_ascii c h) ∙ append-nil (escaped c) ∙ sym (small c h (escapes_of c))
-    by (inr h) = all_high (encode c) (high_bytes c h) ∙ sym (append-nil (encode c)) ∙ ap encode_utf8_all (sym (high c h))
+    by (inl h) =
+        ap (flat_map escaped) (encode_ascii c h) ∙ append-nil (escaped c)
+        ∙ sym (small c h (escapes_of c))
+    by (inr h) =
+        all_high (encode c) (high_bytes c h) ∙ sym (append-nil (encode c))
+        ∙ ap encode_utf8_all (sym (high c h))
 
 -- escaping bytes or characters is the same
-pub written_bytes : (s : List ℕ) → flat_map escaped (encode_utf8_all s) ≡ encode_utf8_all (flat_map escaped s)
+pub written_bytes : (s : List ℕ)
+    → flat_map escaped (encode_utf8_all s) ≡ encode_utf8_all (flat_map escaped s)
 written_bytes [] = refl
 written_bytes (c ∷ s) =
-    flat_map-append escaped (encode c) (encode_utf8_all s) ∙ ap (λ z. z ++ flat_map escaped (encode_utf8_all s)) (one_bytes c)
-    ∙ ap (λ z. encode_utf8_all (escaped c) ++ z) (written_bytes s) ∙ sym (encodes-append (escaped c) (flat_map escaped s))
+    flat_map-append escaped (encode c) (encode_utf8_all s)
+    ∙ ap (λ z. z ++ flat_map escaped (encode_utf8_all s)) (one_bytes c)
+    ∙ ap (λ z. encode_utf8_all (escaped c) ++ z) (written_bytes s)
+    ∙ sym (encodes-append (escaped c) (flat_map escaped s))

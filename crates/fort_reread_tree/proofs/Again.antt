@@ -21,16 +21,24 @@ use Rattle.fort_reread_tree.proofs.Apart.{tokens_apart}
 use Rattle.fort_reread_tree.proofs.Moving.{place_in, taken, apart_without, kinds_without, shallow_by_kinds}
 
 -- tokens read again are the component's, moved
-moved_tokens : (ts us : Tokens) (c : Component) (g : Place → Place) → HasTree ts c → map (moved_token g) (without_first_gap ts.list) ≡ us.list → yield (moved_component g (without_gap c)) ≡ us.list
-moved_tokens ts us c g tree is = yield_moves g (without_gap c) ∙ ap (λ (xs : List Token). map (moved_token g) (without_first_gap xs)) tree.yields ∙ is
+moved_tokens : (ts us : Tokens) (c : Component) (g : Place → Place) → HasTree ts c
+    → map (moved_token g) (without_first_gap ts.list) ≡ us.list
+    → yield (moved_component g (without_gap c)) ≡ us.list
+moved_tokens ts us c g tree is =
+    yield_moves g (without_gap c) ∙ ap (λ
+    (xs : List Token). map (moved_token g) (without_first_gap xs)) tree.yields ∙ is
 
 -- The tree of a file is that of its canonical text, moved.
-pub same_tree : (bytes : List ℕ) (ts us : Tokens) (c : Component) → HasTokens bytes ts → HasTokens (canonical ts) us → IsComponent ts c → (d : Component) × IsComponent us d × IsSameTree c d
+pub same_tree : (bytes : List ℕ) (ts us : Tokens) (c : Component) → HasTokens bytes ts
+    → HasTokens (canonical ts) us → IsComponent ts c
+    → (d : Component) × IsComponent us d × IsSameTree c d
 same_tree bytes ts us c h k is =
     let again : IsReadAgain ts us = read_each bytes ts us h k in
     let g = place_in (without_first_gap ts.list) us.list in
     let d = moved_component g (without_gap c) in
-    let moved = taken (without_first_gap ts.list) us.list (apart_without ts.list (tokens_apart bytes ts h)) (again.kinds ∙ sym (kinds_without ts.list)) again.gaps in
+    let moved =
+    taken (without_first_gap ts.list) us.list (apart_without ts.list (tokens_apart bytes ts h))
+    (again.kinds ∙ sym (kinds_without ts.list)) again.gaps in
     let tree : HasTree us d = record {
       yields = moved_tokens ts us c g is.tree moved;
       names = is.tree.names ∙ sym again.names;

@@ -33,7 +33,9 @@ weaker p q h = grind arith
 
 -- the place behind one character
 abbrev one_on : Bool → Place → Place
-one_on b p = cond b (record { line = p.line + 1; column = 1 }) (record { line = p.line; column = p.column + 1 })
+one_on b p =
+    cond b (record { line = p.line + 1; column = 1 })
+    (record { line = p.line; column = p.column + 1 })
 
 -- One character goes on.
 one_under : (b : Bool) (p : Place) → IsUnder p (one_on b p)
@@ -43,12 +45,15 @@ one_under false p = inr (refl, omega arith)
 -- characters go on to later places
 after_up_to : (p : Place) (cs : List ℕ) → IsUpTo p (place_after p cs)
 after_up_to p [] = inr (refl, omega arith)
-after_up_to p (c ∷ cs) = up_to p (one_on (c == 10) p) _ (weaker p _ (one_under (c == 10) p)) (after_up_to (one_on (c == 10) p) cs)
+after_up_to p (c ∷ cs) =
+    up_to p (one_on (c == 10) p) _ (weaker p _ (one_under (c == 10) p))
+    (after_up_to (one_on (c == 10) p) cs)
 
 -- the same where there is a character
 after_under : (p : Place) (cs : List ℕ) → 0 < length cs → IsUnder p (place_after p cs)
 after_under p [] some = absurd (omega (arith, some))
-after_under p (c ∷ cs) some = under p (one_on (c == 10) p) _ (one_under (c == 10) p) (after_up_to (one_on (c == 10) p) cs)
+after_under p (c ∷ cs) some =
+    under p (one_on (c == 10) p) _ (one_under (c == 10) p) (after_up_to (one_on (c == 10) p) cs)
 
 -- one text behind another
 after_both : (p : Place) (a b : List ℕ) → place_after p (a ++ b) ≡ place_after (place_after p a) b
@@ -98,7 +103,8 @@ some_word (c ∷ w) fits = omega arith
 -- Pieces of a text have words.
 have_words : (ps : List Piece) (text last : List ℕ) → Chain IsToken ps text last → HaveWords ps
 have_words [] text last h = tt
-have_words (p ∷ ps) text last h = (some_word p.word h.1.piece.word.longest.fits, have_words ps h.0 last h.2)
+have_words (p ∷ ps) text last h =
+    (some_word p.word h.1.piece.word.longest.fits, have_words ps h.0 last h.2)
 
 -- the same with the mark
 marked_words : (m : List ℕ) (ps : List Piece) → HaveWords ps → HaveWords (with_mark m ps)
@@ -106,32 +112,46 @@ marked_words m [] h = h
 marked_words m (p ∷ ps) h = h
 
 -- tokens from a place on stand at none before it
-none_before : (p place : Place) (words : List (List ℕ)) (texts : ℕ) (ps : List Piece) (ts : List Token) → IsUnder p place → AreTokens words place texts ps ts → NoneAt p ts
+none_before : (p place : Place) (words : List (List ℕ)) (texts : ℕ) (ps : List Piece)
+    (ts : List Token) → IsUnder p place → AreTokens words place texts ps ts → NoneAt p ts
 none_before p place words texts [] ts before are = subst (NoneAt p) (sym are) tt
 none_before p place words texts (q ∷ ps) ts before are =
     let t = are.0 in
     let rest = are.1 in
     let is : IsTokenOf words place texts q t = are.3 in
-    let here : IsUnder p t.place = subst (IsUnder p) (sym is.place_is) (under p place (place_after place q.gap) before (after_up_to place q.gap)) in
-    let behind = none_before p (place_after place (q.gap ++ q.word)) words (texts_after texts q.word) ps rest
-    (under p place (place_after place (q.gap ++ q.word)) before (after_up_to place (q.gap ++ q.word))) are.4 in
+    let here : IsUnder p t.place =
+    subst (IsUnder p) (sym is.place_is)
+    (under p place (place_after place q.gap) before (after_up_to place q.gap)) in
+    let behind =
+    none_before p (place_after place (q.gap ++ q.word)) words (texts_after texts q.word) ps rest
+    (under p place (place_after place (q.gap ++ q.word)) before
+    (after_up_to place (q.gap ++ q.word))) are.4 in
     subst (NoneAt p) (sym are.2) (is_no p t.place here, behind)
 
 -- Tokens stand at places of their own.
-all_apart : (place : Place) (words : List (List ℕ)) (texts : ℕ) (ps : List Piece) (ts : List Token) → HaveWords ps → AreTokens words place texts ps ts → AreApart ts
+all_apart : (place : Place) (words : List (List ℕ)) (texts : ℕ) (ps : List Piece) (ts : List Token)
+    → HaveWords ps → AreTokens words place texts ps ts → AreApart ts
 all_apart place words texts [] ts have are = subst AreApart (sym are) tt
 all_apart place words texts (q ∷ ps) ts have are =
     let t = are.0 in
     let rest = are.1 in
     let is : IsTokenOf words place texts q t = are.3 in
     let next = place_after place (q.gap ++ q.word) in
-    let behind : IsUnder t.place next = subst (IsUnder t.place) (sym (after_both place q.gap q.word))
-    (subst (λ p. IsUnder t.place (place_after p q.word)) is.place_is (after_under t.place q.word have.0)) in
-    subst AreApart (sym are.2) (none_before t.place next words (texts_after texts q.word) ps rest behind are.4, all_apart next words (texts_after texts q.word) ps rest have.1 are.4)
+    let behind : IsUnder t.place next =
+    subst (IsUnder t.place) (sym (after_both place q.gap q.word))
+    (subst (λ p. IsUnder t.place (place_after p q.word)) is.place_is
+    (after_under t.place q.word have.0)) in
+    subst AreApart (sym are.2) (
+      none_before t.place next words (texts_after texts q.word) ps rest behind are.4,
+      all_apart next words (texts_after texts q.word) ps rest have.1 are.4,
+    )
 
 -- A file's tokens stand at places of their own.
 pub tokens_apart : (bytes : List ℕ) (ts : Tokens) → HasTokens bytes ts → AreApart ts.list
 tokens_apart bytes ts h =
     let has = h.is.has in
-    let have : HaveWords h.pieces = subst HaveWords (sym has.marked) (marked_words (mark (chars bytes)) has.bare (have_words has.bare (body (chars bytes)) has.last has.tokens)) in
+    let have : HaveWords h.pieces =
+    subst HaveWords (sym has.marked)
+    (marked_words (mark (chars bytes)) has.bare
+    (have_words has.bare (body (chars bytes)) has.last has.tokens)) in
     all_apart the_start (names_of h.pieces) 0 h.pieces ts.list have h.tokens.list

@@ -1,5 +1,5 @@
--- The chapter "Canonical text", trees read again: which trees are the same. No code: the law joins the definitions of reading and
--- of showing.
+-- The chapter "Canonical text", trees read again: which trees are the same. No code: the law joins
+-- the definitions of reading and of showing.
 use Rattle.std.specs.Prelude.{◌≡◌}
 use Rattle.fort_base.specs.declared.refusal.Gap.TheVariants as gap
 use Rattle.fort_base.specs.declared.refusal.Place.{Place}
@@ -18,6 +18,7 @@ without_gap c = record {
   texts = c.texts;
 }
 
--- The second tree is the first one, but that its tokens stand at other places, and that its first token has no gap before it.
+-- The second tree is the first one, but that its tokens stand at other places, and that its first
+-- token has no gap before it.
 abbrev pub IsSameTree : Component → Component → Type 0
 IsSameTree c d = (g : Place → Place) × (d ≡ moved_component g (without_gap c))

@@ -1,4 +1,5 @@
-//! Tests from outside, of what no clause says. They stand apart from the crates that they test, so that those are proved once.
+//! Tests from outside, of what no clause says. They stand apart from the crates that they test, so
+//! that those are proved once.
 #![tactic(auto)]
 
 #[cfg(test)]

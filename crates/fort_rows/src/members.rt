@@ -19,7 +19,8 @@ fn members_of(rt: &impl Abort, alloc: Global, source: &str) -> Result<Members, C
     members(alloc, &tree.component, &types)
 }
 
-/// How a source is answered: the number of its rule and its place, or three zeros where it is accepted.
+/// How a source is answered: the number of its rule and its place, or three zeros where it is
+/// accepted.
 fn answer(rt: &impl Abort, alloc: Global, source: &str) -> (u16, u32, u32) {
     match members_of(rt, alloc, source) {
         Err(CheckFault::Refused(rule, place)) => (rule.0, place.line, place.column),
@@ -82,7 +83,8 @@ fn a_rule_on_fields_is_broken(rt: HostRuntime) -> Result<(), Fail> {
 const INHERITED: &str =
     "component T\ntrait D extends { B, C } end\ntrait B extends A end\ntrait C extends A end\ntrait A\nf: Any; g: Object\nend\ntrait E extends B\nh: ZZ32\nf: String\nend\nend";
 
-/// The fields of the type of that number; the component's types are numbered behind the built-in ones.
+/// The fields of the type of that number; the component's types are numbered behind the built-in
+/// ones.
 fn fields_of(all: &Members, number: usize) -> &[Field] {
     match all.fields.get(number) {
         Some(fields) => fields.as_slice(),

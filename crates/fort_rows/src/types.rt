@@ -1,4 +1,5 @@
-//! That types are read where there is memory, by examples of the chapter "Grammar", and that depth has a bound.
+//! That types are read where there is memory, by examples of the chapter "Grammar", and that depth
+//! has a bound.
 use fort_base::{Bytes, Gap, List, Memory, NameId, Place};
 use fort_parse_types::{TypeGrammar, longest_type};
 use fort_reading::Cursor;

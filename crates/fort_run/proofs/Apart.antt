@@ -1,4 +1,5 @@
--- A file that is accepted, or is shown as a text, is not refused; and it has one program. The laws of token lists are those of fort_front.
+-- A file that is accepted, or is shown as a text, is not refused; and it has one program. The laws
+-- of token lists are those of fort_front.
 use Rattle.std.proofs.Common.{◌≡◌, ℕ, List, subst}
 use Rattle.fort_base.specs.declared.refusal.Rule.{Rule}
 use Rattle.fort_base.specs.declared.refusal.Place.{Place}
@@ -17,16 +18,27 @@ pub record Fronts : Type 0 where
   pub one_record : OneRecord
   pub one_answer : OneAnswer
 
-pub accepted_apart : Fronts → (file : List ℕ) (program : Program) (rule : Rule) (place : Place) → IsAcceptedAs file program → BreaksOne file rule place → ⊥
-accepted_apart laws file program rule place a (in_text b) = list_or_fault file a.tokens rule place a.has b
+pub accepted_apart : Fronts → (file : List ℕ) (program : Program) (rule : Rule) (place : Place)
+    → IsAcceptedAs file program → BreaksOne file rule place → ⊥
+accepted_apart laws file program rule place a (in_text b) =
+    list_or_fault file a.tokens rule place a.has b
 accepted_apart laws file program rule place a (behind tokens has b) =
-    laws.apart a.tokens program rule place a.accepted (subst (λ t. Breaks t rule place) (one_list_of_tokens file tokens a.tokens has a.has) b)
+    laws.apart a.tokens program rule place a.accepted
+    (subst (λ t. Breaks t rule place) (one_list_of_tokens file tokens a.tokens has a.has) b)
 
 -- A file that is accepted has one program.
-pub one_program_of : Fronts → (file : List ℕ) (p q : Program) → IsAcceptedAs file p → IsAcceptedAs file q → p ≡ q
-one_program_of laws file p q a b = laws.one b.tokens p q (subst (λ t. IsAccepted t p) (one_list_of_tokens file a.tokens b.tokens a.has b.has) a.accepted) b.accepted
+pub one_program_of : Fronts → (file : List ℕ) (p q : Program) → IsAcceptedAs file p
+    → IsAcceptedAs file q → p ≡ q
+one_program_of laws file p q a b =
+    laws.one b.tokens p q
+    (subst (λ t. IsAccepted t p) (one_list_of_tokens file a.tokens b.tokens a.has b.has) a.accepted)
+    b.accepted
 
-pub shown_apart : Fronts → (file text : List ℕ) (rule : Rule) (place : Place) → IsShownAs file text → IsNoComponent file rule place → ⊥
-shown_apart laws file text rule place s (in_tokens b) = list_or_fault file s.tokens rule place s.has b
+pub shown_apart : Fronts → (file text : List ℕ) (rule : Rule) (place : Place) → IsShownAs file text
+    → IsNoComponent file rule place → ⊥
+shown_apart laws file text rule place s (in_tokens b) =
+    list_or_fault file s.tokens rule place s.has b
 shown_apart laws file text rule place s (in_grammar tokens has broken) =
-    laws.grammar s.tokens rule place s.grammatical (subst (λ t. BreaksGrammar t rule place) (one_list_of_tokens file tokens s.tokens has s.has) broken)
+    laws.grammar s.tokens rule place s.grammatical
+    (subst (λ t. BreaksGrammar t rule place) (one_list_of_tokens file tokens s.tokens has s.has)
+    broken)

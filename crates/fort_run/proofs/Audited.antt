@@ -16,7 +16,8 @@ use Rattle.fort_run.specs.Said.{said}
 use Rattle.fort_run.specs.declared.answer.Answer.{Answer}
 
 -- A command that isn't an audit is about one file.
-pub of_one_file : (command : Command) → ((name kept : List ℕ) → command ≡ Audit name kept → ⊥) → IsOfOneFile command
+pub of_one_file : (command : Command) → ((name kept : List ℕ) → command ≡ Audit name kept → ⊥)
+    → IsOfOneFile command
 of_one_file (Check name) differs = tt
 of_one_file (Show name) differs = tt
 of_one_file (Run name workers fuel) differs = tt
@@ -25,25 +26,35 @@ of_one_file (Record name workers fuel) differs = tt
 of_one_file (Audit name kept) differs = absurd (differs name kept refl)
 
 -- What is meant to say of both files is what the call means to say.
-pub both_mean : (holding : List ℕ → Holding) (before after : ℕ) (command : Command) (name kept file : List ℕ) (r : Result Answer Memory)
+pub both_mean : (holding : List ℕ → Holding) (before after : ℕ) (command : Command)
+    (name kept file : List ℕ) (r : Result Answer Memory)
     → command ≡ Audit name kept → IsText holding command file → length file ≤ file_limit
-    → IfOk r (λ a. AuditMeans name file (holding kept) before after (said a)) → IfOk r (λ a. (words : List (List ℕ)) → IsCommand words command → Means words holding before after (said a))
+    → IfOk r (λ a. AuditMeans name file (holding kept) before after (said a))
+    → IfOk r (λ a. (words : List (List ℕ)) → IsCommand words command
+    → Means words holding before after (said a))
 both_mean holding before after command name kept file (Ok a) e read within means =
-    λ words is. JudgedBoth name kept file (subst (IsCommand words) e is) (subst (λ c. IsText holding c file) e read) within means
+    λ words is. JudgedBoth name kept file (subst (IsCommand words) e is)
+    (subst (λ c. IsText holding c file) e read) within means
 both_mean holding before after command name kept file (Err m) e read within means = tt
 
 -- What is said of a record that was read whole.
-pub record_means : (p : Program) (holding : Holding) (before after : ℕ) (bytes : List ℕ) (r : Result Answer Memory) → IsFile holding bytes → length bytes ≤ record_limit → after ≡ before
-    → IfOk r (λ a. RecordSays p bytes (said a)) → IfOk r (λ a. RecordMeans p holding before after (said a))
-record_means p holding before after bytes (Ok a) read within calm says = RecordRead bytes read within calm says
+pub record_means : (p : Program) (holding : Holding) (before after : ℕ) (bytes : List ℕ)
+    (r : Result Answer Memory) → IsFile holding bytes → length bytes ≤ record_limit → after ≡ before
+    → IfOk r (λ a. RecordSays p bytes (said a))
+    → IfOk r (λ a. RecordMeans p holding before after (said a))
+record_means p holding before after bytes (Ok a) read within calm says =
+    RecordRead bytes read within calm says
 record_means p holding before after bytes (Err m) read within calm says = tt
 
-pub record_says : (p : Program) (bytes : List ℕ) (kept : a_record.Record) (r : Result Answer Memory) → IsRecordText bytes kept.journal kept.output
-    → IfOk r (λ a. (answer : Audited) × Audits p kept answer × (said a ≡ audited kept answer)) → IfOk r (λ a. RecordSays p bytes (said a))
+pub record_says : (p : Program) (bytes : List ℕ) (kept : a_record.Record) (r : Result Answer Memory)
+    → IsRecordText bytes kept.journal kept.output
+    → IfOk r (λ a. (answer : Audited) × Audits p kept answer × (said a ≡ audited kept answer))
+    → IfOk r (λ a. RecordSays p bytes (said a))
 record_says p bytes kept (Ok a) text says = IsKept kept says.0 text says.1 says.2
 record_says p bytes kept (Err m) text says = tt
 
-pub formless : (p : Program) (bytes : List ℕ) (at : ℕ) (r : Result Answer Memory) → IsFormFault bytes at → IfOk r (λ a. said a ≡ refused_record (why.Form at))
+pub formless : (p : Program) (bytes : List ℕ) (at : ℕ) (r : Result Answer Memory)
+    → IsFormFault bytes at → IfOk r (λ a. said a ≡ refused_record (why.Form at))
     → IfOk r (λ a. RecordSays p bytes (said a))
 formless p bytes at (Ok a) fault e = Formless at fault e
 formless p bytes at (Err m) fault e = tt

@@ -16,24 +16,36 @@ use Rattle.fort_run.proofs.Apart.{Fronts}
 use Rattle.fort_run.proofs.Complete.{answers}
 
 -- What is meant to say is the same from where the shelf stood before its first file was read.
-pub from_before : (held holding : List ℕ → Holding) (mid before after : ℕ) (command : Command) (r : Result Answer Memory) → held ≡ holding → mid ≡ before
-    → IfOk r (λ a. (words : List (List ℕ)) → IsCommand words command → Means words held mid after (said a))
-    → IfOk r (λ a. (words : List (List ℕ)) → IsCommand words command → Means words holding before after (said a))
+pub from_before : (held holding : List ℕ → Holding) (mid before after : ℕ) (command : Command)
+    (r : Result Answer Memory) → held ≡ holding → mid ≡ before
+    → IfOk r (λ a. (words : List (List ℕ)) → IsCommand words command
+    → Means words held mid after (said a))
+    → IfOk r (λ a. (words : List (List ℕ)) → IsCommand words command
+    → Means words holding before after (said a))
 from_before held holding mid before after command r e f means =
-    subst (λ h. IfOk r (λ a. (words : List (List ℕ)) → IsCommand words command → Means words h before after (said a))) e
-    (subst (λ n. IfOk r (λ a. (words : List (List ℕ)) → IsCommand words command → Means words held n after (said a))) f means)
+    subst (λ h. IfOk r (λ a. (words : List (List ℕ)) → IsCommand words command
+    → Means words h before after (said a))) e
+    (subst (λ n. IfOk r (λ a. (words : List (List ℕ)) → IsCommand words command
+    → Means words held n after (said a))) f means)
 
 -- What a command says of a text that was read whole is what the call means to say.
-pub read_means : (holding : List ℕ → Holding) (before after : ℕ) (command : Command) (text : List ℕ) (r : Result Answer Memory)
+pub read_means : (holding : List ℕ → Holding) (before after : ℕ) (command : Command) (text : List ℕ)
+    (r : Result Answer Memory)
     → IsText holding command text → length text ≤ file_limit → after ≡ before
-    → IfOk r (λ a. CommandSays command text (said a)) → IfOk r (λ a. (words : List (List ℕ)) → IsCommand words command → Means words holding before after (said a))
-read_means holding before after command text (Ok a) read within calm says = λ words is. Judged command text is read within calm says
+    → IfOk r (λ a. CommandSays command text (said a))
+    → IfOk r (λ a. (words : List (List ℕ)) → IsCommand words command
+    → Means words holding before after (said a))
+read_means holding before after command text (Ok a) read within calm says =
+    λ words is. Judged command text is read within calm says
 read_means holding before after command text (Err m) read within calm says = tt
 
 -- What was meant was delivered.
-pub delivered : Fronts → (o : Outside) (answer : Answer) (finish : Finish) (meant : ℕ) (out note : List ℕ) → MeansToSay o (said answer)
+pub delivered : Fronts
+    → (o : Outside) (answer : Answer) (finish : Finish) (meant : ℕ) (out note : List ℕ)
+    → MeansToSay o (said answer)
     → meant ≡ (said answer).status → out ≡ (said answer).out → note ≡ (said answer).note
-    → Delivers meant out note o.out o.notes finish.status → finish.journal ≡ (said answer).journal → Answers o finish
+    → Delivers meant out note o.out o.notes finish.status → finish.journal ≡ (said answer).journal
+    → Answers o finish
 delivered laws o answer finish meant out note means e f g d j =
     answers laws o finish (Said (said answer) means
     (subst (λ x. Delivers (said answer).status (said answer).out x o.out o.notes finish.status) g
@@ -41,7 +53,8 @@ delivered laws o answer finish meant out note means e f g d j =
     (subst (λ x. Delivers x out note o.out o.notes finish.status) e d))) j)
 
 -- Memory was wanting.
-pub memory_wanted : (o : Outside) (finish : Finish) → TakesOrFails o.notes want_of_memory → finish.status ≡ 7 → finish.journal ≡ no_run → Answers o finish
+pub memory_wanted : (o : Outside) (finish : Finish) → TakesOrFails o.notes want_of_memory
+    → finish.status ≡ 7 → finish.journal ≡ no_run → Answers o finish
 memory_wanted o finish notes s j = record {
   ends = WantsMemory notes s j;
   complete = λ c. record {
@@ -59,7 +72,8 @@ memory_wanted o finish notes s j = record {
 }
 
 -- A command of words has a number of accounts that words may give.
-pub bounded : (words : List (List ℕ)) (command : Command) → IsCommand words command → IsBounded command
+pub bounded : (words : List (List ℕ)) (command : Command) → IsCommand words command
+    → IsBounded command
 bounded words (Check name) is = tt
 bounded words (Show name) is = tt
 bounded words (Run name workers fuel) is = tt

@@ -17,13 +17,19 @@ no_refusal (told.Uncaught note) e = absurd cc
 no_refusal told.OutOfFuel e = absurd cc
 
 -- Its journal's ending has a text.
-pub run_has_text : AcceptedHasText → (name file : List ℕ) (fuel : ℕ) (j : Journal) (output : List ℕ) (end : Told) → RunSays its_output name file fuel (said (Ran j output end))
+pub run_has_text : AcceptedHasText
+    → (name file : List ℕ) (fuel : ℕ) (j : Journal) (output : List ℕ) (end : Told)
+    → RunSays its_output name file fuel (said (Ran j output end))
     → HasText j.ending
-run_has_text law name file fuel j output end (Runs p is tells) = law file is.tokens p is.has is.accepted j (tells.term, (tells.effect, tells.records))
-run_has_text law name file fuel j output end (Refuses rule place broken e) = absurd (no_refusal end (ap (λ (x : Reply). x.status) e))
+run_has_text law name file fuel j output end (Runs p is tells) =
+    law file is.tokens p is.has is.accepted j (tells.term, (tells.effect, tells.records))
+run_has_text law name file fuel j output end (Refuses rule place broken e) =
+    absurd (no_refusal end (ap (λ (x : Reply). x.status) e))
 
-pub run_recorded : (name file : List ℕ) (fuel : ℕ) (j : Journal) (output : List ℕ) (end : Told) (text : List ℕ) → IsRecordText text j output
-    → RunSays its_output name file fuel (said (Ran j output end)) → RunSays its_record name file fuel (said (Ran j text end))
+pub run_recorded : (name file : List ℕ) (fuel : ℕ) (j : Journal) (output : List ℕ) (end : Told)
+    (text : List ℕ) → IsRecordText text j output
+    → RunSays its_output name file fuel (said (Ran j output end))
+    → RunSays its_record name file fuel (said (Ran j text end))
 run_recorded name file fuel j output end text is_text (Runs p is tells) = Runs p is (record {
   term = tells.term;
   effect = tells.effect;
@@ -33,17 +39,22 @@ run_recorded name file fuel j output end text is_text (Runs p is tells) = Runs p
   tells = tells.tells;
   one = tells.one;
 })
-run_recorded name file fuel j output end text is_text (Refuses rule place broken e) = absurd (no_refusal end (ap (λ (x : Reply). x.status) e))
+run_recorded name file fuel j output end text is_text (Refuses rule place broken e) =
+    absurd (no_refusal end (ap (λ (x : Reply). x.status) e))
 
 -- What is said where nothing ran is the same.
-pub none_recorded : (name file : List ℕ) (fuel : ℕ) (a : Answer) → ((j : Journal) (output : List ℕ) (end : Told) → a ≡ Ran j output end → ⊥) → RunSays its_output name file fuel (said a)
+pub none_recorded : (name file : List ℕ) (fuel : ℕ) (a : Answer)
+    → ((j : Journal) (output : List ℕ) (end : Told) → a ≡ Ran j output end → ⊥)
+    → RunSays its_output name file fuel (said a)
     → RunSays its_record name file fuel (said a)
 none_recorded name file fuel a differs (Refuses rule place broken e) = Refuses rule place broken e
-none_recorded name file fuel (Ran j output end) differs (Runs p is tells) = absurd (differs j output end refl)
+none_recorded name file fuel (Ran j output end) differs (Runs p is tells) =
+    absurd (differs j output end refl)
 none_recorded name file fuel Accepted differs (Runs p is tells) = absurd tells.records.ends
 none_recorded name file fuel (Shown text) differs (Runs p is tells) = absurd tells.records.ends
 none_recorded name file fuel (Refused note) differs (Runs p is tells) = absurd tells.records.ends
 none_recorded name file fuel NoCommand differs (Runs p is tells) = absurd tells.records.ends
 none_recorded name file fuel Unread differs (Runs p is tells) = absurd tells.records.ends
 none_recorded name file fuel TooLarge differs (Runs p is tells) = absurd tells.records.ends
-none_recorded name file fuel (RecordRefused note) differs (Runs p is tells) = absurd tells.records.ends
+none_recorded name file fuel (RecordRefused note) differs (Runs p is tells) =
+    absurd tells.records.ends

@@ -18,15 +18,21 @@ no_end p fuel t d none = none
 
 -- A run has an ending.
 pub has_end : (p : Program) (fuel : ℕ) (ran : Ran) → IsRun p fuel ran → ran.journal.ending ≢ NotRun
-has_end p fuel ran is none = no_end p fuel is.run.term is.run.effect (subst (λ e. Ends p fuel is.run.term is.run.effect e) none is.run.records.ends)
+has_end p fuel ran is none =
+    no_end p fuel is.run.term is.run.effect
+    (subst (λ e. Ends p fuel is.run.term is.run.effect e) none is.run.records.ends)
 
 -- What is said of a run, where it tells how that ended.
-pub run_told : (p : Program) (fuel : ℕ) (ran : Ran) (end : Told) → IsRun p fuel ran → AlwaysOne p → TellsEnding p ran.journal.ending (status_of end) (note_of end)
+pub run_told : (p : Program) (fuel : ℕ) (ran : Ran) (end : Told) → IsRun p fuel ran → AlwaysOne p
+    → TellsEnding p ran.journal.ending (status_of end) (note_of end)
     → TellsRun its_output p fuel (said (answer.Ran ran.journal ran.output end))
 run_told p fuel ran end is one tells = record {
   term = is.run.term;
   effect = is.run.effect;
-  records = subst (λ n. Records p (record { fuel = n; picks = ran.journal.picks; ending = ran.journal.ending }) is.run.term is.run.effect) (sym is.is_fuel) is.run.records;
+  records =
+      subst (λ n. Records p
+      (record { fuel = n; picks = ran.journal.picks; ending = ran.journal.ending }) is.run.term
+      is.run.effect) (sym is.is_fuel) is.run.records;
   is_fuel = is.is_fuel;
   is_written = is.run.is_output;
   tells = tells;

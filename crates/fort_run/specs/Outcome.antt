@@ -1,4 +1,5 @@
--- How a call ends: its status, and what stands on both outputs. It restates the chapter "Statuses and notes" of docs/LANGUAGE.md.
+-- How a call ends: its status, and what stands on both outputs. It restates the chapter "Statuses
+-- and notes" of docs/LANGUAGE.md.
 use Rattle.std.specs.Prelude.{◌≡◌, ℕ, ◌*◌, ◌<◌, ◌≤◌, List, ◌⊎◌, length}
 use Rattle.fort_base.specs.declared.refusal.Rule.{Rule}
 use Rattle.fort_base.specs.declared.refusal.Place.{Place}
@@ -31,11 +32,14 @@ pub record Outside : Type 0 where
 abbrev pub MeansToSay : Outside → Reply → Type 0
 MeansToSay o reply = Means o.words o.holding o.faults_were o.faults_are reply
 
--- How a call ends: it delivered what it means to say, whose journal it answers; or memory was wanting, 7, there was no run, and the note
--- says so as far as it came.
+-- How a call ends: it delivered what it means to say, whose journal it answers; or memory was
+-- wanting, 7, there was no run, and the note says so as far as it came.
 pub data Ends (o : Outside) (finish : Finish) : Type 0 where
-  Said : (reply : Reply) → MeansToSay o reply → Delivers reply.status reply.out reply.note o.out o.notes finish.status → finish.journal ≡ reply.journal → Ends o finish
-  WantsMemory : TakesOrFails o.notes want_of_memory → finish.status ≡ 7 → finish.journal ≡ no_run → Ends o finish
+  Said : (reply : Reply) → MeansToSay o reply
+      → Delivers reply.status reply.out reply.note o.out o.notes finish.status
+      → finish.journal ≡ reply.journal → Ends o finish
+  WantsMemory : TakesOrFails o.notes want_of_memory → finish.status ≡ 7 → finish.journal ≡ no_run
+      → Ends o finish
 
 -- No count of faults rose.
 pub record IsCalm (o : Outside) : Type 0 where
@@ -43,7 +47,8 @@ pub record IsCalm (o : Outside) : Type 0 where
   pub out : Rose o.out.faults_were o.out.faults_are → ⊥
   pub notes : Rose o.notes.faults_were o.notes.faults_are → ⊥
 
--- The text that a command is about: the component's file that the shelf has under its name; or the bank.
+-- The text that a command is about: the component's file that the shelf has under its name; or the
+-- bank.
 abbrev pub IsAbout : (List ℕ → Holding) → Command → List ℕ → Type 0
 IsAbout holding (Check name) text = holding name ≡ Held text
 IsAbout holding (Show name) text = holding name ≡ Held text
@@ -71,8 +76,10 @@ abbrev pub AsksAll : Command → Type 0
 AsksAll (Show name) = ⊥
 AsksAll other = Unit {0}
 
--- A run of a program with this fuel, whole: the journal is its, all that is written of it was written, and the status says how it ended.
-pub record IsWhole (o : Outside) (finish : Finish) (writes : Writing) (p : Program) (fuel : ℕ) : Type 0 where
+-- A run of a program with this fuel, whole: the journal is its, all that is written of it was
+-- written, and the status says how it ended.
+pub record IsWhole (o : Outside) (finish : Finish) (writes : Writing) (p : Program)
+    (fuel : ℕ) : Type 0 where
   pub term : Term
   pub effect : Effect
   pub records : Records p finish.journal term effect
@@ -100,24 +107,35 @@ pub record Keeps (p : Program) (bytes output : List ℕ) : Type 0 where
   pub is_text : IsRecordText bytes journal output
   pub prints : Prints p journal output
 
--- Where no count rose and the shelf tells its bytes, the words and the files that they are about decide the status; want of memory aside.
+-- Where no count rose and the shelf tells its bytes, the words and the files that they are about
+-- decide the status; want of memory aside.
 pub record IsComplete (o : Outside) (finish : Finish) : Type 0 where
   pub no_command : IsNoCommand o.words → (finish.status ≡ 2) ⊎ (finish.status ≡ 7)
-  pub runs : (command : Command) (file : List ℕ) (fuel : ℕ) (writes : Writing) (program : Program) → Asks o command file → RunsWith command fuel writes
-      → length file ≤ file_limit → IsAcceptedAs file program → IsWhole o finish writes program fuel ⊎ (finish.status ≡ 7)
-  pub refused : (command : Command) (file : List ℕ) (rule : Rule) (place : Place) → Asks o command file → AsksAll command → length file ≤ file_limit
+  pub runs : (command : Command) (file : List ℕ) (fuel : ℕ) (writes : Writing) (program : Program)
+      → Asks o command file → RunsWith command fuel writes
+      → length file ≤ file_limit → IsAcceptedAs file program
+      → IsWhole o finish writes program fuel ⊎ (finish.status ≡ 7)
+  pub refused : (command : Command) (file : List ℕ) (rule : Rule) (place : Place)
+      → Asks o command file → AsksAll command → length file ≤ file_limit
       → BreaksOne file rule place → (finish.status ≡ 1) ⊎ (finish.status ≡ 7)
-  pub accepts : (name file : List ℕ) (program : Program) → Asks o (Check name) file → length file ≤ file_limit → IsAcceptedAs file program
+  pub accepts : (name file : List ℕ) (program : Program) → Asks o (Check name) file
+      → length file ≤ file_limit → IsAcceptedAs file program
       → ((finish.status ≡ 0) × Takes o.out accepted) ⊎ (finish.status ≡ 7)
-  pub shown : (name file text : List ℕ) → Asks o (Show name) file → length file ≤ file_limit → IsShownAs file text → (finish.status ≡ 0) ⊎ (finish.status ≡ 7)
-  pub no_component : (name file : List ℕ) (rule : Rule) (place : Place) → Asks o (Show name) file → length file ≤ file_limit
+  pub shown : (name file text : List ℕ) → Asks o (Show name) file → length file ≤ file_limit
+      → IsShownAs file text → (finish.status ≡ 0) ⊎ (finish.status ≡ 7)
+  pub no_component : (name file : List ℕ) (rule : Rule) (place : Place) → Asks o (Show name) file
+      → length file ≤ file_limit
       → IsNoComponent file rule place → (finish.status ≡ 1) ⊎ (finish.status ≡ 7)
-  pub too_large : (command : Command) (file : List ℕ) → Asks o command file → file_limit < length file → (finish.status ≡ 8) ⊎ (finish.status ≡ 7)
-  pub audits : (p : Program) (bytes output : List ℕ) → AsksAudit o p bytes → length bytes ≤ record_limit → Keeps p bytes output
+  pub too_large : (command : Command) (file : List ℕ) → Asks o command file
+      → file_limit < length file → (finish.status ≡ 8) ⊎ (finish.status ≡ 7)
+  pub audits : (p : Program) (bytes output : List ℕ) → AsksAudit o p bytes
+      → length bytes ≤ record_limit → Keeps p bytes output
       → ((finish.status ≡ 0) × Takes o.out output) ⊎ (finish.status ≡ 7)
-  pub audits_none : (p : Program) (bytes : List ℕ) → AsksAudit o p bytes → length bytes ≤ record_limit → ((output : List ℕ) → Keeps p bytes output → ⊥)
+  pub audits_none : (p : Program) (bytes : List ℕ) → AsksAudit o p bytes
+      → length bytes ≤ record_limit → ((output : List ℕ) → Keeps p bytes output → ⊥)
       → (finish.status ≡ 9) ⊎ (finish.status ≡ 7)
-  pub record_too_large : (p : Program) (bytes : List ℕ) → AsksAudit o p bytes → record_limit < length bytes → (finish.status ≡ 8) ⊎ (finish.status ≡ 7)
+  pub record_too_large : (p : Program) (bytes : List ℕ) → AsksAudit o p bytes
+      → record_limit < length bytes → (finish.status ≡ 8) ⊎ (finish.status ≡ 7)
 
 -- What is promised of a call.
 pub record Answers (o : Outside) (finish : Finish) : Type 0 where

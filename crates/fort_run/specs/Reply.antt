@@ -1,5 +1,6 @@
--- What a call means to say. It restates the chapters "The command line" and "Statuses and notes" of docs/LANGUAGE.md.
--- The code finds the reply by reading in pieces; the words below speak of whole files.
+-- What a call means to say. It restates the chapters "The command line" and "Statuses and notes" of
+-- docs/LANGUAGE.md. The code finds the reply by reading in pieces; the words below speak of whole
+-- files.
 use Rattle.std.specs.Prelude.{◌≡◌, ℕ, ◌*◌, ◌<◌, ◌≤◌, List, [], ◌∷◌, ◌++◌, codes, length}
 use Rattle.fort_audit.specs.Audits.{Audits}
 use Rattle.fort_audit.specs.Notes.{note_of}
@@ -57,17 +58,19 @@ file_limit = 1048576
 
 -- ---- run
 
--- The file is accepted: it keeps the rules of its tokens, and these keep all rules; and this is the program of its component.
+-- The file is accepted: it keeps the rules of its tokens, and these keep all rules; and this is the
+-- program of its component.
 pub record IsAcceptedAs (file : List ℕ) (program : Program) : Type 0 where
   pub tokens : Tokens
   pub has : HasTokens file tokens
   pub accepted : IsAccepted tokens program
 
--- The file breaks this rule, at this place: a rule of its tokens; or it has tokens, and these break one of the grammar, of grouping, of types, of members, of
--- overloading or of typing.
+-- The file breaks this rule, at this place: a rule of its tokens; or it has tokens, and these break
+-- one of the grammar, of grouping, of types, of members, of overloading or of typing.
 pub data BreaksOne (file : List ℕ) (rule : Rule) (place : Place) : Type 0 where
   in_text : BreaksRule file rule place → BreaksOne file rule place
-  behind : (tokens : Tokens) → HasTokens file tokens → Breaks tokens rule place → BreaksOne file rule place
+  behind : (tokens : Tokens) → HasTokens file tokens → Breaks tokens rule place
+      → BreaksOne file rule place
 
 -- What is written of a run: what it printed, or the record of that and of its journal.
 pub data Writing : Type 0 where
@@ -79,15 +82,17 @@ abbrev pub Writes : Writing → Journal → List ℕ → List ℕ → Type 0
 Writes its_output journal output written = written ≡ output
 Writes its_record journal output written = IsRecordText written journal output
 
--- The status and the note of a run's ending: 0 and none where it is completed; 5 and the exception where one is uncaught; 6 and a note where it is out of fuel.
+-- The status and the note of a run's ending: 0 and none where it is completed; 5 and the exception
+-- where one is uncaught; 6 and a note where it is out of fuel.
 abbrev pub TellsEnding : Program → Ending → ℕ → List ℕ → Type 0
 TellsEnding p NotRun status note = ⊥
 TellsEnding p Completed status note = (status ≡ 0) × (note ≡ [])
 TellsEnding p (Uncaught v) status note = (status ≡ 5) × (note ≡ uncaught p v)
 TellsEnding p (OutOfFuel pick) status note = (status ≡ 6) × (note ≡ out_of_fuel)
 
--- The reply tells a run of a program with this fuel: its journal is the run's, what is written is of that journal and what the run printed, and status and note
--- tell how the run ended; and in each of its terms each call has its one declaration.
+-- The reply tells a run of a program with this fuel: its journal is the run's, what is written is
+-- of that journal and what the run printed, and status and note tell how the run ended; and in each
+-- of its terms each call has its one declaration.
 pub record TellsRun (writes : Writing) (p : Program) (fuel : ℕ) (reply : Reply) : Type 0 where
   pub term : Term
   pub effect : Effect
@@ -100,9 +105,11 @@ pub record TellsRun (writes : Writing) (p : Program) (fuel : ℕ) (reply : Reply
 -- What is said of a file to run with this fuel.
 pub data RunSays (writes : Writing) (name file : List ℕ) (fuel : ℕ) (reply : Reply) : Type 0 where
   -- The component is accepted: a run of its program.
-  Runs : (p : Program) → IsAcceptedAs file p → TellsRun writes p fuel reply → RunSays writes name file fuel reply
+  Runs : (p : Program) → IsAcceptedAs file p → TellsRun writes p fuel reply
+      → RunSays writes name file fuel reply
   -- The component is refused: 1, and where and by which rule.
-  Refuses : (rule : Rule) (place : Place) → BreaksOne file rule place → reply ≡ record { status = 1; out = []; note = refusal name rule place; journal = no_run }
+  Refuses : (rule : Rule) (place : Place) → BreaksOne file rule place
+      → reply ≡ record { status = 1; out = []; note = refusal name rule place; journal = no_run }
       → RunSays writes name file fuel reply
 
 -- ---- check
@@ -114,31 +121,40 @@ accepted = line (codes "accepted")
 -- What is said of a file to check.
 pub data CheckSays (name file : List ℕ) (reply : Reply) : Type 0 where
   -- The component is accepted: 0, and the word for it.
-  Accepts : (program : Program) → IsAcceptedAs file program → reply ≡ record { status = 0; out = accepted; note = []; journal = no_run } → CheckSays name file reply
+  Accepts : (program : Program) → IsAcceptedAs file program
+      → reply ≡ record { status = 0; out = accepted; note = []; journal = no_run }
+      → CheckSays name file reply
   -- The component is refused: 1, and where and by which rule.
-  AcceptsNone : (rule : Rule) (place : Place) → BreaksOne file rule place → reply ≡ record { status = 1; out = []; note = refusal name rule place; journal = no_run }
+  AcceptsNone : (rule : Rule) (place : Place) → BreaksOne file rule place
+      → reply ≡ record { status = 1; out = []; note = refusal name rule place; journal = no_run }
       → CheckSays name file reply
 
 -- ---- show
 
--- The file is shown as this text: it keeps the rules of its tokens and of the grammar, and the text is the canonical one of its tokens.
+-- The file is shown as this text: it keeps the rules of its tokens and of the grammar, and the text
+-- is the canonical one of its tokens.
 pub record IsShownAs (file text : List ℕ) : Type 0 where
   pub tokens : Tokens
   pub has : HasTokens file tokens
   pub grammatical : IsGrammatical tokens
   pub shown : text ≡ canonical tokens
 
--- The file is no component, by this rule, at this place: a rule of its tokens that it breaks; or one of the grammar that its tokens break.
+-- The file is no component, by this rule, at this place: a rule of its tokens that it breaks; or
+-- one of the grammar that its tokens break.
 pub data IsNoComponent (file : List ℕ) (rule : Rule) (place : Place) : Type 0 where
   in_tokens : BreaksRule file rule place → IsNoComponent file rule place
-  in_grammar : (tokens : Tokens) → HasTokens file tokens → BreaksGrammar tokens rule place → IsNoComponent file rule place
+  in_grammar : (tokens : Tokens) → HasTokens file tokens → BreaksGrammar tokens rule place
+      → IsNoComponent file rule place
 
 -- What is said of a file to show.
 pub data ShowSays (name file : List ℕ) (reply : Reply) : Type 0 where
   -- The file is a component: 0, and its canonical text.
-  Shows : (text : List ℕ) → IsShownAs file text → reply ≡ record { status = 0; out = text; note = []; journal = no_run } → ShowSays name file reply
+  Shows : (text : List ℕ) → IsShownAs file text
+      → reply ≡ record { status = 0; out = text; note = []; journal = no_run }
+      → ShowSays name file reply
   -- It is none: 1, and where and by which rule.
-  ShowsNone : (rule : Rule) (place : Place) → IsNoComponent file rule place → reply ≡ record { status = 1; out = []; note = refusal name rule place; journal = no_run }
+  ShowsNone : (rule : Rule) (place : Place) → IsNoComponent file rule place
+      → reply ≡ record { status = 1; out = []; note = refusal name rule place; journal = no_run }
       → ShowSays name file reply
 
 -- ---- audit
@@ -151,7 +167,8 @@ record_limit = 1073741824
 abbrev pub refused_record : Why → Reply
 refused_record w = record { status = 9; out = []; note = note_of w; journal = no_run }
 
--- The reply to a record, by what its audit answers: 0, and the output that it records; or why it is refused.
+-- The reply to a record, by what its audit answers: 0, and the output that it records; or why it is
+-- refused.
 abbrev pub audited : a_record.Record → Audited → Reply
 audited r Yes = record { status = 0; out = r.output; note = []; journal = no_run }
 audited r (NotARun n) = refused_record (why.Pick n)
@@ -160,27 +177,39 @@ audited r (OtherOutput n) = refused_record (why.Output n)
 -- What is said of the bytes of a record, for a program.
 pub data RecordSays (p : Program) (bytes : List ℕ) (reply : Reply) : Type 0 where
   -- They are a record: what its audit answers.
-  IsKept : (r : a_record.Record) (answer : Audited) → IsRecordText bytes r.journal r.output → Audits p r answer → reply ≡ audited r answer → RecordSays p bytes reply
+  IsKept : (r : a_record.Record) (answer : Audited) → IsRecordText bytes r.journal r.output
+      → Audits p r answer → reply ≡ audited r answer → RecordSays p bytes reply
   -- They are none: 9, and from which byte on.
-  Formless : (at : ℕ) → IsFormFault bytes at → reply ≡ refused_record (why.Form at) → RecordSays p bytes reply
+  Formless : (at : ℕ) → IsFormFault bytes at → reply ≡ refused_record (why.Form at)
+      → RecordSays p bytes reply
 
--- What is meant to say of a record, for a program, what the shelf tells of the record's name, and its counts of faults before and after.
-pub data RecordMeans (p : Program) (holding : Holding) (before after : ℕ) (reply : Reply) : Type 0 where
+-- What is meant to say of a record, for a program, what the shelf tells of the record's name, and
+-- its counts of faults before and after.
+pub data RecordMeans (p : Program) (holding : Holding) (before after : ℕ)
+    (reply : Reply) : Type 0 where
   -- It was read to its end.
-  RecordRead : (bytes : List ℕ) → IsFile holding bytes → length bytes ≤ record_limit → after ≡ before → RecordSays p bytes reply → RecordMeans p holding before after reply
+  RecordRead : (bytes : List ℕ) → IsFile holding bytes → length bytes ≤ record_limit
+      → after ≡ before → RecordSays p bytes reply → RecordMeans p holding before after reply
   -- The shelf's count of faults rose: 3.
-  RecordUnread : Rose before after → reply ≡ record { status = 3; out = []; note = read_fault; journal = no_run } → RecordMeans p holding before after reply
+  RecordUnread : Rose before after
+      → reply ≡ record { status = 3; out = []; note = read_fault; journal = no_run }
+      → RecordMeans p holding before after reply
   -- It goes on behind its limit: 8.
-  RecordTooLarge : (bytes : List ℕ) → IsFile holding bytes → record_limit < length bytes → after ≡ before
-      → reply ≡ record { status = 8; out = []; note = too_large; journal = no_run } → RecordMeans p holding before after reply
+  RecordTooLarge : (bytes : List ℕ) → IsFile holding bytes → record_limit < length bytes
+      → after ≡ before
+      → reply ≡ record { status = 8; out = []; note = too_large; journal = no_run }
+      → RecordMeans p holding before after reply
 
 -- What is meant to say of a component's file, for what the shelf tells of the record's name.
-pub data AuditMeans (name file : List ℕ) (holding : Holding) (before after : ℕ) (reply : Reply) : Type 0 where
+pub data AuditMeans (name file : List ℕ) (holding : Holding) (before after : ℕ)
+    (reply : Reply) : Type 0 where
   -- The component is accepted: what is said of the record, for its program.
-  OfProgram : (p : Program) → IsAcceptedAs file p → RecordMeans p holding before after reply → AuditMeans name file holding before after reply
+  OfProgram : (p : Program) → IsAcceptedAs file p → RecordMeans p holding before after reply
+      → AuditMeans name file holding before after reply
   -- It is refused, before the record is read: 1, and where and by which rule.
   OfNone : (rule : Rule) (place : Place) → BreaksOne file rule place → after ≡ before
-      → reply ≡ record { status = 1; out = []; note = refusal name rule place; journal = no_run } → AuditMeans name file holding before after reply
+      → reply ≡ record { status = 1; out = []; note = refusal name rule place; journal = no_run }
+      → AuditMeans name file holding before after reply
 
 -- ---- all commands
 
@@ -191,7 +220,8 @@ bench_fuel = 20000000
 abbrev pub bench_name : List ℕ
 bench_name = codes "bench"
 
--- These are the bytes that a command is about: those of its component's file, where the shelf tells them, or the bank's text.
+-- These are the bytes that a command is about: those of its component's file, where the shelf tells
+-- them, or the bank's text.
 abbrev pub IsText : (List ℕ → Holding) → Command → List ℕ → Type 0
 IsText holding (Check name) text = IsFile (holding name) text
 IsText holding (Show name) text = IsFile (holding name) text
@@ -214,7 +244,8 @@ abbrev pub IsOfOneFile : Command → Type 0
 IsOfOneFile (Audit name kept) = ⊥
 IsOfOneFile other = Unit {0}
 
--- What a command says of its text, once that is there; an audit has two files, and isn't here. How many workers there are is not asked.
+-- What a command says of its text, once that is there; an audit has two files, and isn't here. How
+-- many workers there are is not asked.
 abbrev pub CommandSays : Command → List ℕ → Reply → Type 0
 CommandSays (Check name) text reply = CheckSays name text reply
 CommandSays (Show name) text reply = ShowSays name text reply
@@ -223,19 +254,30 @@ CommandSays (Bench accounts) text reply = RunSays its_output bench_name text ben
 CommandSays (Record name workers fuel) text reply = RunSays its_record name text fuel reply
 CommandSays (Audit name kept) text reply = ⊥
 
--- What a call means to say, for its words, what the shelf tells, and its counts of faults before and after.
-pub data Means (words : List (List ℕ)) (holding : List ℕ → Holding) (before after : ℕ) (reply : Reply) : Type 0 where
+-- What a call means to say, for its words, what the shelf tells, and its counts of faults before
+-- and after.
+pub data Means (words : List (List ℕ)) (holding : List ℕ → Holding) (before after : ℕ)
+    (reply : Reply) : Type 0 where
   -- The text was read to its end: what the command says of it.
-  Judged : (command : Command) (text : List ℕ) → IsCommand words command → IsText holding command text → length text ≤ file_limit
+  Judged : (command : Command) (text : List ℕ) → IsCommand words command
+      → IsText holding command text → length text ≤ file_limit
       → after ≡ before → CommandSays command text reply → Means words holding before after reply
-  -- They ask for an audit, and the component's file was read to its end: what is meant to say of both files.
-  JudgedBoth : (name kept file : List ℕ) → IsCommand words (Audit name kept) → IsFile (holding name) file → length file ≤ file_limit
-      → AuditMeans name file (holding kept) before after reply → Means words holding before after reply
+  -- They ask for an audit, and the component's file was read to its end: what is meant to say of
+  -- both files.
+  JudgedBoth : (name kept file : List ℕ) → IsCommand words (Audit name kept)
+      → IsFile (holding name) file → length file ≤ file_limit
+      → AuditMeans name file (holding kept) before after reply
+      → Means words holding before after reply
   -- The words are no command: 2, and no file is asked for.
-  NoCommand : IsNoCommand words → after ≡ before → reply ≡ record { status = 2; out = []; note = usage; journal = no_run } → Means words holding before after reply
+  NoCommand : IsNoCommand words → after ≡ before
+      → reply ≡ record { status = 2; out = []; note = usage; journal = no_run }
+      → Means words holding before after reply
   -- The shelf's count of faults rose: 3.
-  Unread : (command : Command) → IsCommand words command → Rose before after → reply ≡ record { status = 3; out = []; note = read_fault; journal = no_run }
+  Unread : (command : Command) → IsCommand words command → Rose before after
+      → reply ≡ record { status = 3; out = []; note = read_fault; journal = no_run }
       → Means words holding before after reply
   -- The text goes on behind the limit: 8.
-  TooLarge : (command : Command) (text : List ℕ) → IsCommand words command → IsText holding command text → file_limit < length text
-      → after ≡ before → reply ≡ record { status = 8; out = []; note = too_large; journal = no_run } → Means words holding before after reply
+  TooLarge : (command : Command) (text : List ℕ) → IsCommand words command
+      → IsText holding command text → file_limit < length text
+      → after ≡ before → reply ≡ record { status = 8; out = []; note = too_large; journal = no_run }
+      → Means words holding before after reply

@@ -1,4 +1,5 @@
--- The replies that the code tells apart. It restates the chapter "Statuses and notes" of docs/LANGUAGE.md.
+-- The replies that the code tells apart. It restates the chapter "Statuses and notes" of
+-- docs/LANGUAGE.md.
 use Rattle.std.specs.Prelude.{◌≡◌, ℕ, List, []}
 use Rattle.fort_base.specs.declared.refusal.CheckFault.{CheckFault}
 use Rattle.fort_base.specs.declared.refusal.CheckFault.TheVariants as a_fault
@@ -21,7 +22,8 @@ note_of (told.Uncaught note) = note
 note_of told.OutOfFuel = out_of_fuel
 
 abbrev pub said : Answer → Reply
-said (Ran journal text end) = record { status = status_of end; out = text; note = note_of end; journal = journal }
+said (Ran journal text end) =
+    record { status = status_of end; out = text; note = note_of end; journal = journal }
 said Accepted = record { status = 0; out = accepted; note = []; journal = no_run }
 said (Shown text) = record { status = 0; out = text; note = []; journal = no_run }
 said (Refused note) = record { status = 1; out = []; note = note; journal = no_run }

@@ -31,7 +31,9 @@ pub(crate) fn audit_file<F: Shelf>(
 ) -> Result<Answer, Memory>
     requires { length file.now ≤ file_limit }
     ensures kept { F.holding shelf.new ≡ F.holding shelf.old }
-    ensures means { IfOk result (λ a. AuditMeans name file.now (F.holding shelf.old kept.now) (F.faults shelf.old) (F.faults shelf.new) (said a)) }
+    ensures means { IfOk result
+        (λ a. AuditMeans name file.now (F.holding shelf.old kept.now) (F.faults shelf.old)
+        (F.faults shelf.new) (said a)) }
 {
     tokens_stand_apart();
     match tokens(alloc, file.as_slice()) {
@@ -50,7 +52,9 @@ fn audit_tokens<F: Shelf>(
 ) -> Result<Answer, Memory>
     requires { StandApart tokens.now.list }
     ensures kept { F.holding shelf.new ≡ F.holding shelf.old }
-    ensures means { IfOk result (λ a. (file : Seq ℕ) → HasTokens file tokens.now → AuditMeans name file (F.holding shelf.old kept.now) (F.faults shelf.old) (F.faults shelf.new) (said a)) }
+    ensures means { IfOk result (λ a. (file : Seq ℕ) → HasTokens file tokens.now
+        → AuditMeans name file (F.holding shelf.old kept.now) (F.faults shelf.old)
+        (F.faults shelf.new) (said a)) }
 {
     accepted_is_written();
     match check(alloc, tokens) {
@@ -68,7 +72,9 @@ fn audit_program<F: Shelf>(
 ) -> Result<Answer, Memory>
     requires { WrittenProgram program.now }
     ensures kept { F.holding shelf.new ≡ F.holding shelf.old }
-    ensures means { IfOk result (λ a. RecordMeans program.now (F.holding shelf.old kept.now) (F.faults shelf.old) (F.faults shelf.new) (said a)) }
+    ensures means { IfOk result
+        (λ a. RecordMeans program.now (F.holding shelf.old kept.now) (F.faults shelf.old)
+        (F.faults shelf.new) (said a)) }
 {
     match read_file(alloc, shelf, kept, RECORD_LIMIT) {
         Ok(bytes) => audit_bytes(alloc, program, &bytes),
@@ -93,7 +99,8 @@ fn audit_bytes(alloc: Global, program: &Program, bytes: &Bytes) -> Result<Answer
 /// What is to say of a record.
 fn audit_record(alloc: Global, program: &Program, kept: Record) -> Result<Answer, Memory>
     requires { WrittenProgram program.now }
-    ensures { IfOk result (λ a. (answer : Audited) × Audits program.now kept answer × (said a ≡ audited kept answer)) }
+    ensures { IfOk result (λ a.
+        (answer : Audited) × Audits program.now kept answer × (said a ≡ audited kept answer)) }
 {
     match audit(alloc, program, &kept)? {
         Audited::NotARun(at) => record_refused(alloc, Why::Pick(at)),

@@ -24,7 +24,8 @@ pub(crate) fn check_file(alloc: Global, name: Bytes, file: &Bytes) -> Result<Ans
 
 /// What is to say of a file of these tokens.
 fn accepted(alloc: Global, name: Bytes, tokens: &Tokens) -> Result<Answer, Memory>
-    ensures { IfOk result (λ a. (file : Seq ℕ) → HasTokens file tokens.now → CheckSays name file (said a)) }
+    ensures { IfOk result (λ a. (file : Seq ℕ) → HasTokens file tokens.now
+        → CheckSays name file (said a)) }
 {
     match check(alloc, tokens) {
         Ok(_) => Ok(Answer::Accepted),

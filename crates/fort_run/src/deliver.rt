@@ -35,9 +35,21 @@ pub(crate) fn deliver<K: Sink, N: Sink>(
 /// Writes all the bytes, or the first of them up to a fault.
 pub(crate) fn write_all<K: Sink>(sink: &mut K, bytes: &[u8]) -> Result<(), Failed>
     requires { K.can_write sink.old }
-    ensures ok { OnOk result (Takes (record { was = K.written sink.old; is = K.written sink.new; faults_were = K.faults sink.old; faults_are = K.faults sink.new }) bytes.now) }
+    ensures ok { OnOk result
+        (Takes (record {
+          was = K.written sink.old;
+          is = K.written sink.new;
+          faults_were = K.faults sink.old;
+          faults_are = K.faults sink.new;
+        }) bytes.now) }
     ensures ready { OnOk result (K.can_write sink.new) }
-    ensures err { OnErr result (Fails (record { was = K.written sink.old; is = K.written sink.new; faults_were = K.faults sink.old; faults_are = K.faults sink.new }) bytes.now) }
+    ensures err { OnErr result
+        (Fails (record {
+          was = K.written sink.old;
+          is = K.written sink.new;
+          faults_were = K.faults sink.old;
+          faults_are = K.faults sink.new;
+        }) bytes.now) }
 {
     let mut done = 0;
     while done < bytes.len() {

@@ -60,7 +60,8 @@ pub(crate) fn read_file<F: Shelf>(
     ensures file { IfOk result (λ file. IsFile (F.holding shelf.old name.now) file) }
     ensures within { IfOk result (λ file. length file ≤ limit) }
     ensures calm { OnOk result (F.faults shelf.new ≡ F.faults shelf.old) }
-    ensures stops { IfErr result (Stops limit (F.holding shelf.old name.now) (F.faults shelf.old) (F.faults shelf.new)) }
+    ensures stops { IfErr result
+        (Stops limit (F.holding shelf.old name.now) (F.faults shelf.old) (F.faults shelf.new)) }
 {
     let mut piece = buffer(alloc)?;
     let mut file = List::new(alloc);
@@ -94,9 +95,13 @@ fn read_more<F: Shelf>(
     ensures kept { F.holding shelf.new ≡ F.holding shelf.old }
     ensures calm { OnOk result (F.faults shelf.new ≡ F.faults shelf.old) }
     ensures front { OnOk result (IsFrontOf (F.holding shelf.old name.now) file.new) }
-    ensures end { result ≡ Ok true → (file.new ≡ file.old) × IsFile (F.holding shelf.old name.now) file.old }
-    ensures more { result ≡ Ok false → (length file.old < length file.new) × (length file.new ≤ length file.old + length into.old) }
-    ensures stops { IfErr result (Stops limit (F.holding shelf.old name.now) (F.faults shelf.old) (F.faults shelf.new)) }
+    ensures end { result ≡ Ok true
+        → (file.new ≡ file.old) × IsFile (F.holding shelf.old name.now) file.old }
+    ensures more { result ≡ Ok false
+        → (length file.old < length file.new)
+        × (length file.new ≤ length file.old + length into.old) }
+    ensures stops { IfErr result
+        (Stops limit (F.holding shelf.old name.now) (F.faults shelf.old) (F.faults shelf.new)) }
 {
     let _limit = limit;
     let count = shelf.read_at(name, file.len() as u64, into)?;

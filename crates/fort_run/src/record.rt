@@ -34,7 +34,9 @@ pub(crate) fn record_file(
 /// The same of a run with its record in the place of its output.
 fn recorded(alloc: Global, journal: Journal, output: &Bytes, end: Told) -> Result<Answer, Memory>
     requires { HasText journal.ending }
-    ensures { IfOk result (λ a. (text : Seq ℕ) × IsRecordText text journal output.now × (a ≡ Answer.Ran journal text end)) }
+    ensures { IfOk result (λ a.
+        (text : Seq ℕ) × IsRecordText text journal output.now
+        × (a ≡ Answer.Ran journal text end)) }
 {
     let text = record_of(alloc, &journal, output)?;
     Ok(Answer::Ran(journal, text, end))

@@ -30,7 +30,9 @@ pub(crate) fn reply_to<F: Shelf>(
     shelf: &mut F,
 ) -> Result<Answer, Memory>
     ensures kept { F.holding shelf.new ≡ F.holding shelf.old }
-    ensures means { IfOk result (λ a. Means (map string_bytes words.now) (F.holding shelf.old) (F.faults shelf.old) (F.faults shelf.new) (said a)) }
+    ensures means { IfOk result
+        (λ a. Means (map string_bytes words.now) (F.holding shelf.old) (F.faults shelf.old)
+        (F.faults shelf.new) (said a)) }
 {
     match command_of(alloc, words) {
         Ok(command) => asked(alloc, command, shelf),
@@ -43,7 +45,9 @@ pub(crate) fn reply_to<F: Shelf>(
 fn asked<F: Shelf>(alloc: Global, command: Command, shelf: &mut F) -> Result<Answer, Memory>
     requires { IsBounded command }
     ensures kept { F.holding shelf.new ≡ F.holding shelf.old }
-    ensures means { IfOk result (λ a. (words : Seq (Seq ℕ)) → IsCommand words command → Means words (F.holding shelf.old) (F.faults shelf.old) (F.faults shelf.new) (said a)) }
+    ensures means { IfOk result (λ a. (words : Seq (Seq ℕ)) → IsCommand words command
+        → Means words (F.holding shelf.old) (F.faults shelf.old) (F.faults shelf.new)
+        (said a)) }
 {
     match read_text(alloc, &command, shelf) {
         Ok(text) => judged(alloc, command, &text, shelf),
@@ -60,7 +64,8 @@ fn read_text<F: Shelf>(alloc: Global, command: &Command, shelf: &mut F) -> Resul
     ensures text { IfOk result (IsText (F.holding shelf.old) command.now) }
     ensures within { IfOk result (λ text. length text ≤ file_limit) }
     ensures calm { OnOk result (F.faults shelf.new ≡ F.faults shelf.old) }
-    ensures stops { IfErr result (StopsAt (F.holding shelf.old) command.now (F.faults shelf.old) (F.faults shelf.new)) }
+    ensures stops { IfErr result
+        (StopsAt (F.holding shelf.old) command.now (F.faults shelf.old) (F.faults shelf.new)) }
 {
     match command {
         Command::Check(name) => read_file(alloc, shelf, name, FILE_LIMIT),
@@ -96,7 +101,9 @@ fn judged<F: Shelf>(
     requires is_text { IsText (F.holding shelf.old) command text.now }
     requires within { length text.now ≤ file_limit }
     ensures kept { F.holding shelf.new ≡ F.holding shelf.old }
-    ensures means { IfOk result (λ a. (words : Seq (Seq ℕ)) → IsCommand words command → Means words (F.holding shelf.old) (F.faults shelf.old) (F.faults shelf.new) (said a)) }
+    ensures means { IfOk result (λ a. (words : Seq (Seq ℕ)) → IsCommand words command
+        → Means words (F.holding shelf.old) (F.faults shelf.old) (F.faults shelf.new)
+        (said a)) }
 {
     match command {
         Command::Audit(name, kept) => audit_file(alloc, name, &kept, text, shelf),

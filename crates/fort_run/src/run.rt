@@ -54,7 +54,8 @@ fn formed(alloc: Global, name: Bytes, tokens: &Tokens, fuel: u64) -> Result<Answ
     requires never { (p : Program) → IsAccepted tokens.now p → StopsShort p → ⊥ }
     requires one { (p : Program) → IsAccepted tokens.now p → AlwaysOne p }
     requires through { (p : Program) → IsAccepted tokens.now p → GoesThrough p }
-    ensures { IfOk result (λ a. (file : Seq ℕ) → HasTokens file tokens.now → RunSays its_output name file fuel (said a)) }
+    ensures { IfOk result (λ a. (file : Seq ℕ) → HasTokens file tokens.now
+        → RunSays its_output name file fuel (said a)) }
 {
     accepted_is_written();
     match check(alloc, tokens) {
@@ -63,8 +64,8 @@ fn formed(alloc: Global, name: Bytes, tokens: &Tokens, fuel: u64) -> Result<Answ
     }
 }
 
-/// What is to say of a component's program: it runs, to its end. Its calls' declarations are found by
-/// its tables.
+/// What is to say of a component's program: it runs, to its end. Its calls' declarations are found
+/// by its tables.
 fn run_program(alloc: Global, program: &Program, fuel: u64) -> Result<Answer, Memory>
     requires written { WrittenProgram program.now }
     requires never { StopsShort program.now → ⊥ }
@@ -91,7 +92,8 @@ fn told(alloc: Global, program: &Program, fuel: u64, ran: Ran) -> Result<Answer,
 /// How a run ended.
 fn end_of(alloc: Global, program: &Program, ending: &Ending) -> Result<Told, Memory>
     requires { ending.now ≢ an_ending.NotRun }
-    ensures { IfOk result (λ end. TellsEnding program.now ending.now (status_of end) (note_of end)) }
+    ensures { IfOk result
+        (λ end. TellsEnding program.now ending.now (status_of end) (note_of end)) }
 {
     match ending {
         Ending::Uncaught(value) => Ok(Told::Uncaught(uncaught(alloc, program, value)?)),

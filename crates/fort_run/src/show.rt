@@ -26,7 +26,8 @@ pub(crate) fn show_file(alloc: Global, name: Bytes, file: &Bytes) -> Result<Answ
 /// What is to say of a file of these tokens.
 fn show_tokens(alloc: Global, name: Bytes, tokens: &Tokens) -> Result<Answer, Memory>
     requires { HasItsNumbers tokens.now }
-    ensures { IfOk result (λ a. (file : Seq ℕ) → HasTokens file tokens.now → ShowSays name file (said a)) }
+    ensures { IfOk result (λ a. (file : Seq ℕ) → HasTokens file tokens.now
+        → ShowSays name file (said a)) }
 {
     match check_grammar(alloc, tokens) {
         Ok(()) => Ok(Answer::Shown(shown(alloc, tokens)?)),

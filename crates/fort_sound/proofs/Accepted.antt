@@ -23,4 +23,9 @@ pub runs_well : AcceptedIsSound → ReachedIsTyped → ReachedIsOne → NoRunIsS
 runs_well sound typed one never bytes tokens p file a inner s t r =
     let f = sound bytes tokens p file a in
     let w = typed p f.sound inner s t r in
-    record { type = w.0; typed = w.1; one = one p f.sound f.defined inner s t r; goes = never p f.sound f.defined f.complete inner s t r }
+    record {
+      type = w.0;
+      typed = w.1;
+      one = one p f.sound f.defined inner s t r;
+      goes = never p f.sound f.defined f.complete inner s t r;
+    }

@@ -22,11 +22,13 @@ use Rattle.fort_sound_program.proofs.Order.{computed, rows_through}
 use Rattle.fort_sound_program.proofs.SingleObjects.{no_match, no_item, single_is_value}
 use Rattle.fort_sound_program.proofs.Suiting.{tops, fields, mutable}
 
-module _ (tokens : Tokens) (c : Component) (h : Hierarchy) (m : Members) (groups : Groups) (typed : Typed) (p : Program) (ok : Checked tokens c h m groups typed p) where
+module _ (tokens : Tokens) (c : Component) (h : Hierarchy) (m : Members) (groups : Groups)
+    (typed : Typed) (p : Program) (ok : Checked tokens c h m groups typed p) where
   named_by : (f : BuiltIn → TypeId) → Named (f p.built_in) ≡ Named (f BUILT_IN)
   named_by f = ap (λ b. Named (f b)) ok.program.built_in
 
-  pub suited : (owner : Option TypeId) → Suits (within (known_of c h m) owner) (given m c.texts typed) p
+  pub suited : (owner : Option TypeId)
+      → Suits (within (known_of c h m) owner) (given m c.texts typed) p
   suited owner = record {
     told = λ a b n w. computed c h ok.hierarchy p ok.program.types a b n w;
     through = rows_through c h ok.hierarchy p ok.program.types;
@@ -36,16 +38,17 @@ module _ (tokens : Tokens) (c : Component) (h : Hierarchy) (m : Members) (groups
     truth = named_by (λ b. b.truth);
     range = named_by (λ b. b.range);
     thrown = named_by (λ b. b.exception);
-    declared = λ set s i d e st. let w = declared tokens c h m groups typed p ok set s i d e st in record {
-      members = w.members;
-      number = w.number;
-      decl = w.decl;
-      is_set = w.is_set;
-      is_member = w.is_member;
-      is_decl = w.is_decl;
-      parameters = w.parameters;
-      result = w.result;
-    };
+    declared = λ set s i d e st. let w = declared tokens c h m groups typed p ok set s i d e st
+        in record {
+          members = w.members;
+          number = w.number;
+          decl = w.decl;
+          is_set = w.is_set;
+          is_member = w.is_member;
+          is_decl = w.is_decl;
+          parameters = w.parameters;
+          result = w.result;
+        };
     widens = widens tokens c h m groups typed p ok;
     joins = joins tokens c h m groups typed p ok owner;
     tops = tops tokens c h m groups typed p ok;

@@ -31,8 +31,12 @@ use Rattle.fort_front.specs.Front.{IsAccepted}
 use Rattle.fort_lex.specs.Files.{HasTokens}
 use Rattle.fort_numerals.specs.Numerals.{Fits}
 
--- A component that keeps all the rules, with its program: tokens that stand apart are its tree, whose flat expressions have these groupings; its declared types are a hierarchy; it has these members, and each of its overload sets keeps the rules; its forms have these types; each number among its tokens is a ZZ64; and this is its program.
-pub record KeepsAll (tokens : Tokens) (c : Component) (h : Hierarchy) (m : Members) (groups : Groups) (typed : Typed) (p : Program) : Type 0 where
+-- A component that keeps all the rules, with its program: tokens that stand apart are its tree,
+-- whose flat expressions have these groupings; its declared types are a hierarchy; it has these
+-- members, and each of its overload sets keeps the rules; its forms have these types; each number
+-- among its tokens is a ZZ64; and this is its program.
+pub record KeepsAll (tokens : Tokens) (c : Component) (h : Hierarchy) (m : Members)
+    (groups : Groups) (typed : Typed) (p : Program) : Type 0 where
   pub apart : StandApart tokens.list
   pub tree : HasTree tokens c
   pub grouped : HasGroups (flats c) groups.list
@@ -49,21 +53,29 @@ pub record IsFounded (p : Program) : Type 0 where
   pub defined : Defined p
   pub complete : Complete p
 
--- The program of a component that keeps all the rules is sound and complete, and each call of typed values in it has one definition.
+-- The program of a component that keeps all the rules is sound and complete, and each call of typed
+-- values in it has one definition.
 abbrev pub KeepersAreSound : Type 0
-KeepersAreSound = (tokens : Tokens) (c : Component) (h : Hierarchy) (m : Members) (groups : Groups) (typed : Typed) (p : Program) → KeepsAll tokens c h m groups typed p → IsFounded p
+KeepersAreSound = (tokens : Tokens) (c : Component) (h : Hierarchy) (m : Members) (groups : Groups)
+    (typed : Typed) (p : Program) → KeepsAll tokens c h m groups typed p → IsFounded p
 
 -- So is the program of a file whose tokens are accepted.
 abbrev pub AcceptedIsSound : Type 0
-AcceptedIsSound = (bytes : List ℕ) (tokens : Tokens) (p : Program) → HasTokens bytes tokens → IsAccepted tokens p → IsFounded p
+AcceptedIsSound = (bytes : List ℕ) (tokens : Tokens) (p : Program) → HasTokens bytes tokens
+    → IsAccepted tokens p → IsFounded p
 
--- What is so wherever a machine of a program comes to: the term has a type by the types of the store's locations, each call of values in it has exactly one declaration that it runs, and it isn't stuck.
+-- What is so wherever a machine of a program comes to: the term has a type by the types of the
+-- store's locations, each call of values in it has exactly one declaration that it runs, and it
+-- isn't stuck.
 pub record IsWell (p : Program) (inner : Bool) (s : Store) (t : Term) : Type 0 where
   pub type : Ty
   pub typed : TypedBy p t s type
   pub one : IsOne p t
   pub goes : Goes p inner s t
 
--- So it is wherever a machine of the program of an accepted file comes to, the root's or an attempt's.
+-- So it is wherever a machine of the program of an accepted file comes to, the root's or an
+-- attempt's.
 abbrev pub AcceptedRunsWell : Type 0
-AcceptedRunsWell = (bytes : List ℕ) (tokens : Tokens) (p : Program) → HasTokens bytes tokens → IsAccepted tokens p → (inner : Bool) (s : Store) (t : Term) → Reached p inner s t → IsWell p inner s t
+AcceptedRunsWell = (bytes : List ℕ) (tokens : Tokens) (p : Program) → HasTokens bytes tokens
+    → IsAccepted tokens p → (inner : Bool) (s : Store) (t : Term) → Reached p inner s t
+    → IsWell p inner s t

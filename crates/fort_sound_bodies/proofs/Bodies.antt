@@ -34,15 +34,21 @@ use Rattle.fort_sound_bodies.proofs.Parameters.{agrees}
 
 module _ (k : Knows) (A : IsAccepted k) (g : Given) (p : Program) (U : Suits k g p) where
   -- a form below a type, where the variables go with the bindings
-  form_below : {bs : List Binding} {ty : Ty} {e : Form} {t : TypedForm} → rule.HasAs k (Calls k) bs (rule.below ty) e t → AreBound k bs → IsWritten k e → HasFigures e → (s : Scope) (c : Counter) (G : Env)
+  form_below : {bs : List Binding} {ty : Ty} {e : Form} {t : TypedForm}
+      → rule.HasAs k (Calls k) bs (rule.below ty) e t → AreBound k bs → IsWritten k e → HasFigures e
+      → (s : Scope) (c : Counter) (G : Env)
       → Agrees k bs s c.variable G → Has p (opening p) G (let m = translated g t s c in m.term) ty
   form_below {bs} {ty} {e} {t} (rule.suits h w) B W F s c G a =
-      sub p (opening p) (tr k A g p U) (forms_have_types k A g p U bs B e W F t h s c G a) (told k A g p U (type_of t) ty (typed-of k A h B W).0 w)
+      sub p (opening p) (tr k A g p U) (forms_have_types k A g p U bs B e W F t h s c G a)
+      (told k A g p U (type_of t) ty (typed-of k A h B W).0 w)
 
 pub bodies_have_types : BodiesHaveTypes
 bodies_have_types k A g p U b R F t (body inner bs h) types w next =
     let j = within k b.owner in
     let B = accepted_within k b.owner A R.owner in
     let c = typed_body b t in
-    form_below j B g p (suits_within k b.owner g p U) (has_as j (Calls k) (Calls j) (there k b.owner) h) (binds-bound j B bs tt (parameters-bound j B b.parameters R.parameters)) R.written F
-    (scope_of c) (record { variable = width c; function = next }) (binds (numbered 0 types) none) (agrees k b.owner b.receiver b.parameters types inner bs w)
+    form_below j B g p (suits_within k b.owner g p U)
+    (has_as j (Calls k) (Calls j) (there k b.owner) h)
+    (binds-bound j B bs tt (parameters-bound j B b.parameters R.parameters)) R.written F
+    (scope_of c) (record { variable = width c; function = next }) (binds (numbered 0 types) none)
+    (agrees k b.owner b.receiver b.parameters types inner bs w)

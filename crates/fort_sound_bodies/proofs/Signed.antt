@@ -1,4 +1,5 @@
--- The declarations with bodies are the bodies, one after another: each at its place, with the parameters and the result of its body.
+-- The declarations with bodies are the bodies, one after another: each at its place, with the
+-- parameters and the result of its body.
 use Rattle.std.proofs.Common.{◌≡◌, ℕ, ◌≤◌, true, ◌&&◌, List, [], ◌∷◌, ◌++◌, map, Option, Some, None, refl, sym, ap, ◌∙◌, subst, arith}
 use Rattle.std.specs.Prelude.{option_map}
 use Rattle.std.specs.List.{flat_map}
@@ -44,7 +45,8 @@ pub record Signature : Type 0 where
   pub result : Ty
 
 abbrev pub signed_by : MemberKind → Option Place → List Ty → Ty → List Signature
-signed_by a_kind.Concrete (Some place) parameters result = record { place = place; parameters = parameters; result = result } ∷ []
+signed_by a_kind.Concrete (Some place) parameters result =
+    record { place = place; parameters = parameters; result = result } ∷ []
 signed_by _ place parameters result = []
 
 abbrev pub entry_signed : Entry → List Signature
@@ -64,7 +66,8 @@ AreBodies [] [] = Unit {0}
 AreBodies (s ∷ ss) (b ∷ bs) = IsBodyOf s b × AreBodies ss bs
 AreBodies _ _ = ⊥
 
-both_bodies : (ss us : List Signature) (bs cs : List BodyForm) → AreBodies ss bs → AreBodies us cs → AreBodies (ss ++ us) (bs ++ cs)
+both_bodies : (ss us : List Signature) (bs cs : List BodyForm) → AreBodies ss bs → AreBodies us cs
+    → AreBodies (ss ++ us) (bs ++ cs)
 both_bodies [] us [] cs h k = k
 both_bodies [] us (b ∷ bs) cs h k = absurd h
 both_bodies (s ∷ ss) us [] cs h k = absurd h
@@ -79,8 +82,11 @@ none_signed (d ∷ ds) = none_signed ds
 abbrev pub HaveBodies : List Entry → List BodyForm → Type 0
 HaveBodies es bs = AreBodies (all_signed es) bs
 
-have_both : (es fs : List Entry) (bs cs : List BodyForm) → HaveBodies es bs → HaveBodies fs cs → HaveBodies (es ++ fs) (bs ++ cs)
-have_both es fs bs cs h k = subst (λ ss. AreBodies ss (bs ++ cs)) (sym (flat_map-append entry_signed es fs)) (both_bodies (all_signed es) (all_signed fs) bs cs h k)
+have_both : (es fs : List Entry) (bs cs : List BodyForm) → HaveBodies es bs → HaveBodies fs cs
+    → HaveBodies (es ++ fs) (bs ++ cs)
+have_both es fs bs cs h k =
+    subst (λ ss. AreBodies ss (bs ++ cs)) (sym (flat_map-append entry_signed es fs))
+    (both_bodies (all_signed es) (all_signed fs) bs cs h k)
 
 at_most_one : (name : FunctionName) (count : ℕ) → selves_fit name count ≡ true → count ≤ 1
 at_most_one name count e = grind (arith, nat_tests)
@@ -91,56 +97,94 @@ module _ (n : Tables) where
   Keeps x = x.obeys n.names elsewhere ≡ true
 
   -- of each item of a list, one after another
-  have_all : {X : Type 0} (said : X → SaidEntry) (f : X → List Entry) (g : X → List BodyForm) → ((x : X) → Keeps (said x).item → HaveBodies (f x) (g x)) → (xs : List X) → entries_obey n.names (map said xs) ≡ true
+  have_all : {X : Type 0} (said : X → SaidEntry) (f : X → List Entry) (g : X → List BodyForm)
+      → ((x : X) → Keeps (said x).item → HaveBodies (f x) (g x)) → (xs : List X)
+      → entries_obey n.names (map said xs) ≡ true
       → HaveBodies (flat_map f xs) (flat_map g xs)
   have_all said f g each [] e = tt
   have_all said f g each (x ∷ xs) e =
-      let a = both ((said x).item.obeys n.names elsewhere) (begins_apart (said x).semicolon (map said xs) && entries_obey n.names (map said xs)) e in
-      let b = both (begins_apart (said x).semicolon (map said xs)) (entries_obey n.names (map said xs)) a.1 in
-      have_both (f x) (flat_map f xs) (g x) (flat_map g xs) (each x a.0) (have_all said f g each xs b.1)
+      let a = both ((said x).item.obeys n.names elsewhere)
+      (begins_apart (said x).semicolon (map said xs) && entries_obey n.names (map said xs)) e in
+      let b = both (begins_apart (said x).semicolon (map said xs))
+      (entries_obey n.names (map said xs)) a.1 in
+      have_both (f x) (flat_map f xs) (g x) (flat_map g xs) (each x a.0)
+      (have_all said f g each xs b.1)
 
-  function_has : (f : Function) → HaveBodies (function_entry n.types n.names f ∷ []) (function_body n f ∷ [])
-  function_has f = (record { place = refl; takes = function_takes n f.parameters; result = refl }, tt)
+  function_has : (f : Function)
+      → HaveBodies (function_entry n.types n.names f ∷ []) (function_body n f ∷ [])
+  function_has f =
+      (record { place = refl; takes = function_takes n f.parameters; result = refl }, tt)
 
   bodies_have : (t : ℕ) (m : Method) (b : Option MethodBody) → selves m.parameters ≤ 1
-      → AreBodies (signed_by (method_kind b) (Some (function_place m.name)) (method_parameters n.types n.names t m) ((source n).written m.result) ++ []) (method_bodies n (type_id t) m b)
+      → AreBodies
+      (signed_by (method_kind b) (Some (function_place m.name))
+      (method_parameters n.types n.names t m) ((source n).written m.result) ++ [])
+      (method_bodies n (type_id t) m b)
   bodies_have t m None few = tt
-  bodies_have t m (Some b) few = (record { place = refl; takes = method_takes n (type_id t) m.parameters few; result = refl }, tt)
+  bodies_have t m (Some b) few = (
+    record { place = refl; takes = method_takes n (type_id t) m.parameters few; result = refl },
+    tt,
+  )
 
-  method_has : (t : ℕ) (m : Method) → Keeps (said_method m) → HaveBodies (method_entry n.types n.names t m ∷ []) (method_bodies n (type_id t) m m.body)
+  method_has : (t : ℕ) (m : Method) → Keeps (said_method m)
+      → HaveBodies (method_entry n.types n.names t m ∷ []) (method_bodies n (type_id t) m m.body)
   method_has t m e =
-      let parts = maybe_obeys n.names elsewhere (option_map said_method_parameters m.parameters) && ((said_type m.result).obeys n.names elsewhere && body_obeys n.names m.body) in
-      let a = both (name_fits n.names m.name (method_parameter_count m.parameters)) (selves_fit m.name (selves m.parameters) && parts) e in
+      let parts =
+      maybe_obeys n.names elsewhere (option_map said_method_parameters m.parameters)
+      && ((said_type m.result).obeys n.names elsewhere && body_obeys n.names m.body) in
+      let a = both (name_fits n.names m.name (method_parameter_count m.parameters))
+      (selves_fit m.name (selves m.parameters) && parts) e in
       let b = both (selves_fit m.name (selves m.parameters)) parts a.1 in
       bodies_have t m m.body (at_most_one m.name (selves m.parameters) b.0)
 
-  trait_member_has : (t : ℕ) (x : TraitMember) → Keeps (said_trait_member x) → HaveBodies (trait_member_entry n.types n.names t x) (trait_member_body n (type_id t) x)
+  trait_member_has : (t : ℕ) (x : TraitMember) → Keeps (said_trait_member x)
+      → HaveBodies (trait_member_entry n.types n.names t x) (trait_member_body n (type_id t) x)
   trait_member_has t (trait_member.Field name colon ty) e = tt
   trait_member_has t (trait_member.Method m) e = method_has t m e
 
-  object_member_has : (t : ℕ) (x : ObjectMember) → Keeps (said_object_member x) → HaveBodies (object_member_entry n.types n.names t x) (object_member_body n (type_id t) x)
+  object_member_has : (t : ℕ) (x : ObjectMember) → Keeps (said_object_member x)
+      → HaveBodies (object_member_entry n.types n.names t x) (object_member_body n (type_id t) x)
   object_member_has t (object_member.Variable v) e = tt
-  object_member_has t (object_member.Method m) e = method_has t m (both (is_there m.body) ((said_method m).obeys n.names elsewhere) e).1
+  object_member_has t (object_member.Method m) e =
+      method_has t m (both (is_there m.body) ((said_method m).obeys n.names elsewhere) e).1
 
-  constructor_none : (t : ℕ) (o : Object) (ps : Option ObjectParameters) → all_signed (constructor_entry n.types n.names t o ps) ≡ []
+  constructor_none : (t : ℕ) (o : Object) (ps : Option ObjectParameters)
+      → all_signed (constructor_entry n.types n.names t o ps) ≡ []
   constructor_none t o None = refl
   constructor_none t o (Some ps) = refl
 
   -- of an object, its methods
-  without_constructor : (t : ℕ) (o : Object) → all_signed (constructor_entry n.types n.names t o o.parameters ++ flat_map (object_entry n.types n.names t) o.members) ≡ all_signed (flat_map (object_entry n.types n.names t) o.members)
+  without_constructor : (t : ℕ) (o : Object)
+      → all_signed
+      (constructor_entry n.types n.names t o o.parameters
+      ++ flat_map (object_entry n.types n.names t) o.members)
+      ≡ all_signed (flat_map (object_entry n.types n.names t) o.members)
   without_constructor t o = let rest = flat_map (object_entry n.types n.names t) o.members in
-      flat_map-append entry_signed (constructor_entry n.types n.names t o o.parameters) rest ∙ ap (λ z. z ++ all_signed rest) (constructor_none t o o.parameters)
+      flat_map-append entry_signed (constructor_entry n.types n.names t o o.parameters) rest
+      ∙ ap (λ z. z ++ all_signed rest) (constructor_none t o o.parameters)
 
-  declaration_has : (d : Declaration) → Keeps (said_declaration d) → HaveBodies (entries_at n.types n.names d) (bodies n d)
+  declaration_has : (d : Declaration) → Keeps (said_declaration d)
+      → HaveBodies (entries_at n.types n.names d) (bodies n d)
   declaration_has (declaration.Variable v) e = tt
   declaration_has (declaration.Function f) e = function_has f
-  declaration_has (declaration.Trait t) e = let number = number_of n.types (spelling n.names t.name) in
-      have_all said_trait_entry (trait_entry n.types n.names number) (trait_body n (owner n t.name)) (λ x k. trait_member_has number x.member k) t.members e
-  declaration_has (declaration.Object o) e = let number = number_of n.types (spelling n.names o.name) in
-      let a = both (maybe_obeys n.names elsewhere (option_map said_object_parameters o.parameters)) (entries_obey n.names (map said_object_entry o.members)) e in
-      subst (λ ss. AreBodies ss (flat_map (object_body n (owner n o.name)) o.members)) (sym (without_constructor number o))
-      (have_all said_object_entry (object_entry n.types n.names number) (object_body n (owner n o.name)) (λ x k. object_member_has number x.member k) o.members a.1)
+  declaration_has (declaration.Trait t) e =
+      let number = number_of n.types (spelling n.names t.name) in
+      have_all said_trait_entry (trait_entry n.types n.names number) (trait_body n (owner n t.name))
+      (λ x k. trait_member_has number x.member k) t.members e
+  declaration_has (declaration.Object o) e =
+      let number = number_of n.types (spelling n.names o.name) in
+      let a = both (maybe_obeys n.names elsewhere (option_map said_object_parameters o.parameters))
+      (entries_obey n.names (map said_object_entry o.members)) e in
+      subst (λ ss. AreBodies ss (flat_map (object_body n (owner n o.name)) o.members))
+      (sym (without_constructor number o))
+      (have_all said_object_entry (object_entry n.types n.names number)
+      (object_body n (owner n o.name)) (λ x k. object_member_has number x.member k)
+      o.members a.1)
 
   -- The declarations of a component that obeys the rules have its bodies.
-  pub component_has : (ds : List Declared) → entries_obey n.names (map said_declared ds) ≡ true → HaveBodies (flat_map (declared_entries n.types n.names) ds) (flat_map (declared_bodies n) ds)
-  component_has = have_all said_declared (declared_entries n.types n.names) (declared_bodies n) (λ d k. declaration_has d.declaration k)
+  pub component_has : (ds : List Declared) → entries_obey n.names (map said_declared ds) ≡ true
+      → HaveBodies (flat_map (declared_entries n.types n.names) ds)
+      (flat_map (declared_bodies n) ds)
+  component_has =
+      have_all said_declared (declared_entries n.types n.names) (declared_bodies n)
+      (λ d k. declaration_has d.declaration k)

@@ -12,12 +12,17 @@ use Rattle.fort_translation.specs.Parts.{Given}
 use Rattle.fort_sound_forms.specs.Suits.{Suits}
 
 -- a call has the same there
-pub there : (k : Knows) (o : Option TypeId) (set : SetId) (types : List Ty) (result : Ty) (widened : List Bool) → Calls k set types result widened → Calls (within k o) set types result widened
+pub there : (k : Knows) (o : Option TypeId) (set : SetId) (types : List Ty) (result : Ty)
+    (widened : List Bool) → Calls k set types result widened
+    → Calls (within k o) set types result widened
 there k o set types result widened (plain s i d at best stands r w) = plain s i d at best stands r w
-there k o set types result widened (widening s i j q d wide at none least first are best stands r w) = widening s i j q d wide at none least first are best stands r w
+there k o set types result widened
+    (widening s i j q d wide at none least first are best stands r w) =
+    widening s i j q d wide at none least first are best stands r w
 
 -- what is accepted is accepted there, where the type is one of the component
-pub accepted_within : (k : Knows) (o : Option TypeId) → IsAccepted k → ((t : TypeId) → o ≡ Some t → t.0 < length k.declared) → IsAccepted (within k o)
+pub accepted_within : (k : Knows) (o : Option TypeId) → IsAccepted k
+    → ((t : TypeId) → o ≡ Some t → t.0 < length k.declared) → IsAccepted (within k o)
 accepted_within k o A l = record {
   sound = A.sound;
   rows = A.rows;
@@ -31,7 +36,8 @@ accepted_within k o A l = record {
 }
 
 -- what suits suits there
-pub suits_within : (k : Knows) (o : Option TypeId) (g : Given) (p : Program) → Suits k g p → Suits (within k o) g p
+pub suits_within : (k : Knows) (o : Option TypeId) (g : Given) (p : Program) → Suits k g p
+    → Suits (within k o) g p
 unfolding set_of
 suits_within k o g p U = record {
   told = U.told;

@@ -1,4 +1,5 @@
--- The law of one body: where it has a type by the rules, its term has the written result, with the parameters of its declaration as its variables.
+-- The law of one body: where it has a type by the rules, its term has the written result, with the
+-- parameters of its declaration as its variables.
 use Rattle.std.specs.Prelude.{◌≡◌, ◌≤◌, ℕ, zero, suc, List, [], ◌∷◌, length, map, Option, Some, None}
 use Rattle.fort_base.specs.declared.ids.TypeId.{TypeId}
 use Rattle.fort_base.specs.declared.ty.Ty.{Ty}
@@ -25,13 +26,20 @@ inserted zero T ts = T ∷ ts
 inserted (suc n) T [] = T ∷ []
 inserted (suc n) T (t ∷ ts) = t ∷ inserted n T ts
 
--- The parameters of a body's declaration have these types: of a function those that are written; of a method they have the enclosing type among them, where the receiver or `self` stands.
+-- The parameters of a body's declaration have these types: of a function those that are written; of
+-- a method they have the enclosing type among them, where the receiver or `self` stands.
 abbrev pub Takes : Option TypeId → Option ℕ → List Ty → List Ty → Type 0
 Takes None None named types = types ≡ named
 Takes (Some o) (Some r) named types = (r ≤ length named) × (types ≡ inserted r (Named o) named)
 Takes _ _ named types = ⊥
 
--- Of an accepted component and a program that suits it: where a body has a type by the rules, its term has the written result, over the types of the opening store, with the parameters of its declaration as the variables from 0 on.
+-- Of an accepted component and a program that suits it: where a body has a type by the rules, its
+-- term has the written result, over the types of the opening store, with the parameters of its
+-- declaration as the variables from 0 on.
 abbrev pub BodiesHaveTypes : Type 0
-BodiesHaveTypes = (k : Knows) → IsAccepted k → (g : Given) (p : Program) → Suits k g p → (b : BodyForm) → IsBodyReady k b → HasFigures b.body → (t : TypedForm) → HasBody k b t
-    → (types : List Ty) → Takes b.owner b.receiver (map parameter_type b.parameters) types → (next : ℕ) → typed.Has p (opening p) (binds (numbered 0 types) none) (let m = body_made g next (typed_body b t) in m.term) b.result
+BodiesHaveTypes = (k : Knows) → IsAccepted k → (g : Given) (p : Program) → Suits k g p
+    → (b : BodyForm) → IsBodyReady k b → HasFigures b.body → (t : TypedForm) → HasBody k b t
+    → (types : List Ty) → Takes b.owner b.receiver (map parameter_type b.parameters) types
+    → (next : ℕ)
+    → typed.Has p (opening p) (binds (numbered 0 types) none) (let m =
+    body_made g next (typed_body b t) in m.term) b.result

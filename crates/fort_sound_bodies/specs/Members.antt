@@ -1,4 +1,5 @@
--- The law of a component's declarations with bodies. The chapter "Accepted programs" of docs/SOUNDNESS.md.
+-- The law of a component's declarations with bodies. The chapter "Accepted programs" of
+-- docs/SOUNDNESS.md.
 use Rattle.std.specs.Prelude.{◌≡◌, ℕ, slice_get, Some}
 use Rattle.std.specs.List.{AllByRecursion}
 use Rattle.fort_base.specs.declared.refusal.Place.{Place}
@@ -34,9 +35,15 @@ use Rattle.fort_sound_forms.specs.Suits.{Suits}
 abbrev pub IsFitBody : Knows → BodyForm → Type 0
 IsFitBody k b = IsBodyReady k b × HasFigures b.body
 
--- Of an accepted component and a program that suits it: the term at the place of a declaration with a body has the declaration's result, with its parameters as the variables from 0 on.
+-- Of an accepted component and a program that suits it: the term at the place of a declaration with
+-- a body has the declaration's result, with its parameters as the variables from 0 on.
 abbrev pub MembersHaveBodies : Type 0
-MembersHaveBodies = (tokens : Tokens) (c : Component) (m : Members) (groups : Groups) (k : Knows) (typed : Typed) (g : Given) (p : Program) → StandApart tokens.list → HasTree tokens c → AreMembers c m
-    → IsAccepted k → let forms = forms_of c groups in AllByRecursion (IsFitBody k) forms.bodies → HasTypes k forms typed → Suits k g p
-    → (n : ℕ) (s : MemberSet) → slice_get m.sets n ≡ Some s → (i : ℕ) (d : Member) → StandsAt s i d → d.kind ≡ a_kind.Concrete → (place : Place) → d.place ≡ Some place
-    → (t : Term) → body_at (bodies g 0 typed.bodies) place ≡ Some t → Has p (opening p) (binds (numbered 0 d.parameters) none) t d.result
+MembersHaveBodies = (tokens : Tokens) (c : Component) (m : Members) (groups : Groups) (k : Knows)
+    (typed : Typed) (g : Given) (p : Program) → StandApart tokens.list → HasTree tokens c
+    → AreMembers c m
+    → IsAccepted k → let forms = forms_of c groups in AllByRecursion (IsFitBody k) forms.bodies
+    → HasTypes k forms typed → Suits k g p
+    → (n : ℕ) (s : MemberSet) → slice_get m.sets n ≡ Some s → (i : ℕ) (d : Member) → StandsAt s i d
+    → d.kind ≡ a_kind.Concrete → (place : Place) → d.place ≡ Some place
+    → (t : Term) → body_at (bodies g 0 typed.bodies) place ≡ Some t
+    → Has p (opening p) (binds (numbered 0 d.parameters) none) t d.result

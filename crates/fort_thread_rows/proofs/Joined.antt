@@ -30,22 +30,35 @@ pub record BothIn (start one mid other end : Pass Book) (book : Book) : Type 0 w
   pub other_goes : Goes other second_book
   pub end_goes : Goes end book
 
-module _ (start one mid other end : Pass Book) (book : Book) (x y : List Line) (b : BothIn start one mid other end book) (w : HasWritten one 1 x) (z : HasWritten other 2 y) where
+module _ (start one mid other end : Pass Book) (book : Book) (x y : List Line)
+    (b : BothIn start one mid other end book) (w : HasWritten one 1 x)
+    (z : HasWritten other 2 y) where
   mid_has : (k : ℕ) → has k (0 ∷ 1 ∷ []) ≡ true → has k (numbers_of mid) ≡ true
   mid_has k h = ap (has k) (b.mid_numbers ∙ (λ i. b.start_numbers i ++ w.1 i)) ∙ h
 
   end_has : (k : ℕ) → has k (0 ∷ 1 ∷ 2 ∷ []) ≡ true → has k (numbers_of end) ≡ true
-  end_has k h = ap (has k) (b.end_numbers ∙ (λ i. (b.mid_numbers ∙ (λ j. b.start_numbers j ++ w.1 j)) i ++ z.1 i)) ∙ h
+  end_has k h =
+      ap (has k) (b.end_numbers
+      ∙ (λ i. (b.mid_numbers ∙ (λ j. b.start_numbers j ++ w.1 j)) i ++ z.1 i)) ∙ h
 
   -- from the first join on
-  later : (k : ℕ) → has k (0 ∷ 1 ∷ []) ≡ true → has k (0 ∷ 1 ∷ 2 ∷ []) ≡ true → lines_in k (Some book) ≡ lines_in k (Some b.first_book)
-  later k h h' = b.end_goes.own k (end_has k h') ∙ (ap (lines_in k) b.end_seen ∙ (b.mid_goes.own k (mid_has k h) ∙ ap (lines_in k) b.mid_seen))
+  later : (k : ℕ) → has k (0 ∷ 1 ∷ []) ≡ true → has k (0 ∷ 1 ∷ 2 ∷ []) ≡ true
+      → lines_in k (Some book) ≡ lines_in k (Some b.first_book)
+  later k h h' =
+      b.end_goes.own k (end_has k h')
+      ∙ (ap (lines_in k) b.end_seen ∙ (b.mid_goes.own k (mid_has k h) ∙ ap (lines_in k) b.mid_seen))
 
   pub of_start : lines_in 0 (Some book) ≡ lines_in 0 (seen_by start)
   of_start = later 0 refl refl ∙ b.start_goes.own 0 (ap (has 0) b.start_numbers)
 
   pub of_one : lines_in 1 (Some book) ≡ x
-  of_one = later 1 refl refl ∙ (b.one_goes.own 1 (ap (has 1) w.1) ∙ (ap (λ (n : ℕ). lines_in n (seen_by one)) (sym w.0) ∙ w.3))
+  of_one = later 1 refl refl
+      ∙ (b.one_goes.own 1 (ap (has 1) w.1)
+      ∙ (ap (λ (n : ℕ). lines_in n (seen_by one)) (sym w.0) ∙ w.3))
 
   pub of_other : lines_in 2 (Some book) ≡ y
-  of_other = b.end_goes.own 2 (end_has 2 refl) ∙ (ap (lines_in 2) b.end_seen ∙ (b.other_goes.own 2 (ap (has 2) z.1) ∙ (ap (λ (n : ℕ). lines_in n (seen_by other)) (sym z.0) ∙ z.3)))
+  of_other =
+      b.end_goes.own 2 (end_has 2 refl)
+      ∙ (ap (lines_in 2) b.end_seen
+      ∙ (b.other_goes.own 2 (ap (has 2) z.1)
+      ∙ (ap (λ (n : ℕ). lines_in n (seen_by other)) (sym z.0) ∙ z.3)))

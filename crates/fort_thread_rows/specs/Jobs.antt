@@ -11,4 +11,5 @@ job n = record { book = record { 0 = 0 }; task = record { 0 = n } }
 
 -- the owner took one, the thief another, the third was left, and then none
 abbrev pub row : ℕ → ℕ → ℕ → Row
-row owned stolen left = record { owned = job owned; stolen = job stolen; left = Some (job left); end = None }
+row owned stolen left =
+    record { owned = job owned; stolen = job stolen; left = Some (job left); end = None }

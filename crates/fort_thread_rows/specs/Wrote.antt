@@ -19,4 +19,5 @@ lines_of p = lines_in (number_of p) (seen_by p)
 
 -- a pass with this number and no other, which has written these lines
 abbrev pub HasWritten : Pass Book → ℕ → List Line → Type 0
-HasWritten p n lines = (number_of p ≡ n) × (numbers_of p ≡ n ∷ []) × (is_first p ≡ false) × (lines_of p ≡ lines)
+HasWritten p n lines = (number_of p ≡ n) × (numbers_of p ≡ n ∷ []) × (is_first p ≡ false)
+    × (lines_of p ≡ lines)

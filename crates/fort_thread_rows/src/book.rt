@@ -51,7 +51,8 @@ impl Book {
     /// Adds a line, and says whether memory sufficed.
     pub fn add(&mut self, pass: u64, value: u64) -> bool
         ensures year { self.new.year ≡ self.old.year }
-        ensures lines { self.new.lines.items ≡ self.old.lines.items ++ (if result then line pass value ∷ [] else []) }
+        ensures lines { self.new.lines.items
+            ≡ self.old.lines.items ++ (if result then line pass value ∷ [] else []) }
     {
         self.lines.push(Line { pass, value }).is_ok()
     }

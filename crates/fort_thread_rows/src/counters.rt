@@ -71,8 +71,10 @@ impl First for Rounds {
 /// Each worker counts to 1,000 in a state of its own.
 pub fn count_up<R: Threads + Wait + Sync>(rt: &R, states: &mut [Counter], rounds: &mut Rounds)
     requires few { (0 < length states.old) × (length states.old < 4294967296) }
-    requires begun { (i : ℕ) (d : _) → i < length states.old → slice_index_or states.old i d ≡ counter i 0 }
-    ensures counted { (i : ℕ) (d : _) → i < length states.old → slice_index_or states.new i d ≡ counter i 1000 }
+    requires begun { (i : ℕ) (d : _) → i < length states.old
+        → slice_index_or states.old i d ≡ counter i 0 }
+    ensures counted { (i : ℕ) (d : _) → i < length states.old
+        → slice_index_or states.new i d ≡ counter i 1000 }
     ensures rounds { rounds.old.seen ≤ rounds.new.seen }
 {
     work(rt, states, &Counting, rounds);
@@ -82,7 +84,8 @@ pub fn count_up<R: Threads + Wait + Sync>(rt: &R, states: &mut [Counter], rounds
 pub fn begin(states: &mut [Counter])
     requires { length states.old < 4294967296 }
     ensures same { length states.new ≡ length states.old }
-    ensures begun { (i : ℕ) (d : _) → i < length states.new → slice_index_or states.new i d ≡ counter i 0 }
+    ensures begun { (i : ℕ) (d : _) → i < length states.new
+        → slice_index_or states.new i d ≡ counter i 0 }
 {
     for i in 0..states.len() {
         states[i] = Counter {

@@ -20,8 +20,10 @@ pub struct Row {
 // One of the first jobs: it can't be refused.
 fn put(deck: &Deck, owner: &mut Owner, number: u64)
     requires { IsOwnerOf deck.now owner.old × (length (put_by owner.old) < 64) }
-    ensures same { IsOwnerOf deck.now owner.new × (owned_by owner.new ≡ owned_by owner.old) × (thieves_of owner.new ≡ thieves_of owner.old) }
-    ensures put { (put_by owner.new ≡ put_by owner.old ++ job number ∷ []) × (stack_of owner.new ≡ stack_of owner.old ++ job number ∷ []) }
+    ensures same { IsOwnerOf deck.now owner.new × (owned_by owner.new ≡ owned_by owner.old)
+        × (thieves_of owner.new ≡ thieves_of owner.old) }
+    ensures put { (put_by owner.new ≡ put_by owner.old ++ job number ∷ [])
+        × (stack_of owner.new ≡ stack_of owner.old ++ job number ∷ []) }
 {
     let job = Job {
         book: BookId(0),
@@ -34,9 +36,12 @@ fn put(deck: &Deck, owner: &mut Owner, number: u64)
 
 // The last of the jobs, where no thief was made and a job is left.
 fn own(deck: &Deck, owner: &mut Owner) -> Job
-    requires { IsOwnerOf deck.now owner.old × (thieves_of owner.old ≡ 0) × (0 < length (stack_of owner.old)) }
-    ensures same { IsOwnerOf deck.now owner.new × (put_by owner.new ≡ put_by owner.old) × (thieves_of owner.new ≡ thieves_of owner.old) }
-    ensures took { (stack_of owner.old ≡ stack_of owner.new ++ result ∷ []) × (owned_by owner.new ≡ owned_by owner.old ++ result ∷ []) }
+    requires { IsOwnerOf deck.now owner.old × (thieves_of owner.old ≡ 0)
+        × (0 < length (stack_of owner.old)) }
+    ensures same { IsOwnerOf deck.now owner.new × (put_by owner.new ≡ put_by owner.old)
+        × (thieves_of owner.new ≡ thieves_of owner.old) }
+    ensures took { (stack_of owner.old ≡ stack_of owner.new ++ result ∷ [])
+        × (owned_by owner.new ≡ owned_by owner.old ++ result ∷ []) }
 {
     let Some(job) = deck.own(owner) else {
         unreachable!()
@@ -46,7 +51,8 @@ fn own(deck: &Deck, owner: &mut Owner) -> Job
 
 // Jobs 1, 2 and 3 are put, and the owner takes one.
 fn put_three(deck: &Deck, owner: &mut Owner) -> Job
-    requires { IsOwnerOf deck.now owner.old × (put_by owner.old ≡ []) × (owned_by owner.old ≡ []) × (stack_of owner.old ≡ []) × (thieves_of owner.old ≡ 0) }
+    requires { IsOwnerOf deck.now owner.old × (put_by owner.old ≡ []) × (owned_by owner.old ≡ [])
+        × (stack_of owner.old ≡ []) × (thieves_of owner.old ≡ 0) }
     ensures same { IsOwnerOf deck.now owner.new × (thieves_of owner.new ≡ 0) }
     ensures counts { (length (put_by owner.new) ≡ 3) × (length (owned_by owner.new) ≡ 1) }
     ensures took { (result ≡ job 3) × (stack_of owner.new ≡ job 1 ∷ job 2 ∷ []) }
@@ -76,8 +82,10 @@ fn finish(
     owned: Job,
     stolen: Job,
 ) -> Option<Row>
-    requires owner { IsOwnerOf deck owner × (thieves_of owner ≡ 1) × (length (put_by owner) ≡ 3) × (length (owned_by owner) ≡ 1) × (stack_of owner ≡ job 1 ∷ job 2 ∷ []) }
-    requires thief { IsThiefOf deck thief × (number_of thief ≡ 0) × (stolen_by thief ≡ stolen ∷ []) }
+    requires owner { IsOwnerOf deck owner × (thieves_of owner ≡ 1) × (length (put_by owner) ≡ 3)
+        × (length (owned_by owner) ≡ 1) × (stack_of owner ≡ job 1 ∷ job 2 ∷ []) }
+    requires thief { IsThiefOf deck thief × (number_of thief ≡ 0)
+        × (stolen_by thief ≡ stolen ∷ []) }
     requires owned { owned ≡ job 3 }
     ensures { IfSome result (λ r. r ≡ row 3 1 2) }
 {
@@ -95,8 +103,8 @@ fn finish(
     }
 }
 
-/// Jobs 1, 2 and 3 are put. The owner takes 3, a thief takes 1, and 2 is left. `None` is want of memory, or a theft that
-/// found nothing.
+/// Jobs 1, 2 and 3 are put. The owner takes 3, a thief takes 1, and 2 is left. `None` is want of
+/// memory, or a theft that found nothing.
 pub fn worked_row(alloc: Global) -> Option<Row>
     ensures { IfSome result (λ r. r ≡ row 3 1 2) }
 {

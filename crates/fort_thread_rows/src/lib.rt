@@ -1,4 +1,5 @@
-//! Callers that show what the turn, the deck and the pool promise, proved from their public clauses alone.
+//! Callers that show what the turn, the deck and the pool promise, proved from their public clauses
+//! alone.
 #![tactic(auto)]
 
 mod book;

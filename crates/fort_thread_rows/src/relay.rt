@@ -21,7 +21,8 @@ pub struct Sums {
 fn put_and_own(deck: &Deck, mut owner: Owner, count: u64) -> (Owner, u64, u64)
     requires { IsOwnerOf deck.now owner × (put_by owner ≡ []) × (owned_by owner ≡ []) }
     ensures same { IsOwnerOf deck.now result.0 × (thieves_of result.0 ≡ thieves_of owner) }
-    ensures counts { (length (put_by result.0) ≡ result.1) × (length (owned_by result.0) ≡ result.2) }
+    ensures counts { (length (put_by result.0) ≡ result.1)
+        × (length (owned_by result.0) ≡ result.2) }
 {
     let mut put = 0u64;
     let mut owned = 0u64;
@@ -70,7 +71,8 @@ fn drain(mut rest: Rest) -> u64
 // Takes the thief in and counts what is left.
 fn settle(alloc: Global, deck: Deck, owner: Owner, thief: Thief, sums: Sums) -> Option<Sums>
     requires parties { IsOwnerOf deck owner × IsThiefOf deck thief × (thieves_of owner ≡ 1) }
-    requires counts { (length (put_by owner) ≡ sums.put) × (length (owned_by owner) ≡ sums.owned) × (length (stolen_by thief) ≡ sums.stolen) }
+    requires counts { (length (put_by owner) ≡ sums.put) × (length (owned_by owner) ≡ sums.owned)
+        × (length (stolen_by thief) ≡ sums.stolen) }
     ensures { IfSome result (λ s. s.put ≡ s.owned + s.stolen + s.left) }
 {
     match close_with_one(alloc, deck, owner, thief) {
@@ -82,7 +84,8 @@ fn settle(alloc: Global, deck: Deck, owner: Owner, thief: Thief, sums: Sums) -> 
     }
 }
 
-/// The owner and a thief work on one deck, side by side. As many jobs come out as were put. `None` is want of memory.
+/// The owner and a thief work on one deck, side by side. As many jobs come out as were put. `None`
+/// is want of memory.
 pub fn share<R: Threads + Sync>(rt: &R, alloc: Global, count: u64, tries: u64) -> Option<Sums>
     ensures { IfSome result (λ s. s.put ≡ s.owned + s.stolen + s.left) }
 {
@@ -96,12 +99,15 @@ pub fn share<R: Threads + Sync>(rt: &R, alloc: Global, count: u64, tries: u64) -
     let ((owner, put, owned), (thief, stolen)) = join(
         rt,
         move || -> (Owner, u64, u64)
-            requires { IsOwnerOf shared.now owner × (put_by owner ≡ []) × (owned_by owner ≡ []) × (thieves_of owner ≡ 1) }
-            ensures { IsOwnerOf shared.entry.now result.0 × (thieves_of result.0 ≡ 1) × (length (put_by result.0) ≡ result.1) × (length (owned_by result.0) ≡ result.2) }
+            requires { IsOwnerOf shared.now owner × (put_by owner ≡ []) × (owned_by owner ≡ [])
+                × (thieves_of owner ≡ 1) }
+            ensures { IsOwnerOf shared.entry.now result.0 × (thieves_of result.0 ≡ 1)
+                × (length (put_by result.0) ≡ result.1) × (length (owned_by result.0) ≡ result.2) }
         { put_and_own(shared, owner, count) },
         move || -> (Thief, u64)
             requires { IsThiefOf shared.now thief × (stolen_by thief ≡ []) }
-            ensures { IsThiefOf shared.entry.now result.0 × (length (stolen_by result.0) ≡ result.1) }
+            ensures { IsThiefOf shared.entry.now result.0
+                × (length (stolen_by result.0) ≡ result.1) }
         { steal_some(shared, thief, tries) },
     );
     let sums = Sums {

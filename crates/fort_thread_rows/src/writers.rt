@@ -15,7 +15,8 @@ use std::thread::{Threads, join};
 fn write<R: Wait>(rt: &R, turn: &Turn<Book>, pass: &mut Pass<Book>, value: u64) -> bool
     requires { IsIdle turn.now pass.old }
     ensures idle { IsIdle turn.now pass.new × IsSame pass.old pass.new }
-    ensures made { lines_of pass.new ≡ lines_of pass.old ++ (if result then line (number_of pass.old) value ∷ [] else []) }
+    ensures made { lines_of pass.new
+        ≡ lines_of pass.old ++ (if result then line (number_of pass.old) value ∷ [] else []) }
 {
     let mut book = turn.take(rt, pass);
     let done = book.add(pass.number(), value);
@@ -42,12 +43,14 @@ fn write_all<R: Wait>(
     Some(pass)
 }
 
-/// Two threads write `count` lines each, in whatever order their turns come. The book has of each pass its lines, each once
-/// and in its order, and no others. `None` is want of memory.
+/// Two threads write `count` lines each, in whatever order their turns come. The book has of each
+/// pass its lines, each once and in its order, and no others. `None` is want of memory.
 pub fn two_writers<R: Threads + Wait + Sync>(rt: &R, alloc: Global, count: u64) -> Option<Book>
     ensures year { IfSome result (λ book. book.year ≡ 7) }
-    ensures one { IfSome result (λ book. entries_by (λ l. l.pass) 1 book.lines.items ≡ lines 1 count) }
-    ensures other { IfSome result (λ book. entries_by (λ l. l.pass) 2 book.lines.items ≡ lines 2 count) }
+    ensures one { IfSome result (λ book. entries_by (λ l. l.pass) 1 book.lines.items
+        ≡ lines 1 count) }
+    ensures other { IfSome result (λ book. entries_by (λ l. l.pass) 2 book.lines.items
+        ≡ lines 2 count) }
     ensures all { IfSome result (λ book. length book.lines.items ≡ count + count) }
 {
     let Ok((turn, mut first)) = fort_turn::new(alloc, Book::new(alloc, 7)) else {
@@ -60,11 +63,13 @@ pub fn two_writers<R: Threads + Wait + Sync>(rt: &R, alloc: Global, count: u64) 
         rt,
         move || -> Option<Pass<Book>>
             requires { IsIdle shared.now one × HasWritten one 1 [] }
-            ensures { IfSome result (λ p. IsIdle shared.entry.now p × HasWritten p 1 (lines 1 count)) }
+            ensures { IfSome result (λ p. IsIdle shared.entry.now p
+                × HasWritten p 1 (lines 1 count)) }
         { write_all(rt, shared, one, count) },
         move || -> Option<Pass<Book>>
             requires { IsIdle shared.now other × HasWritten other 2 [] }
-            ensures { IfSome result (λ p. IsIdle shared.entry.now p × HasWritten p 2 (lines 2 count)) }
+            ensures { IfSome result (λ p. IsIdle shared.entry.now p
+                × HasWritten p 2 (lines 2 count)) }
         { write_all(rt, shared, other, count) },
     );
     let one = one?;

@@ -30,7 +30,8 @@ fn number_type(number: u64) -> Ty
 
 /// The call of `-` on one operand.
 fn minus(alloc: Global, known: &Known) -> Result<Chosen, Memory>
-    ensures { IfOk result (λ it. it ≡ chosen (operator_set (facts known.now) an_op.Minus 1) (false ∷ [])) }
+    ensures { IfOk result (λ it. it
+        ≡ chosen (operator_set (facts known.now) an_op.Minus 1) (false ∷ [])) }
 {
     let set = set_of(known, operator_spelling(known, Op::Minus), false, 1)?;
     let mut widened = List::new(alloc);

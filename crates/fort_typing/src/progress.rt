@@ -54,7 +54,9 @@ impl Progress {
         known: &Known,
         form: &InitialForm,
     ) -> Result<(), Memory>
-        ensures { OnOk result (whole_of self.new ≡ with_initial form.now (judged_initial (facts known.now) form.now self.old.found) (whole_of self.old)) }
+        ensures { OnOk result (whole_of self.new
+            ≡ with_initial form.now (judged_initial (facts known.now) form.now self.old.found)
+            (whole_of self.old)) }
     {
         let ty = form.ty.copy(alloc)?;
         let Valued { node, found } = judged_initial(alloc, known, form, self.found)?;
@@ -67,7 +69,9 @@ impl Progress {
 
     /// A body more.
     fn add_body(&mut self, alloc: Global, known: &Known, form: &BodyForm) -> Result<(), Memory>
-        ensures { OnOk result (whole_of self.new ≡ with_body form.now (judged_body (facts known.now) form.now self.old.found) (whole_of self.old)) }
+        ensures { OnOk result (whole_of self.new
+            ≡ with_body form.now (judged_body (facts known.now) form.now self.old.found)
+            (whole_of self.old)) }
     {
         let parameters = copied(alloc, form.parameters.as_slice())?;
         let Valued { node, found } = judged_body(alloc, known, form, self.found)?;
@@ -91,7 +95,8 @@ impl Progress {
         known: &Known,
         forms: &[InitialForm],
     ) -> Result<(), Memory>
-        ensures { OnOk result (whole_of self.new ≡ judged_initials (facts known.now) forms.now (whole_of self.old)) }
+        ensures { OnOk result (whole_of self.new
+            ≡ judged_initials (facts known.now) forms.now (whole_of self.old)) }
     {
         for form in forms {
             self.add_initial(alloc, known, form)?;
@@ -107,7 +112,8 @@ impl Progress {
         known: &Known,
         forms: &[BodyForm],
     ) -> Result<(), Memory>
-        ensures { OnOk result (whole_of self.new ≡ judged_bodies (facts known.now) forms.now (whole_of self.old)) }
+        ensures { OnOk result (whole_of self.new
+            ≡ judged_bodies (facts known.now) forms.now (whole_of self.old)) }
     {
         for form in forms {
             self.add_body(alloc, known, form)?;

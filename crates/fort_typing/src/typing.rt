@@ -30,8 +30,10 @@ pub fn typed<'a>(
     hierarchy: &'a Hierarchy,
     members: &'a Members,
 ) -> Result<Typed, CheckFault>
-    ensures ok { IfOk result (λ it. typed_whole (facts_of names.now hierarchy.now members.now) forms.now ≡ Ok it) }
-    ensures fault { IfErr result (λ fault. IsFault (facts_of names.now hierarchy.now members.now) forms.now fault) }
+    ensures ok { IfOk result
+        (λ it. typed_whole (facts_of names.now hierarchy.now members.now) forms.now ≡ Ok it) }
+    ensures fault { IfErr result
+        (λ fault. IsFault (facts_of names.now hierarchy.now members.now) forms.now fault) }
 {
     let index = index_of(alloc, hierarchy.names.as_slice(), members)?;
     typed_by(alloc, names, forms, &hierarchy.table, &index)
@@ -46,8 +48,24 @@ fn typed_by(
     table: &TypeTable,
     index: &Index,
 ) -> Result<Typed, CheckFault>
-    ensures ok { IfOk result (λ it. typed_whole (record { table = table.now; types = index.now.types.now; names = names.now; members = index.now.members.now; owner = None }) forms.now ≡ Ok it) }
-    ensures fault { IfErr result (λ fault. IsFault (record { table = table.now; types = index.now.types.now; names = names.now; members = index.now.members.now; owner = None }) forms.now fault) }
+    ensures ok { IfOk result
+        (λ it. typed_whole
+        (record {
+          table = table.now;
+          types = index.now.types.now;
+          names = names.now;
+          members = index.now.members.now;
+          owner = None;
+        }) forms.now ≡ Ok it) }
+    ensures fault { IfErr result
+        (λ fault. IsFault
+        (record {
+          table = table.now;
+          types = index.now.types.now;
+          names = names.now;
+          members = index.now.members.now;
+          owner = None;
+        }) forms.now fault) }
 {
     let known = Known {
         table,

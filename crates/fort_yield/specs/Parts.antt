@@ -1,5 +1,5 @@
--- The chapter "Grammar", no definition of it: the tokens of parts of trees that are put one after another. No public clause
--- cites it.
+-- The chapter "Grammar", no definition of it: the tokens of parts of trees that are put one after
+-- another. No public clause cites it.
 use Rattle.std.specs.Prelude.{List, [], ◌∷◌, ◌++◌, Option, Some, None}
 use Rattle.fort_token.specs.declared.token.Token.{Token}
 use Rattle.fort_token.specs.declared.reserved.Reserved.TheVariants as reserved

@@ -22,7 +22,8 @@ use fort_tree::{
 };
 
 pub fn put_declarations(declarations: &[Declared], out: &mut List<Token>) -> Result<(), Memory>
-    ensures { OnOk result (out.new ≡ out.old ++ entries_tokens (map said_declared declarations.now)) }
+    ensures { OnOk result (out.new
+        ≡ out.old ++ entries_tokens (map said_declared declarations.now)) }
 {
     for declared in declarations {
         put_declared(declared, out)?;
@@ -66,7 +67,9 @@ pub fn put_result(
     ty: &TypeTree,
     out: &mut List<Token>,
 ) -> Result<(), Memory>
-    ensures { OnOk result (out.new ≡ out.old ++ marked Mark.CloseParen right ∷ operator Op.Range colon ∷ tokens_of (said_type ty.now)) }
+    ensures { OnOk result (out.new
+        ≡ out.old ++ marked Mark.CloseParen right ∷ operator Op.Range colon
+        ∷ tokens_of (said_type ty.now)) }
 {
     put_mark(out, Mark::CloseParen, right)?;
     put_operator(out, Op::Range, colon)?;
@@ -171,7 +174,8 @@ fn put_maybe_object_parameters(
     parameters: &Option<ObjectParameters>,
     out: &mut List<Token>,
 ) -> Result<(), Memory>
-    ensures { OnOk result (out.new ≡ out.old ++ maybe_tokens (option_map said_object_parameters parameters.now)) }
+    ensures { OnOk result (out.new
+        ≡ out.old ++ maybe_tokens (option_map said_object_parameters parameters.now)) }
 {
     match parameters {
         None => Ok(()),
@@ -187,7 +191,8 @@ fn put_maybe_object_parameter_list(
     list: &Option<ObjectParameterList>,
     out: &mut List<Token>,
 ) -> Result<(), Memory>
-    ensures { OnOk result (out.new ≡ out.old ++ maybe_tokens (option_map said_object_parameter_list list.now)) }
+    ensures { OnOk result (out.new
+        ≡ out.old ++ maybe_tokens (option_map said_object_parameter_list list.now)) }
 {
     match list {
         None => Ok(()),
@@ -202,7 +207,8 @@ fn put_next_object_parameters(
     others: &[NextObjectParameter],
     out: &mut List<Token>,
 ) -> Result<(), Memory>
-    ensures { OnOk result (out.new ≡ out.old ++ all_tokens (map said_next_object_parameter others.now)) }
+    ensures { OnOk result (out.new
+        ≡ out.old ++ all_tokens (map said_next_object_parameter others.now)) }
 {
     for next in others {
         put_next_object_parameter(next, out)?;

@@ -169,7 +169,8 @@ fn put_elif(elif: &Elif, out: &mut List<Token>) -> Result<(), Memory>
 
 #[cycle(put)]
 fn put_then(then: Spot, block: &[BlockItem], out: &mut List<Token>) -> Result<(), Memory>
-    ensures { OnOk result (out.new ≡ out.old ++ word Reserved.Then then ∷ entries_tokens (map said_block_item block.now)) }
+    ensures { OnOk result (out.new ≡ out.old ++ word Reserved.Then
+        then ∷ entries_tokens (map said_block_item block.now)) }
 {
     put_word(out, Reserved::Then, then)?;
     put_block(block, out)?;
@@ -178,7 +179,8 @@ fn put_then(then: Spot, block: &[BlockItem], out: &mut List<Token>) -> Result<()
 
 #[cycle(put)]
 fn put_maybe_else_block(otherwise: &Option<ElseBlock>, out: &mut List<Token>) -> Result<(), Memory>
-    ensures { OnOk result (out.new ≡ out.old ++ maybe_tokens (option_map said_else_block otherwise.now)) }
+    ensures { OnOk result (out.new
+        ≡ out.old ++ maybe_tokens (option_map said_else_block otherwise.now)) }
 {
     match otherwise {
         None => Ok(()),
@@ -262,7 +264,10 @@ fn put_otherwise(
     end: Spot,
     out: &mut List<Token>,
 ) -> Result<(), Memory>
-    ensures { OnOk result (out.new ≡ out.old ++ (else_tokens (option_map said_else_clause otherwise.now) ++ word Reserved.End end ∷ [])) }
+    ensures { OnOk result (out.new
+        ≡ out.old
+        ++ (else_tokens (option_map said_else_clause otherwise.now) ++ word Reserved.End end
+        ∷ [])) }
 {
     put_maybe_else_clause(otherwise, out)?;
     put_word(out, Reserved::End, end)?;
@@ -274,7 +279,8 @@ fn put_maybe_else_clause(
     otherwise: &Option<Boxed<ElseClause>>,
     out: &mut List<Token>,
 ) -> Result<(), Memory>
-    ensures { OnOk result (out.new ≡ out.old ++ else_tokens (option_map said_else_clause otherwise.now)) }
+    ensures { OnOk result (out.new
+        ≡ out.old ++ else_tokens (option_map said_else_clause otherwise.now)) }
 {
     match otherwise {
         None => Ok(()),
@@ -284,7 +290,10 @@ fn put_maybe_else_clause(
 
 #[cycle(put)]
 fn put_else_clause(clause: &ElseClause, out: &mut List<Token>) -> Result<(), Memory>
-    ensures { OnOk result (out.new ≡ out.old ++ (semicolon_tokens (said_else_clause clause.now).semicolon ++ tokens_of (said_else_clause clause.now).clause)) }
+    ensures { OnOk result (out.new
+        ≡ out.old
+        ++ (semicolon_tokens (said_else_clause clause.now).semicolon
+        ++ tokens_of (said_else_clause clause.now).clause)) }
 {
     put_semicolon(out, clause.semicolon)?;
     put_word(out, Reserved::Else, clause.else_)?;
@@ -315,7 +324,8 @@ fn put_catch(catch: &Catch, out: &mut List<Token>) -> Result<(), Memory>
 
 #[cycle(put)]
 fn put_maybe_finally(finally: &Option<Finally>, out: &mut List<Token>) -> Result<(), Memory>
-    ensures { OnOk result (out.new ≡ out.old ++ maybe_tokens (option_map said_finally finally.now)) }
+    ensures { OnOk result (out.new
+        ≡ out.old ++ maybe_tokens (option_map said_finally finally.now)) }
 {
     match finally {
         None => Ok(()),

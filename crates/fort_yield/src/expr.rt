@@ -327,7 +327,9 @@ fn put_atom(atom: &Atom, out: &mut List<Token>) -> Result<(), Memory>
 
 #[cycle(put)]
 fn put_in_parens(left: Spot, expr: &Expr, right: Spot, out: &mut List<Token>) -> Result<(), Memory>
-    ensures { OnOk result (out.new ≡ out.old ++ marked Mark.OpenParen left ∷ (tokens_of (said_expr expr.now) ++ marked Mark.CloseParen right ∷ [])) }
+    ensures { OnOk result (out.new
+        ≡ out.old ++ marked Mark.OpenParen left
+        ∷ (tokens_of (said_expr expr.now) ++ marked Mark.CloseParen right ∷ [])) }
 {
     put_mark(out, Mark::OpenParen, left)?;
     put_expr(expr, out)?;

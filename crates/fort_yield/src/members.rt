@@ -47,7 +47,8 @@ fn put_trait_member(member: &TraitMember, out: &mut List<Token>) -> Result<(), M
 }
 
 pub fn put_object_entries(members: &[ObjectEntry], out: &mut List<Token>) -> Result<(), Memory>
-    ensures { OnOk result (out.new ≡ out.old ++ entries_tokens (map said_object_entry members.now)) }
+    ensures { OnOk result (out.new
+        ≡ out.old ++ entries_tokens (map said_object_entry members.now)) }
 {
     for entry in members {
         put_object_entry(entry, out)?;
@@ -97,7 +98,8 @@ fn put_maybe_method_parameters(
     list: &Option<MethodParameters>,
     out: &mut List<Token>,
 ) -> Result<(), Memory>
-    ensures { OnOk result (out.new ≡ out.old ++ maybe_tokens (option_map said_method_parameters list.now)) }
+    ensures { OnOk result (out.new
+        ≡ out.old ++ maybe_tokens (option_map said_method_parameters list.now)) }
 {
     match list {
         None => Ok(()),
@@ -112,7 +114,8 @@ fn put_next_method_parameters(
     others: &[NextMethodParameter],
     out: &mut List<Token>,
 ) -> Result<(), Memory>
-    ensures { OnOk result (out.new ≡ out.old ++ all_tokens (map said_next_method_parameter others.now)) }
+    ensures { OnOk result (out.new
+        ≡ out.old ++ all_tokens (map said_next_method_parameter others.now)) }
 {
     for next in others {
         put_next_method_parameter(next, out)?;

@@ -124,7 +124,8 @@ fn put_parameters(list: &Parameters, out: &mut List<Token>) -> Result<(), Memory
 }
 
 pub fn put_maybe_parameters(list: &Option<Parameters>, out: &mut List<Token>) -> Result<(), Memory>
-    ensures { OnOk result (out.new ≡ out.old ++ maybe_tokens (option_map said_parameters list.now)) }
+    ensures { OnOk result (out.new
+        ≡ out.old ++ maybe_tokens (option_map said_parameters list.now)) }
 {
     match list {
         None => Ok(()),

@@ -1,4 +1,5 @@
-//! The program: the real files and outputs, handed to the top call with the words after the program's name.
+//! The program: the real files and outputs, handed to the top call with the words after the
+//! program's name.
 #![tactic(auto)]
 
 use fort_port::{FileShelf, IdleGate, StreamSink};

@@ -13,20 +13,26 @@ returns-in_err-groups c tokens is =
 pub returns-in_err-types : goal.returns-in_err-types
 returns-in_err-types c tokens is =
     let e : c.from_residual-in_err-types.result ≡ Err c.in_err-types.field-0.0 = search rules in
-    rw e (types_refused tokens c.args.component.now c.in_ok-groups.groups.list c.in_err-types.field-0.0 is c.in_ok-groups.ensures c.in_err-types.ensures.err)
+    rw e (types_refused tokens c.args.component.now c.in_ok-groups.groups.list
+    c.in_err-types.field-0.0 is c.in_ok-groups.ensures c.in_err-types.ensures.err)
 
 pub returns-in_err-members : goal.returns-in_err-members
 returns-in_err-members c tokens is =
     let e : c.from_residual-in_err-members.result ≡ Err c.in_err-members.field-0.0 = search rules in
-    rw e (fields_refused tokens c.args.component.now c.in_ok-groups.groups.list c.in_ok-types.types c.in_err-members.field-0.0 is
+    rw e (fields_refused tokens c.args.component.now c.in_ok-groups.groups.list c.in_ok-types.types
+    c.in_err-members.field-0.0 is
     c.in_ok-groups.ensures c.in_ok-types.ensures.ok c.in_err-members.ensures.err)
 
 pub returns-in_err-overloads : goal.returns-in_err-overloads
 returns-in_err-overloads c tokens is =
-    let e : c.from_residual-in_err-overloads.result ≡ Err c.in_err-overloads.field-0.0 = search rules in
-    rw e (overloads_refused tokens c.args.component.now c.in_ok-groups.groups.list c.in_ok-types.types c.in_ok-members.members c.in_err-overloads.field-0.0 is
+    let e : c.from_residual-in_err-overloads.result ≡ Err c.in_err-overloads.field-0.0 =
+    search rules in
+    rw e (overloads_refused tokens c.args.component.now c.in_ok-groups.groups.list
+    c.in_ok-types.types c.in_ok-members.members c.in_err-overloads.field-0.0 is
     c.in_ok-groups.ensures c.in_ok-types.ensures.ok c.in_ok-members.ensures.ok
-    (c.in_err-overloads.ensures.err (declares c.args.component.now) (are_over c.args.component.now c.in_ok-types.types c.in_ok-members.members c.in_ok-types.ensures.ok c.in_ok-members.ensures.ok)))
+    (c.in_err-overloads.ensures.err (declares c.args.component.now)
+    (are_over c.args.component.now c.in_ok-types.types c.in_ok-members.members
+    c.in_ok-types.ensures.ok c.in_ok-members.ensures.ok)))
 
 pub returns-in_err-typed : goal.returns-in_err-typed
 returns-in_err-typed c tokens is =
@@ -41,9 +47,11 @@ returns-in_err-typed c tokens is =
       members = c.in_ok-members.members;
       belong = c.in_ok-members.ensures.ok;
       ruled = c.in_ok-overloads.ensures.ok (declares c.args.component.now)
-          (are_over c.args.component.now c.in_ok-types.types c.in_ok-members.members c.in_ok-types.ensures.ok c.in_ok-members.ensures.ok);
+          (are_over c.args.component.now c.in_ok-types.types c.in_ok-members.members
+          c.in_ok-types.ensures.ok c.in_ok-members.ensures.ok);
     } in
-    rw e (typing_refused tokens formed c.in_err-typed.field-0.0 (rw (← c.in_ok-forms.ensures) (rw c.as_slice.ensures at c.in_err-typed.ensures.fault)))
+    rw e (typing_refused tokens formed c.in_err-typed.field-0.0
+    (rw (← c.in_ok-forms.ensures) (rw c.as_slice.ensures at c.in_err-typed.ensures.fault)))
 
 pub returns : goal.returns
 returns c tokens is =
@@ -57,11 +65,14 @@ returns c tokens is =
       members = c.in_ok-members.members;
       belong = c.in_ok-members.ensures.ok;
       ruled = c.in_ok-overloads.ensures.ok (declares c.args.component.now)
-          (are_over c.args.component.now c.in_ok-types.types c.in_ok-members.members c.in_ok-types.ensures.ok c.in_ok-members.ensures.ok);
+          (are_over c.args.component.now c.in_ok-types.types c.in_ok-members.members
+          c.in_ok-types.ensures.ok c.in_ok-members.ensures.ok);
     } in
     record {
       formed = formed;
       typed = c.in_ok-typed.typed;
-      has_types = (exact tokens formed).has_types c.in_ok-typed.typed (rw (← c.in_ok-forms.ensures) (rw c.as_slice.ensures at c.in_ok-typed.ensures.ok));
+      has_types =
+          (exact tokens formed).has_types c.in_ok-typed.typed
+          (rw (← c.in_ok-forms.ensures) (rw c.as_slice.ensures at c.in_ok-typed.ensures.ok));
       becomes = rw c.as_slice-2.ensures at c.in_ok-program.ensures;
     }

@@ -6,6 +6,8 @@ use Rattle.fort_longest.proofs.longest.shorter_expr.Goals as goal
 
 pub returns-in-Expr : goal.returns-in-Expr
 returns-in-Expr c =
-    let le : c.args.most - c.loop-turn.turn ≤ length c.args.tokens.now = omega (arith, c.requires.within) in
-    longest_within c.args.names.now elsewhere said_expr c.args.tokens.now (c.args.most - c.loop-turn.turn) c.in-Expr.expr c.in-Expr.count le c.loop-turn.invariant
+    let le : c.args.most - c.loop-turn.turn ≤ length c.args.tokens.now =
+    omega (arith, c.requires.within) in
+    longest_within c.args.names.now elsewhere said_expr c.args.tokens.now
+    (c.args.most - c.loop-turn.turn) c.in-Expr.expr c.in-Expr.count le c.loop-turn.invariant
     (rw c.in-Expr.is at c.in_ok-expr.ensures)

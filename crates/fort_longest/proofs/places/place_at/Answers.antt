@@ -7,7 +7,8 @@ use Rattle.fort_longest.proofs.places.place_at.Goals as goal
 pub returns-in-Some : goal.returns-in-Some
 returns-in-Some c =
     let is = c.in-Some.ensures.lookup in
-    token_at c.args.list.now c.args.at c.in-Some.token.now c.in-Some.token.now.place is.3.0 (ap (λ (t : Token). t.place) (sym is.1))
+    token_at c.args.list.now c.args.at c.in-Some.token.now c.in-Some.token.now.place is.3.0 (ap (λ
+    (t : Token). t.place) (sym is.1))
 
 pub returns-in-None : goal.returns-in-None
 returns-in-None c =

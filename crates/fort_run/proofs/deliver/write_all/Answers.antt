@@ -4,8 +4,14 @@ use Rattle.fort_run.proofs.deliver.write_all.Goals as goal
 
 pub loop-done-preserved : goal.loop-done-preserved
 loop-done-preserved g c = record {
-  within = omega (arith, c.in_ok-done.ensures.takes.1, length-drop c.loop-done.done c.args.bytes.now);
-  written = piece_added c.args.bytes.now c.loop-done.done c.in_ok-done.field-0 _ _ _ c.loop-done.invariant.written c.in_ok-done.ensures.appends;
+  within = omega (
+    arith,
+    c.in_ok-done.ensures.takes.1,
+    length-drop c.loop-done.done c.args.bytes.now,
+  );
+  written =
+      piece_added c.args.bytes.now c.loop-done.done c.in_ok-done.field-0 _ _ _
+      c.loop-done.invariant.written c.in_ok-done.ensures.appends;
   calm = c.in_ok-done.ensures.calm ∙ c.loop-done.invariant.calm;
   ready = c.in_ok-done.ensures.ready;
 }

@@ -12,5 +12,8 @@ loop-file-init g c = record {
 }
 
 pub returns-clause-stops : goal.returns-clause-stops
-returns-clause-stops g c =
-    (c.loop-file.invariant.calm, front_long c.args.limit (g.F.Shelf.holding c.args.shelf.now c.args.name.now) c.loop-file.file c.loop-file.invariant.front (omega arith))
+returns-clause-stops g c = (
+  c.loop-file.invariant.calm,
+  front_long c.args.limit (g.F.Shelf.holding c.args.shelf.now c.args.name.now)
+      c.loop-file.file c.loop-file.invariant.front (omega arith),
+)

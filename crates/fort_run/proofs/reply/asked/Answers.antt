@@ -11,7 +11,8 @@ judged-requires g c = record {
 
 pub returns-in-Ok-clause-means : goal.returns-in-Ok-clause-means
 returns-in-Ok-clause-means g c =
-    from_before _ _ _ _ _ c.args.command c.judged.result c.in-Ok.ensures.kept c.in-Ok.ensures.calm c.judged.ensures.means
+    from_before _ _ _ _ _ c.args.command c.judged.result c.in-Ok.ensures.kept c.in-Ok.ensures.calm
+    c.judged.ensures.means
 
 pub returns-in-Err-Failed-clause-means : goal.returns-in-Err-Failed-clause-means
 returns-in-Err-Failed-clause-means g c words is =

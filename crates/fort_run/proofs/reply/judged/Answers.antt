@@ -4,13 +4,16 @@ use Rattle.fort_run.proofs.Meaning.{read_means}
 use Rattle.fort_run.proofs.reply.judged.Goals as goal
 
 pub say-requires : goal.say-requires
-say-requires g c = record { one = of_one_file c.args.command c.in_default.not-Audit; within = c.requires.within }
+say-requires g c =
+    record { one = of_one_file c.args.command c.in_default.not-Audit; within = c.requires.within }
 
 pub returns-in-Audit-clause-means : goal.returns-in-Audit-clause-means
 returns-in-Audit-clause-means g c =
-    both_mean (g.F.Shelf.holding c.args.shelf.now) _ _ c.args.command c.in-Audit.name c.in-Audit.kept c.args.text.now c.audit_file.result c.in-Audit.is c.requires.is_text
+    both_mean (g.F.Shelf.holding c.args.shelf.now) _ _ c.args.command c.in-Audit.name
+    c.in-Audit.kept c.args.text.now c.audit_file.result c.in-Audit.is c.requires.is_text
     c.requires.within c.audit_file.ensures.means
 
 pub returns-in_default-clause-means : goal.returns-in_default-clause-means
 returns-in_default-clause-means g c =
-    read_means (g.F.Shelf.holding c.args.shelf.now) _ _ c.args.command c.args.text.now c.say.result c.requires.is_text c.requires.within refl c.say.ensures
+    read_means (g.F.Shelf.holding c.args.shelf.now) _ _ c.args.command c.args.text.now c.say.result
+    c.requires.is_text c.requires.within refl c.say.ensures

@@ -7,16 +7,31 @@ use Rattle.fort_thread_rows.proofs.closing.close_with_one.Goals as goal
 
 pub close-requires-clause-thieves : goal.close-requires-clause-thieves
 close-requires-clause-thieves c =
-    let is : c.push.new.self ≡ c.args.thief ∷ [] = c.in-Ok.ensures.ok ∙ ap (λ (ts : List Thief). ts ++ c.args.thief ∷ []) c.new-thieves.ensures in
-    (all_one (IsThiefOf c.args.deck) c.push.new.self c.args.thief is c.requires.1, ap length is ∙ sym c.requires.2)
+    let is : c.push.new.self ≡ c.args.thief ∷ [] =
+    c.in-Ok.ensures.ok ∙ ap (λ (ts : List Thief). ts ++ c.args.thief ∷ []) c.new-thieves.ensures
+    in (
+      all_one (IsThiefOf c.args.deck) c.push.new.self c.args.thief is c.requires.1,
+      ap length is
+          ∙ sym c.requires.2,
+    )
 
 pub returns-in-Ok-clause-count : goal.returns-in-Ok-clause-count
 returns-in-Ok-clause-count c =
-    let is : c.push.new.self ≡ c.args.thief ∷ [] = c.in-Ok.ensures.ok ∙ ap (λ (ts : List Thief). ts ++ c.args.thief ∷ []) c.new-thieves.ensures in
-    counts_one (put_by c.args.owner) (owned_by c.args.owner) (left_of c.close.result) c.push.new.self c.args.thief is c.close.ensures.all
+    let is : c.push.new.self ≡ c.args.thief ∷ [] =
+    c.in-Ok.ensures.ok ∙ ap (λ (ts : List Thief). ts ++ c.args.thief ∷ []) c.new-thieves.ensures
+    in
+    counts_one (put_by c.args.owner) (owned_by c.args.owner) (left_of c.close.result)
+    c.push.new.self c.args.thief is c.close.ensures.all
 
 pub returns-in-Ok-clause-order : goal.returns-in-Ok-clause-order
 returns-in-Ok-clause-order c =
-    let is : c.push.new.self ≡ c.args.thief ∷ [] = c.in-Ok.ensures.ok ∙ ap (λ (ts : List Thief). ts ++ c.args.thief ∷ []) c.new-thieves.ensures in
-    let o = c.close.ensures.order in
-    (o.0, o.1, the_thief (λ (t : Thief). stolen_by t ≡ jobs_by (number_of t) o.0) c.push.new.self c.args.thief is o.2)
+    let is : c.push.new.self ≡ c.args.thief ∷ [] =
+    c.in-Ok.ensures.ok ∙ ap (λ (ts : List Thief). ts ++ c.args.thief ∷ []) c.new-thieves.ensures
+    in
+    let o = c.close.ensures.order in (
+      o.0,
+      o.1,
+      the_thief (λ
+          (t : Thief). stolen_by t
+          ≡ jobs_by (number_of t) o.0) c.push.new.self c.args.thief is o.2,
+    )

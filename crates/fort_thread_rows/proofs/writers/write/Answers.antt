@@ -11,6 +11,7 @@ give-requires g c = (
     origin_is = c.add-done.ensures.year;
     more = if c.add-done.result then line c.number.result c.args.value ∷ [] else [];
     history_is = c.add-done.ensures.lines;
-    own = of_pass c.add-done.result c.take-book.new.pass.number c.number.result c.args.value c.number.ensures;
+    own = of_pass c.add-done.result c.take-book.new.pass.number c.number.result c.args.value
+        c.number.ensures;
   },
 )

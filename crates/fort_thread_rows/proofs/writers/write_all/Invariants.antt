@@ -5,4 +5,9 @@ use Rattle.fort_thread_rows.specs.Wrote.{lines_of}
 use Rattle.fort_thread_rows.proofs.writers.write_all.Given as goal
 
 abbrev pub invariant-loop-i : goal.invariant-loop-i
-invariant-loop-i g l = record { idle : IsIdle l.turn l.pass; same : IsSame l.initial.pass l.pass; made : lines_of l.pass ≡ lines (number_of l.initial.pass) l.i }
+invariant-loop-i g l =
+    record {
+      idle : IsIdle l.turn l.pass;
+      same : IsSame l.initial.pass l.pass;
+      made : lines_of l.pass ≡ lines (number_of l.initial.pass) l.i;
+    }

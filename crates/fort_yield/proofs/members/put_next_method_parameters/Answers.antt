@@ -3,4 +3,7 @@ use Rattle.fort_yield.proofs.More.{one_more}
 use Rattle.fort_yield.proofs.members.put_next_method_parameters.Goals as goal
 
 pub loop-next-preserved : goal.loop-next-preserved
-loop-next-preserved c = one_more said_next_method_parameter c.args.others.now c.loop-next.next-index c.next-item.result c.args.out.now c.loop-next.out c.put_next_method_parameter.new.out c.loop-next-test.true c.next-item.is c.loop-next.invariant c.in_ok-put_next_method_parameter.ensures
+loop-next-preserved c =
+    one_more said_next_method_parameter c.args.others.now c.loop-next.next-index c.next-item.result
+    c.args.out.now c.loop-next.out c.put_next_method_parameter.new.out c.loop-next-test.true
+    c.next-item.is c.loop-next.invariant c.in_ok-put_next_method_parameter.ensures

@@ -5,4 +5,5 @@ use Rattle.fort_tree.specs.Declarations.{said_trait_entry}
 use Rattle.fort_yield.proofs.members.put_trait_entries.Given as goal
 
 abbrev pub invariant-loop-entry : goal.invariant-loop-entry
-invariant-loop-entry l = l.out ≡ l.fn.out ++ entries_tokens (map said_trait_entry (take l.entry-index l.members))
+invariant-loop-entry l =
+    l.out ≡ l.fn.out ++ entries_tokens (map said_trait_entry (take l.entry-index l.members))

@@ -19,5 +19,9 @@ loop-next-preserved c =
     let xs = c.args.names.now in
     let i = c.loop-next.next-index in
     let x = get_or xs i no_name in
-    let both = behind c.loop-next.out c.put_mark.new.out c.put_name.new.out (marked mark.Comma x.comma ∷ []) (named x.name ∷ []) c.in_ok-put_name.ensures c.in_ok-put_mark.ensures in
-    one_more_name xs i x c.args.out.now c.loop-next.out c.put_name.new.out c.loop-next-test.true (get_or_default xs i _ _ c.loop-next-test.true) c.loop-next.invariant both
+    let both =
+    behind c.loop-next.out c.put_mark.new.out c.put_name.new.out
+    (marked mark.Comma x.comma ∷ []) (named x.name ∷ []) c.in_ok-put_name.ensures
+    c.in_ok-put_mark.ensures in
+    one_more_name xs i x c.args.out.now c.loop-next.out c.put_name.new.out c.loop-next-test.true
+    (get_or_default xs i _ _ c.loop-next-test.true) c.loop-next.invariant both

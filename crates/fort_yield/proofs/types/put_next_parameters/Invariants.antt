@@ -5,4 +5,5 @@ use Rattle.fort_tree.specs.Types.{said_next_parameter}
 use Rattle.fort_yield.proofs.types.put_next_parameters.Given as goal
 
 abbrev pub invariant-loop-next : goal.invariant-loop-next
-invariant-loop-next l = l.out ≡ l.fn.out ++ all_tokens (map said_next_parameter (take l.next-index l.others))
+invariant-loop-next l =
+    l.out ≡ l.fn.out ++ all_tokens (map said_next_parameter (take l.next-index l.others))
