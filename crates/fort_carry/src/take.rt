@@ -63,7 +63,7 @@ impl Execution {
         let mut course = self.into_course();
         let spent = course.with(done.cost());
         course.layers = course.layers.take(done)?;
-        course.picks.append(all_under(alloc, &place.path, &picks)?)?;
+        course.picks.append(all_under(alloc, &place.path, picks)?)?;
         course.clock = risen(course.clock)?;
         course.spent = spent;
         course.fresh = higher(course.fresh, fresh);

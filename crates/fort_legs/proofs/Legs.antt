@@ -1,5 +1,5 @@
 -- Legs, one after the other and of parts.
-use Rattle.std.proofs.Common.{◌≡◌, ℕ, zero, suc, Bool, true, false, List, [], ◌∷◌, ◌++◌, map, ◌<◌, length, slice_index_or, arith, refl, sym, subst}
+use Rattle.std.proofs.Common.{◌≡◌, ℕ, Bool, true, false, List, [], ◌∷◌, ◌++◌, map, refl, sym, subst}
 use Rattle.fort_core.specs.declared.path.Path.{Path}
 use Rattle.fort_core.specs.declared.pick.Pick.{Pick, Attempt, out-Pick}
 use Rattle.fort_core.specs.declared.pick.Pick.TheOpen.{Pick-F}
@@ -84,10 +84,3 @@ part_is_in_reach p inner fs s t v m reach picks u d leg =
       reached = subst (Reached p inner (afterwards d s)) same whole.reached;
       one = subst (IsOne p) same whole.one;
     }
-
--- each of them is one
-pub step_at : (picks : List Pick) → AreSteps picks → (i : ℕ) (pick d : Pick) → i < length picks
-    → slice_index_or picks i d ≡ pick → IsStepOf (out-Pick pick)
-step_at [] h i pick d k e = absurd (omega (arith, k))
-step_at (p ∷ ps) h zero pick d k e = subst (λ x. IsStepOf (out-Pick x)) e h.0
-step_at (p ∷ ps) h (suc i) pick d k e = step_at ps h.1 i pick d (omega (arith, k)) e

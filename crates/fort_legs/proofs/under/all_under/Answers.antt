@@ -1,10 +1,10 @@
-use Rattle.std.proofs.Common.{subst, sym}
-use Rattle.fort_legs.specs.Legs.{AreSteps}
-use Rattle.fort_legs.proofs.Legs.{step_at}
+use Rattle.std.proofs.Common.{map, ap, sym, ◌∙◌}
+use Rattle.fort_machine.specs.Threads.{under}
+use Rattle.fort_legs.proofs.Paths.{none_under}
 use Rattle.fort_legs.proofs.under.all_under.Goals as goal
 
-pub step_under-requires : goal.step_under-requires
-step_under-requires c =
-    step_at c.as_slice-pick-items.result.now
-    (subst AreSteps (sym c.as_slice-pick-items.ensures) c.requires) c.loop-pick.pick-index
-    c.pick-item.result c.pick-item.result c.loop-pick-test.true (sym c.pick-item.is)
+pub returns-then-is_empty : goal.returns-then-is_empty
+returns-then-is_empty c =
+    none_under c.args.picks
+    ∙ ap (λ numbers. map (under numbers) c.args.picks)
+    (sym (c.is_empty.ensures.0 c.if-is_empty.true))
