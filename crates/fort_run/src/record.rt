@@ -10,22 +10,27 @@ use crate::run::run_file;
 use fort_base::{Bytes, Memory};
 use fort_core::Journal;
 use fort_never::accepted_has_text;
+use fort_port::Gate;
 use fort_record::record_of;
 use std::alloc::Global;
+use std::thread::Threads;
 
 /// What is to say of the file of that name, run with a fuel in steps, where the record of the run
 /// is to be written.
-pub(crate) fn record_file(
+pub(crate) fn record_file<R: Threads + Sync, G: Gate + Sync>(
+    rt: &R,
+    gate: &G,
     alloc: Global,
     name: Bytes,
     file: &Bytes,
+    workers: u32,
     fuel: u64,
 ) -> Result<Answer, Memory>
     requires { length file.now ≤ file_limit }
     ensures { IfOk result (λ a. RunSays its_record name file.now fuel (said a)) }
 {
     accepted_has_text();
-    match run_file(alloc, name, file, fuel)? {
+    match run_file(rt, gate, alloc, name, file, workers, fuel)? {
         Answer::Ran(journal, output, end) => recorded(alloc, journal, &output, end),
         other => Ok(other),
     }

@@ -16,15 +16,21 @@ use crate::show::show_file;
 use fort_base::{Bytes, List, Memory};
 use fort_bench::bank;
 use fort_cmd::{CmdFault, Command, command_of};
-use fort_port::Shelf;
+use fort_port::{Gate, Shelf};
 use std::alloc::Global;
+use std::thread::Threads;
 
 /// The fuel of the bank.
 const BENCH_FUEL: u64 = 20_000_000;
 
+/// The workers of the bank.
+const BENCH_WORKERS: u32 = 4;
+
 /// What the call with these words means to say; a file is read to its end, or to the first byte
 /// behind the limit, before anything of it is judged.
-pub(crate) fn reply_to<F: Shelf>(
+pub(crate) fn reply_to<R: Threads + Sync, G: Gate + Sync, F: Shelf>(
+    rt: &R,
+    gate: &G,
     alloc: Global,
     words: &[String],
     shelf: &mut F,
@@ -35,22 +41,28 @@ pub(crate) fn reply_to<F: Shelf>(
         (F.faults shelf.new) (said a)) }
 {
     match command_of(alloc, words) {
-        Ok(command) => asked(alloc, command, shelf),
+        Ok(command) => asked(rt, gate, alloc, command, shelf),
         Err(CmdFault::NotACommand) => Ok(Answer::NoCommand),
         Err(CmdFault::Memory) => Err(Memory),
     }
 }
 
 /// What the call with this command means to say.
-fn asked<F: Shelf>(alloc: Global, command: Command, shelf: &mut F) -> Result<Answer, Memory>
-    requires { IsBounded command }
+fn asked<R: Threads + Sync, G: Gate + Sync, F: Shelf>(
+    rt: &R,
+    gate: &G,
+    alloc: Global,
+    command: Command,
+    shelf: &mut F,
+) -> Result<Answer, Memory>
+    requires bounded { IsBounded command }
     ensures kept { F.holding shelf.new ≡ F.holding shelf.old }
     ensures means { IfOk result (λ a. (words : Seq (Seq ℕ)) → IsCommand words command
         → Means words (F.holding shelf.old) (F.faults shelf.old) (F.faults shelf.new)
         (said a)) }
 {
     match read_text(alloc, &command, shelf) {
-        Ok(text) => judged(alloc, command, &text, shelf),
+        Ok(text) => judged(rt, gate, alloc, command, &text, shelf),
         Err(Unread::Failed) => Ok(Answer::Unread),
         Err(Unread::TooLarge) => Ok(Answer::TooLarge),
         Err(Unread::Memory) => Err(Memory),
@@ -92,7 +104,9 @@ fn bank_within(alloc: Global, accounts: u32) -> Result<Bytes, Unread>
 }
 
 /// What is meant to say of a command's text; an audit has a second file to read.
-fn judged<F: Shelf>(
+fn judged<R: Threads + Sync, G: Gate + Sync, F: Shelf>(
+    rt: &R,
+    gate: &G,
     alloc: Global,
     command: Command,
     text: &Bytes,
@@ -107,12 +121,18 @@ fn judged<F: Shelf>(
 {
     match command {
         Command::Audit(name, kept) => audit_file(alloc, name, &kept, text, shelf),
-        other => say(alloc, other, text),
+        other => say(rt, gate, alloc, other, text),
     }
 }
 
 /// What a command says of its text, where that is its only file.
-fn say(alloc: Global, command: Command, text: &Bytes) -> Result<Answer, Memory>
+fn say<R: Threads + Sync, G: Gate + Sync>(
+    rt: &R,
+    gate: &G,
+    alloc: Global,
+    command: Command,
+    text: &Bytes,
+) -> Result<Answer, Memory>
     requires one { IsOfOneFile command }
     requires within { length text.now ≤ file_limit }
     ensures { IfOk result (λ a. CommandSays command text.now (said a)) }
@@ -120,18 +140,25 @@ fn say(alloc: Global, command: Command, text: &Bytes) -> Result<Answer, Memory>
     match command {
         Command::Check(name) => check_file(alloc, name, text),
         Command::Show(name) => show_file(alloc, name, text),
-        Command::Run(name, _, fuel) => run_file(alloc, name, text, fuel),
-        Command::Bench(_) => run_bank(alloc, text),
-        Command::Record(name, _, fuel) => record_file(alloc, name, text, fuel),
+        Command::Run(name, workers, fuel) => run_file(rt, gate, alloc, name, text, workers, fuel),
+        Command::Bench(_) => run_bank(rt, gate, alloc, text),
+        Command::Record(name, workers, fuel) => {
+            record_file(rt, gate, alloc, name, text, workers, fuel)
+        },
         Command::Audit(_, _) => unreachable!(),
     }
 }
 
 /// What is to say of the bank's text.
-fn run_bank(alloc: Global, text: &Bytes) -> Result<Answer, Memory>
+fn run_bank<R: Threads + Sync, G: Gate + Sync>(
+    rt: &R,
+    gate: &G,
+    alloc: Global,
+    text: &Bytes,
+) -> Result<Answer, Memory>
     requires { length text.now ≤ file_limit }
     ensures { IfOk result (λ a. RunSays its_output bench_name text.now bench_fuel (said a)) }
 {
     let name = List::from_slice(alloc, b"bench")?;
-    run_file(alloc, name, text, BENCH_FUEL)
+    run_file(rt, gate, alloc, name, text, BENCH_WORKERS, BENCH_FUEL)
 }

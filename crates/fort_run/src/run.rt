@@ -22,17 +22,22 @@ use fort_disp::tables;
 use fort_front::{accepted_is_written, check};
 use fort_lex::{Tokens, tokens};
 use fort_never::{accepted_goes_through, accepted_never_stops};
+use fort_port::Gate;
 use fort_sound::accepted_runs_well;
 use fort_walk::{Ran, walk};
 use std::alloc::Global;
+use std::thread::Threads;
 
 /// What is to say of the file of that name, run with a fuel in steps: the rules of its tokens come
 /// first, then those of the grammar, of grouping, of types, of members, of overloading and of
 /// typing; then it runs.
-pub(crate) fn run_file(
+pub(crate) fn run_file<R: Threads + Sync, G: Gate + Sync>(
+    rt: &R,
+    gate: &G,
     alloc: Global,
     name: Bytes,
     file: &Bytes,
+    workers: u32,
     fuel: u64,
 ) -> Result<Answer, Memory>
     requires { length file.now ≤ file_limit }
@@ -43,13 +48,21 @@ pub(crate) fn run_file(
     accepted_goes_through();
     accepted_runs_well();
     match tokens(alloc, file.as_slice()) {
-        Ok(tokens) => formed(alloc, name, &tokens, fuel),
+        Ok(tokens) => formed(rt, gate, alloc, name, &tokens, workers, fuel),
         Err(fault) => refused_by(name, fault),
     }
 }
 
 /// What is to say of a file of these tokens.
-fn formed(alloc: Global, name: Bytes, tokens: &Tokens, fuel: u64) -> Result<Answer, Memory>
+fn formed<R: Threads + Sync, G: Gate + Sync>(
+    rt: &R,
+    gate: &G,
+    alloc: Global,
+    name: Bytes,
+    tokens: &Tokens,
+    workers: u32,
+    fuel: u64,
+) -> Result<Answer, Memory>
     requires apart { StandApart tokens.now.list }
     requires never { (p : Program) → IsAccepted tokens.now p → StopsShort p → ⊥ }
     requires one { (p : Program) → IsAccepted tokens.now p → AlwaysOne p }
@@ -59,14 +72,21 @@ fn formed(alloc: Global, name: Bytes, tokens: &Tokens, fuel: u64) -> Result<Answ
 {
     accepted_is_written();
     match check(alloc, tokens) {
-        Ok(program) => run_program(alloc, &program, fuel),
+        Ok(program) => run_program(rt, gate, alloc, &program, workers, fuel),
         Err(fault) => refused_by(name, fault),
     }
 }
 
 /// What is to say of a component's program: it runs, to its end. Its calls' declarations are found
 /// by its tables.
-fn run_program(alloc: Global, program: &Program, fuel: u64) -> Result<Answer, Memory>
+fn run_program<R: Threads + Sync, G: Gate + Sync>(
+    rt: &R,
+    gate: &G,
+    alloc: Global,
+    program: &Program,
+    workers: u32,
+    fuel: u64,
+) -> Result<Answer, Memory>
     requires written { WrittenProgram program.now }
     requires never { StopsShort program.now → ⊥ }
     requires one { AlwaysOne program.now }
@@ -74,7 +94,7 @@ fn run_program(alloc: Global, program: &Program, fuel: u64) -> Result<Answer, Me
     ensures { IfOk result (λ a. TellsRun its_output program.now fuel (said a)) }
 {
     let tables = tables(alloc, program)?;
-    let ran = walk(alloc, &tables, fuel)?;
+    let ran = walk(rt, gate, alloc, &tables, fuel, workers)?;
     told(alloc, program, fuel, ran)
 }
 

@@ -43,13 +43,13 @@ pub struct Finish {
 /// docs/LANGUAGE.md. After a sink has failed nothing more is written to it. Where memory is wanting
 /// the status is 7, and nothing is said of `out`.
 pub fn fortress<R: Threads + Wait + Sync, F: Shelf, K: Sink, N: Sink, G: Gate + Sync>(
-    _rt: &R,
+    rt: &R,
     alloc: Global,
     words: &[String],
     shelf: &mut F,
     out: &mut K,
     notes: &mut N,
-    _gate: &G,
+    gate: &G,
 ) -> Finish
     requires out { K.can_write out.old }
     requires notes { N.can_write notes.old }
@@ -68,7 +68,7 @@ pub fn fortress<R: Threads + Wait + Sync, F: Shelf, K: Sink, N: Sink, G: Gate + 
     one_program();
     one_record();
     one_answer();
-    match reply_to(alloc, words, shelf) {
+    match reply_to(rt, gate, alloc, words, shelf) {
         Ok(answer) => {
             let status = deliver(answer.status(), answer.text(), answer.note(), out, notes);
             Finish {

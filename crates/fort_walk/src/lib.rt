@@ -2,7 +2,9 @@
 //! "Runs", "Atomic" and "Journals" of docs/MACHINE.md.
 #![tactic(auto)]
 
+mod beside;
 mod ends;
+mod pace;
 mod walking;
 
 pub use fort_carry::Ran;

@@ -8,37 +8,57 @@ ghost use Rattle.fort_turns.specs.Stops.{StopsShort};
 ghost use Rattle.fort_turns.specs.Walks.{Walks};
 ghost use Rattle.fort_turns.specs.Idles.{Follows, IsWalking};
 
+use crate::beside::{Round, side_by_side};
 use crate::ends::at_end;
+use crate::pace::Pace;
 use fort_base::{Memory, Shared};
 use fort_carry::{Going, Ran};
 use fort_disp::Tables;
 use fort_moves::{Stop, moved};
+use fort_port::Gate;
 use fort_subst::group;
 use fort_turns::{Next, Sweep, Walked, Walking, at_atomic, at_form, at_thread};
 use std::alloc::Global;
+use std::thread::Threads;
 
 /// Walks a program with a fuel, to the end of a run: each thread that is awake has its turn of at
 /// most 1,024 picks, from left to right, and where nobody is awake the sleepers are tried. The
-/// declaration of a call is found by the program's tables. The chapter "Journals".
+/// declaration of a call is found by the program's tables. With several workers, parts that may go
+/// on take legs side by side between turns; the gate is told where each worker begins one. The
+/// chapters "Journals" and "Legs".
 ///
 /// # Errors
 ///
 /// `Memory` where memory is wanting.
-pub fn walk(alloc: Global, tables: &Tables, fuel: u64) -> Result<Ran, Memory>
+pub fn walk<R: Threads + Sync, G: Gate + Sync>(
+    rt: &R,
+    gate: &G,
+    alloc: Global,
+    tables: &Tables,
+    fuel: u64,
+    workers: u32,
+) -> Result<Ran, Memory>
     requires written { WrittenProgram tables.now.program.now }
     requires tables { MayPick tables.now }
     requires one { AlwaysOne tables.now.program.now }
     requires never { StopsShort tables.now.program.now → ⊥ }
     ensures { IfOk result (IsRun tables.now.program.now fuel) }
 {
-    match walked(alloc, tables, fuel)? {
+    match walked(rt, gate, alloc, tables, fuel, workers)? {
         Walked::Ran(ran) => Ok(ran),
         Walked::Stuck => unreachable!(),
     }
 }
 
 // The same of a program of which a run might stop short.
-fn walked(alloc: Global, tables: &Tables, fuel: u64) -> Result<Walked, Memory>
+fn walked<R: Threads + Sync, G: Gate + Sync>(
+    rt: &R,
+    gate: &G,
+    alloc: Global,
+    tables: &Tables,
+    fuel: u64,
+    workers: u32,
+) -> Result<Walked, Memory>
     requires written { WrittenProgram tables.now.program.now }
     requires tables { MayPick tables.now }
     requires one { AlwaysOne tables.now.program.now }
@@ -47,13 +67,43 @@ fn walked(alloc: Global, tables: &Tables, fuel: u64) -> Result<Walked, Memory>
     let going = Going::first(alloc, tables.program, fuel)?;
     let sweep = Sweep::new(false);
     let mut walking = Walking { going, sweep };
+    let mut pace = Pace::new(workers);
     for _turn in 0..u64::MAX {
-        match go(alloc, tables, walking)? {
+        let (next, later) = ahead(rt, gate, alloc, tables, walking, pace)?;
+        pace = later;
+        match next {
             Next::Goes(next) => walking = next,
             Next::Ends(walked) => return Ok(walked),
         }
     }
     Err(Memory)
+}
+
+// A round of legs, or one turn.
+fn ahead<R: Threads + Sync, G: Gate + Sync>(
+    rt: &R,
+    gate: &G,
+    alloc: Global,
+    tables: &Tables,
+    walking: Walking,
+    pace: Pace,
+) -> Result<(Next, Pace), Memory>
+    requires written { WrittenProgram tables.now.program.now }
+    requires tables { MayPick tables.now }
+    requires one { AlwaysOne tables.now.program.now }
+    requires walking { IsWalking tables.now.program.now walking }
+    ensures { IfOk result
+        (λ both. Follows tables.now.program.now walking.going.course.fuel both.0) }
+{
+    let Round {
+        walking,
+        pace,
+        got_on,
+    } = side_by_side(rt, gate, alloc, tables, walking, pace)?;
+    if got_on {
+        return Ok((Next::Goes(walking), pace));
+    }
+    Ok((go(alloc, tables, walking)?, pace))
 }
 
 // One turn.

@@ -3,11 +3,8 @@ use Rattle.fort_run.specs.Reply.{Unread, TooLarge}
 use Rattle.fort_run.proofs.Meaning.{from_before}
 use Rattle.fort_run.proofs.reply.asked.Goals as goal
 
-pub judged-requires : goal.judged-requires
-judged-requires g c = record {
-  is_text = rw c.in-Ok.ensures.kept c.in-Ok.ensures.text;
-  within = c.in-Ok.ensures.within;
-}
+pub judged-requires-clause-is_text : goal.judged-requires-clause-is_text
+judged-requires-clause-is_text g c κs within = rw c.in-Ok.ensures.kept c.in-Ok.ensures.text
 
 pub returns-in-Ok-clause-means : goal.returns-in-Ok-clause-means
 returns-in-Ok-clause-means g c =

@@ -3,9 +3,8 @@ use Rattle.fort_run.proofs.Audited.{of_one_file, both_mean}
 use Rattle.fort_run.proofs.Meaning.{read_means}
 use Rattle.fort_run.proofs.reply.judged.Goals as goal
 
-pub say-requires : goal.say-requires
-say-requires g c =
-    record { one = of_one_file c.args.command c.in_default.not-Audit; within = c.requires.within }
+pub say-requires-clause-one : goal.say-requires-clause-one
+say-requires-clause-one g c κs within = of_one_file c.args.command c.in_default.not-Audit
 
 pub returns-in-Audit-clause-means : goal.returns-in-Audit-clause-means
 returns-in-Audit-clause-means g c =

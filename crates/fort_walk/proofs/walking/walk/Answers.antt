@@ -3,9 +3,10 @@ use Rattle.fort_turns.specs.Walks.{Walks}
 use Rattle.fort_walk.proofs.walking.walk.Goals as goal
 
 pub returns : goal.returns
-returns c = subst (Walks c.args.tables.now.program.now c.args.fuel) c.in-Ran.is c.in_ok-ran.ensures
+returns g c =
+    subst (Walks c.args.tables.now.program.now c.args.fuel) c.in-Ran.is c.in_ok-ran.ensures
 
 pub unreachable-requires : goal.unreachable-requires
-unreachable-requires c =
+unreachable-requires g c =
     c.requires.never
     (subst (Walks c.args.tables.now.program.now c.args.fuel) c.in-Stuck.is c.in_ok-ran.ensures)

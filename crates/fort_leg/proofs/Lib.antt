@@ -1,0 +1,10 @@
+pub mod Crossing
+pub mod Forking
+pub mod Rows
+pub mod Sides
+pub mod Stepping
+pub mod Stopping
+pub mod Taking
+pub mod Turning
+pub mod Wholly
+pub mod Within

@@ -1,0 +1,4 @@
+pub mod Goes
+pub mod Parts
+pub mod Stretches
+pub mod Wholes

@@ -1,0 +1,149 @@
+//! When legs are taken side by side, and how long they may be.
+use fort_turns::Sweep;
+
+/// What the leg of one worker may cost in the first round, and at most.
+const FIRST: u64 = 4_096;
+
+const MOST: u64 = 65_536;
+
+/// What the legs of a thread may cost together that has others beside it, which wait meanwhile.
+const BESIDE: u64 = 16_384;
+
+/// A round whose legs cost less together was hardly worth while.
+const SHORT: u64 = 1_024;
+
+/// How many turns pass behind a round, and at most behind short ones.
+const PAUSE: u32 = 1_024;
+
+const LONGEST: u32 = 65_536;
+
+/// When the next round of legs comes, and how long they may be.
+///
+/// It comes where a sweep begins anew at the left end of the term, or where a thread comes to a
+/// parallel form while nothing keeps it up: behind a round some turns, more of them behind each
+/// short one, and behind one that left a thread out the rest of the sweep, so that each thread has
+/// its turn.
+#[derive(Clone, Copy, Debug, PartialEq, Eq)]
+pub(crate) struct Pace {
+    pub workers: u32,
+    // How many turns pass before the next round.
+    rest: u32,
+    // How many pass behind a short round of the whole term, and behind one of a thread's.
+    whole: u32,
+    beside: u32,
+    // What the leg of one worker may cost in a round of the whole term.
+    share: u64,
+}
+
+impl Pace {
+    /// Before the first turn.
+    pub fn new(workers: u32) -> Pace {
+        Pace {
+            workers,
+            rest: 0,
+            whole: PAUSE,
+            beside: PAUSE,
+            share: FIRST,
+        }
+    }
+
+    /// Before a turn, in the root's machine or in an attempt's (`inner`).
+    pub fn before(self, sweep: Sweep, inner: bool) -> Pace {
+        let begins = sweep.idle && sweep.taken == 0 && !sweep.stuck && !sweep.wakes;
+        let most = if inner || self.whole > PAUSE {
+            self.whole
+        } else {
+            0
+        };
+        Pace {
+            rest: if begins && most < self.rest {
+                most
+            } else {
+                self.rest
+            },
+            ..self
+        }
+    }
+
+    /// Whether it is time for a round.
+    pub fn is_time(self) -> bool {
+        self.workers > 1 && self.rest == 0
+    }
+
+    /// What the legs of a round may cost together, of the whole term or of a thread's.
+    pub fn cost(self, whole: bool) -> u64 {
+        if whole {
+            self.share.saturating_mul(self.workers as u64)
+        } else {
+            BESIDE
+        }
+    }
+
+    /// After a turn without a round.
+    pub fn passed(self) -> Pace {
+        Pace {
+            rest: if self.rest == u32::MAX {
+                self.rest
+            } else {
+                self.rest.saturating_sub(1)
+            },
+            ..self
+        }
+    }
+
+    /// After a round without a step.
+    pub fn in_vain(self, whole: bool) -> Pace {
+        self.after(whole, false, 0)
+    }
+
+    /// After a round, of the whole term or of a thread's, with what its legs cost.
+    pub fn after(self, whole: bool, left_out: bool, cost: u64) -> Pace {
+        let pace = if whole {
+            self.after_whole(cost)
+        } else {
+            self.after_beside(cost)
+        };
+        let pause = if whole { pace.whole } else { pace.beside };
+        let rest = if left_out {
+            u32::MAX
+        } else if whole && cost >= FIRST {
+            0
+        } else {
+            pause
+        };
+        Pace { rest, ..pace }
+    }
+
+    // The legs of a short round are short again; those of another one are longer.
+    fn after_whole(self, cost: u64) -> Pace {
+        let longer = self.share.saturating_mul(2);
+        let share = if cost < SHORT {
+            FIRST
+        } else if MOST < longer {
+            MOST
+        } else {
+            longer
+        };
+        Pace {
+            whole: pause_behind(self.whole, cost),
+            share,
+            ..self
+        }
+    }
+
+    fn after_beside(self, cost: u64) -> Pace {
+        Pace {
+            beside: pause_behind(self.beside, cost),
+            ..self
+        }
+    }
+}
+
+// The pause behind a round, by the one before: a short one is followed by a longer pause.
+fn pause_behind(pause: u32, cost: u64) -> u32 {
+    if cost >= SHORT {
+        return PAUSE;
+    }
+    let longer = pause.saturating_mul(2);
+    if LONGEST < longer { LONGEST } else { longer }
+}
