@@ -60,11 +60,8 @@ pub(crate) fn side_by_side<R: Threads + Sync, G: Gate + Sync>(
     let inner = is_inside(&walking);
     let pace = pace.before(walking.sweep, inner);
     let whole = walking.going.state.place.path.0.is_empty();
-    if !pace.is_time() {
+    if !pace.is_time() || !is_wide_here(&walking) {
         return Ok(as_before(tables.program, walking, pace.passed()));
-    }
-    if !is_wide_here(&walking) {
-        return Ok(as_before(tables.program, walking, pace));
     }
     match leg_here(rt, gate, alloc, tables, &walking, inner, pace)? {
         None => Ok(as_before(tables.program, walking, pace.in_vain(whole))),

@@ -4,10 +4,13 @@ use fort_turns::Sweep;
 /// What the leg of one worker may cost in the first round, and at most.
 const FIRST: u64 = 4_096;
 
-const MOST: u64 = 65_536;
+const MOST: u64 = 16_777_216;
 
 /// What the legs of a thread may cost together that has others beside it, which wait meanwhile.
-const BESIDE: u64 = 16_384;
+const BESIDE: u64 = 8_192;
+
+/// How much more than all turns since a round that left a thread out the next one may cost.
+const RATIO: u64 = 4;
 
 /// A round whose legs cost less together was hardly worth while.
 const SHORT: u64 = 1_024;
@@ -22,7 +25,9 @@ const LONGEST: u32 = 65_536;
 /// It comes where a sweep begins anew at the left end of the term, or where a thread comes to a
 /// parallel form while nothing keeps it up: behind a round some turns, more of them behind each
 /// short one, and behind one that left a thread out the rest of the sweep, so that each thread has
-/// its turn.
+/// its turn. The legs double with each round, so that what it takes to put a deep term together is
+/// little beside their steps. Behind one that left a thread out they are bounded by what the turns
+/// took since then, so that a thread that waits for it in a loop doesn't use up the fuel.
 #[derive(Clone, Copy, Debug, PartialEq, Eq)]
 pub(crate) struct Pace {
     pub workers: u32,
@@ -33,6 +38,9 @@ pub(crate) struct Pace {
     beside: u32,
     // What the leg of one worker may cost in a round of the whole term.
     share: u64,
+    // How many turns there were since the last round, and whether it left a thread out.
+    turns: u64,
+    left_out: bool,
 }
 
 impl Pace {
@@ -44,6 +52,8 @@ impl Pace {
             whole: PAUSE,
             beside: PAUSE,
             share: FIRST,
+            turns: 0,
+            left_out: false,
         }
     }
 
@@ -72,11 +82,15 @@ impl Pace {
 
     /// What the legs of a round may cost together, of the whole term or of a thread's.
     pub fn cost(self, whole: bool) -> u64 {
-        if whole {
-            self.share.saturating_mul(self.workers as u64)
-        } else {
-            BESIDE
+        if !whole {
+            return BESIDE;
         }
+        let all = self.share.saturating_mul(self.workers as u64);
+        let most = self.turns.saturating_mul(RATIO);
+        if !self.left_out || all < most {
+            return all;
+        }
+        if most < FIRST { FIRST } else { most }
     }
 
     /// After a turn without a round.
@@ -87,6 +101,7 @@ impl Pace {
             } else {
                 self.rest.saturating_sub(1)
             },
+            turns: self.turns.saturating_add(1),
             ..self
         }
     }
@@ -111,7 +126,12 @@ impl Pace {
         } else {
             pause
         };
-        Pace { rest, ..pace }
+        Pace {
+            rest,
+            turns: 0,
+            left_out,
+            ..pace
+        }
     }
 
     // The legs of a short round are short again; those of another one are longer.
