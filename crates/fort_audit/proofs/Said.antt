@@ -8,12 +8,12 @@ use Rattle.fort_machine.specs.Effects.{Effect}
 use Rattle.fort_machine.specs.Journals.{opening_store, IsJournal}
 use Rattle.fort_machine.specs.Attempts.{goes}
 use Rattle.fort_machine.proofs.Single.{one_run}
-use Rattle.fort_course.specs.Ends.{HasRun}
+use Rattle.fort_walk_law_course.specs.Ends.{HasRun}
 use Rattle.fort_plain.specs.declared.journal.Replayed.{Replayed}
 use Rattle.fort_plain.specs.declared.journal.Replayed.TheVariants.{Run}
 use Rattle.fort_plain.specs.Replays.{RunsWithin, BreaksAt, Replays}
 use Rattle.fort_plain.proofs.Breaks.{first_picks, broken_is_none}
-use Rattle.fort_record.specs.declared.reading.Record.{Record}
+use Rattle.fort_audit_record.specs.declared.reading.Record.{Record}
 use Rattle.fort_audit.specs.declared.answer.Audited.{Audited}
 use Rattle.fort_audit.specs.declared.answer.Audited.TheVariants.{Yes, NotARun, OtherOutput}
 use Rattle.fort_audit.specs.Audits.{Prints, PartsAt, Compares, Audits, OneOutput, OneParting, OneAnswer}

@@ -6,7 +6,7 @@ use Rattle.fort_core.specs.declared.program.Program.{Program}
 use Rattle.fort_core.specs.declared.term.Term.{Term}
 use Rattle.fort_machine.specs.Effects.{Effect}
 use Rattle.fort_machine.specs.Journals.{Records}
-use Rattle.fort_record.specs.declared.reading.Record.{Record}
+use Rattle.fort_audit_record.specs.declared.reading.Record.{Record}
 use Rattle.fort_plain.specs.Replays.{BreaksAt}
 use Rattle.fort_audit.specs.declared.answer.Audited.{Audited}
 use Rattle.fort_audit.specs.declared.answer.Audited.TheVariants.{Yes, NotARun, OtherOutput}

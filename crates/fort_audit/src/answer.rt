@@ -4,10 +4,10 @@ ghost use Rattle.fort_machine.specs.Written.{WrittenProgram};
 ghost use Rattle.fort_audit.specs.Audits.{Audits, Compares};
 
 use crate::parting::parting;
+use fort_audit_record::Record;
 use fort_base::Memory;
 use fort_core::Program;
 use fort_plain::{Replayed, replay};
-use fort_record::Record;
 use std::alloc::Global;
 
 /// What an audit answers.

@@ -1,15 +1,15 @@
 //! The bodies of functions and methods. The chapter "Programs" of docs/TRANSLATION.md.
 ghost use Rattle.std.specs.Prelude.{◌≡◌, ◌+◌, ◌++◌, [], IfOk, Some, drop, length};
-ghost use Rattle.fort_translation.specs.Bodies.{bodies, body_at, body_made, parameter_names, position, same_place};
-ghost use Rattle.fort_translation.specs.Read.{given_of};
+ghost use Rattle.fort_elab_meaning.specs.Bodies.{bodies, body_at, body_made, parameter_names, position, same_place};
+ghost use Rattle.fort_elab_meaning.specs.Read.{given_of};
 
 use fort_base::{List, Memory, Place, Shared};
 use fort_core::Term;
+use fort_elab_meaning::{Counter, Known};
+use fort_elab_tasks::Names;
+use fort_elab_terms::term;
 use fort_form::Parameter;
-use fort_term_tasks::Names;
-use fort_terms::term;
-use fort_translation::{Counter, Known};
-use fort_typed_form::TypedBody;
+use fort_form_typed::TypedBody;
 use std::alloc::Global;
 
 /// The term of a body, with the place of its declaration.

@@ -1,13 +1,13 @@
 //! Declarations. The chapter "Programs" of docs/TRANSLATION.md.
 ghost use Rattle.std.specs.Prelude.{◌≡◌, ◌+◌, ◌++◌, IfOk, OnOk, Some, drop, map};
 ghost use Rattle.std.specs.List.{flat_map};
-ghost use Rattle.fort_translation.specs.Programs.{core_body, core_declaration, declarations_from, declarations_of_set};
+ghost use Rattle.fort_elab_meaning.specs.Programs.{core_body, core_declaration, declarations_from, declarations_of_set};
 
 use crate::bodies::{Placed, body_at};
 use fort_base::{List, Memory, Ty};
-use fort_builtin::primitive;
 use fort_core::{CoreBody, CoreDecl};
-use fort_set::{Member, MemberKind, MemberSet};
+use fort_types_builtin::primitive;
+use fort_types_sets::{Member, MemberKind, MemberSet};
 use std::alloc::Global;
 
 /// Types in memory of their own.

@@ -2,22 +2,22 @@
 ghost use Rattle.std.specs.Prelude.{◌≡◌, [], IfOk, Some, codes, map};
 ghost use Rattle.std.specs.List.{flat_map};
 ghost use Rattle.fort_core.specs.declared.term.Term.{Call};
-ghost use Rattle.fort_translation.specs.Bodies.{bodies};
-ghost use Rattle.fort_translation.specs.Programs.{IsProgramOf, declarations_of_set, function_set};
-ghost use Rattle.fort_translation.specs.Read.{given_of};
+ghost use Rattle.fort_elab_meaning.specs.Bodies.{bodies};
+ghost use Rattle.fort_elab_meaning.specs.Programs.{IsProgramOf, declarations_of_set, function_set};
+ghost use Rattle.fort_elab_meaning.specs.Read.{given_of};
 
 use crate::bodies::bodies;
 use crate::declarations::declarations;
 use crate::sets::core_sets;
 use fort_base::{Bytes, List, Memory, SetId, Shared};
-use fort_builtin::BUILT_IN;
 use fort_core::{CoreDecl, Program, Term};
+use fort_elab_meaning::Known;
+use fort_elab_shapes::{opening, opening_types, shapes};
+use fort_form_typed::Typed;
 use fort_hier::Hierarchy;
-use fort_known::set_among;
-use fort_set::Members;
-use fort_shapes::{opening, opening_types, shapes};
-use fort_translation::Known;
-use fort_typed_form::Typed;
+use fort_types_builtin::BUILT_IN;
+use fort_types_sets::Members;
+use fort_typing_known::set_among;
 use std::alloc::Global;
 
 /// The set of a function's name and number of parameters.

@@ -1,11 +1,11 @@
 //! Overload sets. The chapter "Programs" of docs/TRANSLATION.md.
 ghost use Rattle.std.specs.Prelude.{◌≡◌, ◌+◌, IfOk, length};
-ghost use Rattle.fort_translation.specs.Programs.{core_sets, numbers};
+ghost use Rattle.fort_elab_meaning.specs.Programs.{core_sets, numbers};
 
 use crate::bodies::following;
 use fort_base::{DeclId, List, Memory};
 use fort_core::CoreSet;
-use fort_set::{Member, MemberSet};
+use fort_types_sets::{Member, MemberSet};
 use std::alloc::Global;
 
 /// The numbers of declarations, from one on, and the next one behind them.

@@ -1,6 +1,6 @@
 -- The forms that stand in each tree, by its variants.
 use Rattle.std.proofs.Common.{◌≡◌, ℕ, List, Option, rules}
-use Rattle.fort_formed.specs.Source.{Source}
+use Rattle.fort_form_meaning.specs.Source.{Source}
 use Rattle.fort_ops.specs.declared.op.Op.{Op}
 use Rattle.fort_tree.specs.declared.grouped.Grouped.{Grouped, out-Grouped}
 use Rattle.fort_tree.specs.declared.grouped.Grouped.{the_lemmas as grouped_lemmas}

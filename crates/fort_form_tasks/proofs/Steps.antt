@@ -5,7 +5,7 @@ use Rattle.std.specs.List.{flat_map}
 use Rattle.std.proofs.lemmas.List.{take_more, append-nil, map-append}
 use Rattle.std.proofs.lemmas.Grind.{flat_map-append}
 use Rattle.fort_form.specs.declared.form.Form.{Form}
-use Rattle.fort_formed.specs.Source.{Source}
+use Rattle.fort_form_meaning.specs.Source.{Source}
 use Rattle.fort_form_tasks.specs.declared.task.Part.{Part}
 use Rattle.fort_form_tasks.specs.declared.task.Task.{Task}
 use Rattle.fort_form_tasks.specs.declared.task.Task.TheVariants as a_task

@@ -3,9 +3,9 @@ use Rattle.std.proofs.Common.{◌≡◌, ℕ, zero, suc, ◌-◌, List, [], ◌�
 use Rattle.std.specs.Prelude.{slice_get}
 use Rattle.fort_form.specs.declared.form.Form.{Form}
 use Rattle.fort_tree.specs.declared.expr.FlatPart.{FlatPart}
-use Rattle.fort_formed.specs.Source.{Source}
-use Rattle.fort_formed.specs.Formed.{formed_flat_part}
-use Rattle.fort_formed.specs.Forming.{unit_at}
+use Rattle.fort_form_meaning.specs.Source.{Source}
+use Rattle.fort_form_meaning.specs.Formed.{formed_flat_part}
+use Rattle.fort_form_meaning.specs.Forming.{unit_at}
 
 -- what is made of the item at a place
 got : {A B : Type 0} (f : A → B) (xs : List A) (n : ℕ) (none : B) (x : A) → slice_get xs n ≡ Some x

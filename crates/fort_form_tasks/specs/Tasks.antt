@@ -32,9 +32,9 @@ use Rattle.fort_tree.specs.declared.delimited.Delimited.TheOpen.{Delimited-F, It
 use Rattle.fort_tree.specs.declared.grouped.Grouped.{Grouped, out-Grouped}
 use Rattle.fort_tree.specs.declared.grouped.Grouped.TheOpen.{Grouped-F}
 use Rattle.fort_tree.specs.declared.spot.Spot.{Spot}
-use Rattle.fort_formed.specs.Source.{Source}
-use Rattle.fort_formed.specs.Forming.{block, grouped, unit_at}
-use Rattle.fort_formed.specs.Formed.{formed_delimited, formed_atom, formed_expr, formed_flat_part, formed_postfix, formed_run_part, formed_also, formed_block_item, formed_else_block, formed_finally, formed_flat, formed_next_expr, formed_operand, formed_run}
+use Rattle.fort_form_meaning.specs.Source.{Source}
+use Rattle.fort_form_meaning.specs.Forming.{block, grouped, unit_at}
+use Rattle.fort_form_meaning.specs.Formed.{formed_delimited, formed_atom, formed_expr, formed_flat_part, formed_postfix, formed_run_part, formed_also, formed_block_item, formed_else_block, formed_finally, formed_flat, formed_next_expr, formed_operand, formed_run}
 use Rattle.fort_form_tasks.specs.declared.task.Part.{Part}
 use Rattle.fort_form_tasks.specs.declared.task.Part.TheVariants as a_part
 use Rattle.fort_form_tasks.specs.declared.task.Task.{Task}

@@ -2,15 +2,15 @@
 ghost use Rattle.std.specs.Prelude.{◌≡◌, ◌∷◌, [], map, OnOk};
 ghost use Rattle.std.specs.List.{flat_map};
 ghost use Rattle.fort_tree.specs.declared.delimited.Delimited.{out-Delimited};
-ghost use Rattle.fort_formed.specs.Source.{Source};
-ghost use Rattle.fort_formed.specs.Formed.{formed_also};
+ghost use Rattle.fort_form_meaning.specs.Source.{Source};
+ghost use Rattle.fort_form_meaning.specs.Formed.{formed_also};
 ghost use Rattle.fort_form_tasks.specs.Tasks.{Sees, delimited_at, inside_case_clause, inside_catch, inside_elif, inside_else_block, inside_else_clause, inside_finally, item_value, type_clause_value};
 
 use crate::expressions::{see_source, see_sources};
 use crate::further::see;
 use crate::task::{Part, Task};
 use fort_base::{Boxed, Memory};
-use fort_stack::Stack;
+use fort_base_stack::Stack;
 use fort_tree::{
     Also, BlockItem, CaseClause, Catch, Delimited, Elif, ElseBlock, ElseClause, Finally, Item,
     TypeClause,

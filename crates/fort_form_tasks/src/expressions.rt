@@ -1,13 +1,13 @@
 //! The tasks that see what stands in an expression, a head and a generator.
 ghost use Rattle.std.specs.Prelude.{◌≡◌, ◌∷◌, [], map, OnOk};
 ghost use Rattle.fort_tree.specs.declared.expr.Expr.{out-Expr};
-ghost use Rattle.fort_formed.specs.Source.{Source};
+ghost use Rattle.fort_form_meaning.specs.Source.{Source};
 ghost use Rattle.fort_form_tasks.specs.Tasks.{Sees, expr_at, inside_head, inside_maybe_head, next_source, source_form};
 
 use crate::further::see;
 use crate::task::{Part, Task};
 use fort_base::{Boxed, Memory};
-use fort_stack::Stack;
+use fort_base_stack::Stack;
 use fort_tree::{Expr, Generator, Head, NextGenerator};
 
 /// What stands in an expression.

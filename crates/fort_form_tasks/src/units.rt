@@ -3,14 +3,14 @@ ghost use Rattle.std.specs.Prelude.{◌≡◌, ◌∷◌, [], map, OnOk};
 ghost use Rattle.fort_tree.specs.declared.expr.Atom.{out-Atom};
 ghost use Rattle.fort_tree.specs.declared.expr.Postfix.{out-Postfix};
 ghost use Rattle.fort_tree.specs.declared.grouped.Grouped.{out-Grouped};
-ghost use Rattle.fort_formed.specs.Source.{Source};
-ghost use Rattle.fort_formed.specs.Formed.{formed_flat_part, formed_next_expr, formed_run_part};
+ghost use Rattle.fort_form_meaning.specs.Source.{Source};
+ghost use Rattle.fort_form_meaning.specs.Formed.{formed_flat_part, formed_next_expr, formed_run_part};
 ghost use Rattle.fort_form_tasks.specs.Tasks.{Sees, atom_at, formed_group, formed_part, formed_unit, group_at, inside_list, inside_run, postfix_at};
 
 use crate::further::see;
 use crate::task::{Part, Task};
 use fort_base::Memory;
-use fort_stack::Stack;
+use fort_base_stack::Stack;
 use fort_tree::{Atom, ExprList, Flat, FlatPart, Grouped, NextExpr, Postfix, Run, RunPart};
 
 /// The units or the parts of a grouping.

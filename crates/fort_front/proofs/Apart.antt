@@ -3,8 +3,8 @@ use Rattle.std.proofs.Common.{◌≡◌, ℕ, ◌<◌, ◌≤◌, List, [], ◌�
 use Rattle.std.specs.List.{Contains}
 use Rattle.fort_base.specs.declared.refusal.Place.{Place}
 use Rattle.fort_base.specs.declared.refusal.Rule.{Rule}
-use Rattle.fort_token.specs.declared.token.Token.{Token}
-use Rattle.fort_token.specs.declared.token.Tokens.{Tokens}
+use Rattle.fort_lex_token.specs.declared.token.Token.{Token}
+use Rattle.fort_lex_token.specs.declared.token.Tokens.{Tokens}
 use Rattle.fort_tree.specs.declared.declarations.Component.{Component}
 use Rattle.fort_tree.specs.declared.grouped.FlatGrouping.{FlatGrouping}
 use Rattle.fort_tree.specs.declared.grouped.Row.{Row}
@@ -15,11 +15,11 @@ use Rattle.fort_group.specs.Components.{HasGroups, IsFirstBreak}
 use Rattle.fort_group.proofs.Rules.{breaks_none}
 use Rattle.fort_syntax.specs.Answer as grammar
 use Rattle.fort_syntax.specs.Answer.{TooDeep, Syntax, TooMany}
-use Rattle.fort_type_names.specs.TypeNames.{type_names}
+use Rattle.fort_tree_type_names.specs.TypeNames.{type_names}
 use Rattle.fort_hier.specs.Hierarchies.{Broken, IsReported, declares}
 use Rattle.fort_hier.proofs.AcceptedLaws.{accepted_sound}
-use Rattle.fort_set.specs.declared.member.Members.{Members}
-use Rattle.fort_field.specs.Rules as fields
+use Rattle.fort_types_sets.specs.declared.member.Members.{Members}
+use Rattle.fort_member_fields.specs.Rules as fields
 use Rattle.fort_member.specs.Answers.{AreMembers}
 use Rattle.fort_over.specs.Answers as overloads
 use Rattle.fort_front.proofs.Overloaded.{none_reported}

@@ -1,8 +1,8 @@
 -- The law of the one most specific declaration, of the sets of a component that keeps the rules.
-use Rattle.fort_type_names.specs.TypeNames.{type_names}
+use Rattle.fort_tree_type_names.specs.TypeNames.{type_names}
 use Rattle.fort_hier.specs.Hierarchies.{declares}
 use Rattle.fort_hier.proofs.AcceptedLaws.{accepted_sound}
-use Rattle.fort_set.proofs.Chosen.{exactly_one, never_abstract}
+use Rattle.fort_types_sets.proofs.Chosen.{exactly_one, never_abstract}
 use Rattle.fort_member.proofs.WellMadeLaws.{sets_well_made}
 use Rattle.fort_front.specs.Calls.{ExactlyOne, NeverAbstract}
 

@@ -3,7 +3,7 @@ use Rattle.std.proofs.Common.{◌≡◌, inl, inr, ℕ, sym, ap, ◌∙◌}
 use Rattle.std.specs.List.{slice_get}
 use Rattle.fort_base.specs.declared.refusal.Place.{Place}
 use Rattle.fort_types.specs.Hierarchy.{DeclaredTypes, Sound}
-use Rattle.fort_set.specs.declared.member.Members.{Members}
+use Rattle.fort_types_sets.specs.declared.member.Members.{Members}
 use Rattle.fort_over.specs.Answers.{KeepAllRules, IsReported}
 use Rattle.fort_over.proofs.PairLaws.{passes_not_breaks}
 

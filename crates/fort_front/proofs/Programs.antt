@@ -1,5 +1,5 @@
 -- The program of accepted tokens is as it is written.
-use Rattle.fort_matched.specs.Component.{ComponentIsWritten}
+use Rattle.fort_elab_law_matched.specs.Component.{ComponentIsWritten}
 use Rattle.fort_front.specs.Front.{known}
 use Rattle.fort_front.specs.Written.{AcceptedIsWritten}
 

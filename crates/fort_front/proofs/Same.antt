@@ -3,34 +3,34 @@
 use Rattle.std.proofs.Common.{◌≡◌, List, true, subst}
 use Rattle.fort_types.specs.Types.{IsNumbered}
 use Rattle.fort_core.specs.declared.program.Program.{Program}
-use Rattle.fort_token.specs.declared.token.Tokens.{Tokens}
+use Rattle.fort_lex_token.specs.declared.token.Tokens.{Tokens}
 use Rattle.fort_tree.specs.declared.declarations.Component.{Component}
 use Rattle.fort_tree.specs.declared.grouped.FlatGrouping.{FlatGrouping}
 use Rattle.fort_tree.specs.Limits.{flats}
 use Rattle.fort_group.specs.Components.{HasGroups}
-use Rattle.fort_type_names.specs.TypeNames.{type_names}
+use Rattle.fort_tree_type_names.specs.TypeNames.{type_names}
 use Rattle.fort_hier.specs.declared.accepted.Hierarchy.{Hierarchy}
 use Rattle.fort_hier.specs.Hierarchies.{IsHierarchy}
-use Rattle.fort_set.specs.declared.member.Members.{Members}
+use Rattle.fort_types_sets.specs.declared.member.Members.{Members}
 use Rattle.fort_member.specs.Answers.{AreMembers}
-use Rattle.fort_known.specs.declared.fault.Fault.{Fault}
-use Rattle.fort_fit.specs.Fit.{known_of}
-use Rattle.fort_fit.proofs.AcceptedLaws.{keepers_accepted}
-use Rattle.fort_forms_fit.specs.Fits.{FormsAreFit}
-use Rattle.fort_forms_fit.proofs.Trees as trees
-use Rattle.fort_forms.specs.FormsOf.{forms_of}
-use Rattle.fort_typed_form.specs.declared.component.Typed.{Typed}
+use Rattle.fort_typing_known.specs.declared.fault.Fault.{Fault}
+use Rattle.fort_typing_law_ready.specs.Fit.{known_of}
+use Rattle.fort_typing_law_ready.proofs.AcceptedLaws.{keepers_accepted}
+use Rattle.fort_form_law_shapes.specs.Fits.{FormsAreFit}
+use Rattle.fort_form_law_shapes.proofs.Trees as trees
+use Rattle.fort_form_walk.specs.FormsOf.{forms_of}
+use Rattle.fort_form_typed.specs.declared.component.Typed.{Typed}
 use Rattle.fort_typing_rules.specs.Components.{HasTypes, IsReported}
-use Rattle.fort_typing_exact.specs.Ready.{IsReady}
-use Rattle.fort_typing_exact.specs.Exact.{IsExactly, OneOfTwo}
-use Rattle.fort_typing_exact.proofs.Component as component
-use Rattle.fort_ready.specs.Component.{FormsAreReady, ComponentIsExact}
-use Rattle.fort_ready.proofs.Ready.{component_exact, forms_ready}
-use Rattle.fort_translation.specs.Programs.{IsProgramOf}
-use Rattle.fort_phases.proofs.Groupings.{groupings_once}
-use Rattle.fort_phases.proofs.Hierarchies.{hierarchy_once}
-use Rattle.fort_phases.proofs.Memberships.{members_once}
-use Rattle.fort_phases.proofs.Programs.{program_once}
+use Rattle.fort_typing_law_exact.specs.Ready.{IsReady}
+use Rattle.fort_typing_law_exact.specs.Exact.{IsExactly, OneOfTwo}
+use Rattle.fort_typing_law_exact.proofs.Component as component
+use Rattle.fort_typing_law_ready.specs.Component.{FormsAreReady, ComponentIsExact}
+use Rattle.fort_typing_law_ready.proofs.Ready.{component_exact, forms_ready}
+use Rattle.fort_elab_meaning.specs.Programs.{IsProgramOf}
+use Rattle.fort_front_law_phases.proofs.Groupings.{groupings_once}
+use Rattle.fort_front_law_phases.proofs.Hierarchies.{hierarchy_once}
+use Rattle.fort_front_law_phases.proofs.Memberships.{members_once}
+use Rattle.fort_front_law_phases.proofs.Programs.{program_once}
 use Rattle.fort_front.specs.Front.{IsFormed, known, forms, OneProgram}
 
 -- ---- the laws of typing, of components

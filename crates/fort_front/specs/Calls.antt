@@ -2,14 +2,14 @@
 -- code asks none of this.
 use Rattle.std.specs.Prelude.{◌≡◌, ◌≢◌, ℕ, List, slice_get, Some}
 use Rattle.fort_base.specs.declared.ty.Ty.{Ty}
-use Rattle.fort_token.specs.declared.token.Tokens.{Tokens}
+use Rattle.fort_lex_token.specs.declared.token.Tokens.{Tokens}
 use Rattle.fort_hier.specs.Hierarchies.{declares}
-use Rattle.fort_set.specs.declared.member.Member.{Member}
-use Rattle.fort_set.specs.declared.member.MemberKind.TheVariants as a_kind
-use Rattle.fort_set.specs.declared.member.MemberSet.{MemberSet}
-use Rattle.fort_set.specs.Applicable.{IsApplicable}
-use Rattle.fort_set.specs.Best.{IsMostSpecific, AreSolid, AreOfValues}
-use Rattle.fort_set.specs.Rules.{StandsAt}
+use Rattle.fort_types_sets.specs.declared.member.Member.{Member}
+use Rattle.fort_types_sets.specs.declared.member.MemberKind.TheVariants as a_kind
+use Rattle.fort_types_sets.specs.declared.member.MemberSet.{MemberSet}
+use Rattle.fort_types_sets.specs.Applicable.{IsApplicable}
+use Rattle.fort_types_sets.specs.Best.{IsMostSpecific, AreSolid, AreOfValues}
+use Rattle.fort_types_sets.specs.Rules.{StandsAt}
 use Rattle.fort_front.specs.Front.{IsFormed}
 
 -- In a component that keeps the rules, of each overload set exactly one declaration is most

@@ -7,26 +7,26 @@ use Rattle.fort_base.specs.declared.refusal.CheckFault.{CheckFault}
 use Rattle.fort_base.specs.declared.refusal.CheckFault.TheVariants.{Refused, Memory}
 use Rattle.fort_core.specs.declared.program.Program.{Program}
 use Rattle.fort_form.specs.declared.component.Forms.{Forms}
-use Rattle.fort_token.specs.declared.token.Tokens.{Tokens}
+use Rattle.fort_lex_token.specs.declared.token.Tokens.{Tokens}
 use Rattle.fort_tree.specs.declared.declarations.Component.{Component}
 use Rattle.fort_tree.specs.declared.grouped.FlatGrouping.{FlatGrouping}
 use Rattle.fort_tree.specs.Limits.{flats}
 use Rattle.fort_group.specs.Components.{HasGroups, IsFirstBreak}
-use Rattle.fort_type_names.specs.TypeNames.{type_names}
+use Rattle.fort_tree_type_names.specs.TypeNames.{type_names}
 use Rattle.fort_hier.specs.declared.accepted.Hierarchy.{Hierarchy}
 use Rattle.fort_hier.specs.Hierarchies.{IsHierarchy, IsReported, declares}
-use Rattle.fort_set.specs.declared.member.Members.{Members}
-use Rattle.fort_field.specs.Rules as fields
+use Rattle.fort_types_sets.specs.declared.member.Members.{Members}
+use Rattle.fort_member_fields.specs.Rules as fields
 use Rattle.fort_member.specs.Answers.{AreMembers}
 use Rattle.fort_over.specs.Answers.{KeepAllRules}
 use Rattle.fort_over.specs.Answers as overloads
-use Rattle.fort_known.specs.Known.{Knows}
-use Rattle.fort_fit.specs.Fit.{known_of}
-use Rattle.fort_forms.specs.FormsOf.{forms_of}
-use Rattle.fort_typed_form.specs.declared.component.Typed.{Typed}
+use Rattle.fort_typing_known.specs.Known.{Knows}
+use Rattle.fort_typing_law_ready.specs.Fit.{known_of}
+use Rattle.fort_form_walk.specs.FormsOf.{forms_of}
+use Rattle.fort_form_typed.specs.declared.component.Typed.{Typed}
 use Rattle.fort_typing_rules.specs.Components.{HasTypes}
 use Rattle.fort_typing_rules.specs.Components as typing
-use Rattle.fort_translation.specs.Programs.{IsProgramOf}
+use Rattle.fort_elab_meaning.specs.Programs.{IsProgramOf}
 use Rattle.fort_syntax.specs.Answer as grammar
 
 -- The tokens are those of one component, which passes no limit.

@@ -1,9 +1,9 @@
 -- The chapter "Programs as written" of docs/MACHINE.md, of the programs that the check of tokens
 -- gives.
 use Rattle.fort_core.specs.declared.program.Program.{Program}
-use Rattle.fort_token.specs.declared.token.Tokens.{Tokens}
+use Rattle.fort_lex_token.specs.declared.token.Tokens.{Tokens}
 use Rattle.fort_machine.specs.Written.{WrittenProgram}
-use Rattle.fort_matched.specs.Component.{StandApart}
+use Rattle.fort_elab_law_matched.specs.Component.{StandApart}
 use Rattle.fort_front.specs.Front.{IsAccepted}
 
 -- The program of accepted tokens that stand at places of their own is as it is written.

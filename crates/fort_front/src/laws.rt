@@ -2,7 +2,7 @@ ghost use Rattle.fort_front.specs.Front.{NeverBoth, NeverBothInGrammar, OneProgr
 ghost use Rattle.fort_front.specs.Calls.{ExactlyOne, NeverAbstract};
 ghost use Rattle.fort_front.specs.Written.{AcceptedIsWritten};
 
-use fort_matched::component_is_written;
+use fort_elab_law_matched::component_is_written;
 
 /// A law of token lists: none is accepted and breaks a rule too.
 pub fn never_both()

@@ -7,8 +7,8 @@ use crate::part::part;
 use crate::spacing::{first_mixed, spacing_of};
 use fort_base::CheckFault;
 use fort_base::rules::{BAD_CHAIN, MIXED_SPACING, NO_PRECEDENCE, SPACING_CONTRADICTS};
-use fort_flats::row;
 use fort_tree::{Flat, Grouped, Row};
+use fort_tree_flats::row;
 use std::alloc::Global;
 
 /// The one grouping of a flat expression; its numbers are places of units, counted from 0.

@@ -2,8 +2,8 @@ ghost use Rattle.fort_group.specs.Components.{AnswersEach, AnswersAll};
 
 use crate::answer::group_row;
 use fort_base::{CheckFault, List};
-use fort_flats::rows;
 use fort_tree::{Component, FlatGrouping, Groups, Row};
+use fort_tree_flats::rows;
 use std::alloc::Global;
 
 /// The grouping of each flat expression of a component, by the place of its first token, in the

@@ -9,8 +9,8 @@ use Rattle.fort_hier.specs.declared.accepted.Hierarchy.{Hierarchy}
 use Rattle.fort_hier.specs.declared.heads.TypeHead.{TypeHead}
 use Rattle.fort_hier.specs.Heads.{heads_of, head_place}
 use Rattle.fort_hier.specs.Names.{Spelling}
-use Rattle.fort_builtin.specs.Types.{built_in_declared}
-use Rattle.fort_builtin.proofs.PlainTypes.{built_in_count}
+use Rattle.fort_types_builtin.specs.Types.{built_in_declared}
+use Rattle.fort_types_builtin.proofs.PlainTypes.{built_in_count}
 use Rattle.fort_hier.specs.Numbers.{all_types, declared_by, declared_types, hierarchy_of, IsUnknown}
 use Rattle.fort_hier.specs.Lowest.{rule_number}
 use Rattle.fort_hier.specs.Hierarchies.{declares, places_of, IsHierarchy, sentence}

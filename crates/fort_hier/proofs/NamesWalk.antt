@@ -7,12 +7,12 @@ use Rattle.std.proofs.Math.ListN.{length-append}
 use Rattle.fort_base.specs.declared.refusal.Place.{Place}
 use Rattle.fort_hier.specs.declared.tops.Top.{Top}
 use Rattle.fort_base.specs.Places.{IsFirst, Keeps}
-use Rattle.fort_builtin.specs.declared.table.TheConstants.{FUNCTION_COUNT}
-use Rattle.fort_builtin.specs.declared.types.TheConstants.{TYPE_NAME_COUNT}
-use Rattle.fort_builtin.specs.Declarations.{function_spellings}
-use Rattle.fort_builtin.specs.Types.{type_spellings}
-use Rattle.fort_builtin.proofs.DeclarationRows.{functions_long}
-use Rattle.fort_builtin.proofs.TypeRows.{names_long}
+use Rattle.fort_types_builtin.specs.declared.table.TheConstants.{FUNCTION_COUNT}
+use Rattle.fort_types_builtin.specs.declared.types.TheConstants.{TYPE_NAME_COUNT}
+use Rattle.fort_types_builtin.specs.Declarations.{function_spellings}
+use Rattle.fort_types_builtin.specs.Types.{type_spellings}
+use Rattle.fort_types_builtin.proofs.DeclarationRows.{functions_long}
+use Rattle.fort_types_builtin.proofs.TypeRows.{names_long}
 use Rattle.fort_hier.specs.Names.{Spelling, spelling, Called, type_called, function_called, built_in, called, all_called, ClashesWith, DuplicateAt, IsDuplicate}
 use Rattle.fort_hier.specs.declared.seen.Seen.{Seen}
 use Rattle.fort_hier.specs.Seen.{HoldsSeen}

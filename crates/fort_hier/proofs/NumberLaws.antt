@@ -11,9 +11,9 @@ use Rattle.fort_tree.specs.declared.spot.Name.{Name}
 use Rattle.fort_hier.specs.declared.heads.TypeHead.{TypeHead}
 use Rattle.fort_hier.specs.declared.numbers.Numbers.{Numbers}
 use Rattle.fort_base.specs.Places.{IsFirst, Keeps}
-use Rattle.fort_builtin.specs.declared.types.TheConstants.{TYPE_COUNT, TYPE_NAME_COUNT}
-use Rattle.fort_builtin.specs.Types.{declared_spellings, any_spelling, type_spellings}
-use Rattle.fort_builtin.proofs.PlainTypes.{declared_count}
+use Rattle.fort_types_builtin.specs.declared.types.TheConstants.{TYPE_COUNT, TYPE_NAME_COUNT}
+use Rattle.fort_types_builtin.specs.Types.{declared_spellings, any_spelling, type_spellings}
+use Rattle.fort_types_builtin.proofs.PlainTypes.{declared_count}
 use Rattle.fort_hier.specs.Names.{Spelling, spelling}
 use Rattle.fort_hier.specs.Numbers.{head_spelling, number_of, NumberIs, numbered_as, HoldsNumbers, IsUnknown, all_types}
 use Rattle.fort_hier.proofs.First.{Among, first_same, first_more, first_all}

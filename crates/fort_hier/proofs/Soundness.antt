@@ -10,9 +10,9 @@ use Rattle.fort_types.specs.declared.hierarchy.DeclaredType.{DeclaredType}
 use Rattle.fort_types.specs.Hierarchy.{DeclaredTypes, Path, stop, along, Extends, Leaf, Excludes, Lists, Sound}
 use Rattle.fort_types.specs.Table.{is_set, HasRows}
 use Rattle.fort_types.proofs.Paths.{start_inside}
-use Rattle.fort_builtin.specs.declared.types.TheConstants.{TYPE_COUNT}
-use Rattle.fort_builtin.specs.Types.{built_in_declared}
-use Rattle.fort_builtin.proofs.PlainTypes.{IsPlain, plain_at, low_is_trait, built_in_count}
+use Rattle.fort_types_builtin.specs.declared.types.TheConstants.{TYPE_COUNT}
+use Rattle.fort_types_builtin.specs.Types.{built_in_declared}
+use Rattle.fort_types_builtin.proofs.PlainTypes.{IsPlain, plain_at, low_is_trait, built_in_count}
 use Rattle.fort_hier.specs.declared.sentences.Sentence.{Sentence}
 use Rattle.fort_hier.specs.declared.sentences.Sentence.TheVariants as sentence
 use Rattle.fort_hier.specs.Sentences.{Breaks, BreaksAt}

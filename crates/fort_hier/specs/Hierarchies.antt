@@ -10,7 +10,7 @@ use Rattle.fort_tree.specs.declared.declarations.Component.{Component}
 use Rattle.fort_tree.specs.declared.spot.Name.{Name}
 use Rattle.fort_types.specs.Hierarchy.{DeclaredTypes}
 use Rattle.fort_types.specs.Table.{HasRows}
-use Rattle.fort_builtin.specs.declared.types.TheConstants.{TYPE_COUNT}
+use Rattle.fort_types_builtin.specs.declared.types.TheConstants.{TYPE_COUNT}
 use Rattle.fort_hier.specs.declared.accepted.Hierarchy.{Hierarchy}
 use Rattle.fort_hier.specs.declared.sentences.Sentence.{Sentence}
 use Rattle.fort_base.specs.Places.{IsEarliest}

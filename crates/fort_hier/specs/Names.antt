@@ -3,8 +3,8 @@
 use Rattle.std.specs.Prelude.{◌≡◌, ℕ, Bool, true, false, ◌&&◌, List, [], ◌++◌, Option, Some, None, map, take, slice_get, get_or, Contains}
 use Rattle.fort_base.specs.declared.refusal.Place.{Place}
 use Rattle.fort_tree.specs.declared.spot.Name.{Name}
-use Rattle.fort_builtin.specs.Declarations.{function_spellings}
-use Rattle.fort_builtin.specs.Types.{type_spellings}
+use Rattle.fort_types_builtin.specs.Declarations.{function_spellings}
+use Rattle.fort_types_builtin.specs.Types.{type_spellings}
 use Rattle.fort_hier.specs.declared.tops.Top.{Top}
 
 -- a name, as its bytes

@@ -9,8 +9,8 @@ use Rattle.fort_types.specs.Hierarchy.{DeclaredTypes}
 use Rattle.fort_tree.specs.declared.spot.Name.{Name}
 use Rattle.fort_hier.specs.declared.heads.TypeHead.{TypeHead}
 use Rattle.fort_hier.specs.declared.numbers.Numbers.{Numbers}
-use Rattle.fort_builtin.specs.declared.types.TheConstants.{OBJECT}
-use Rattle.fort_builtin.specs.Types.{declared_spellings, any_spelling, built_in_declared}
+use Rattle.fort_types_builtin.specs.declared.types.TheConstants.{OBJECT}
+use Rattle.fort_types_builtin.specs.Types.{declared_spellings, any_spelling, built_in_declared}
 use Rattle.fort_hier.specs.Names.{Spelling, spelling}
 
 -- the spelling of a declared type

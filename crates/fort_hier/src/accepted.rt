@@ -6,7 +6,7 @@ ghost use Rattle.fort_hier.specs.Numbers.{declared_types};
 use crate::heads::TypeHead;
 use crate::spellings::spelled;
 use fort_base::{Bytes, List, Memory, Place, TypeTable};
-use fort_builtin::{TYPE_COUNT, names as built_in_names};
+use fort_types_builtin::{TYPE_COUNT, names as built_in_names};
 use std::alloc::Global;
 
 /// The declared types of an accepted component by their numbers, built-in ones first and then the

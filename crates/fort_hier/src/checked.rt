@@ -1,14 +1,14 @@
 //! The hierarchy of a component, or the rule that it breaks.
 ghost use Rattle.std.specs.Prelude.{IfOk, IfErr};
 ghost use Rattle.fort_hier.specs.Hierarchies.{IsHierarchy, IsFault};
-ghost use Rattle.fort_type_names.specs.TypeNames.{type_names};
+ghost use Rattle.fort_tree_type_names.specs.TypeNames.{type_names};
 
 use crate::accepted::{Hierarchy, bodies_in, names_in};
 use crate::heads::heads_in;
 use crate::refusals::{known_types, refuse_broken, refuse_duplicate};
 use fort_base::CheckFault;
 use fort_tree::{Component, Name};
-use fort_type_names::type_names;
+use fort_tree_type_names::type_names;
 use fort_types::rows;
 use std::alloc::Global;
 

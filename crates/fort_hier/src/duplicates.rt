@@ -1,7 +1,7 @@
 //! Two names at the top that are one.
 ghost use Rattle.std.specs.Prelude.{◌++◌, [], map, IfOk, OnOk};
 ghost use Rattle.fort_base.specs.Places.{IsFirst};
-ghost use Rattle.fort_builtin.specs.Types.{type_spellings};
+ghost use Rattle.fort_types_builtin.specs.Types.{type_spellings};
 ghost use Rattle.fort_hier.specs.Names.{IsDuplicate, all_called, built_in, type_called};
 ghost use Rattle.fort_hier.specs.Seen.{HoldsSeen};
 
@@ -9,7 +9,7 @@ use crate::seen::Seen;
 use crate::spellings::spelled;
 use crate::tops::Top;
 use fort_base::{Bytes, Memory, Place, earlier};
-use fort_builtin::{FUNCTION_COUNT, TYPE_NAME_COUNT, function_name, type_name};
+use fort_types_builtin::{FUNCTION_COUNT, TYPE_NAME_COUNT, function_name, type_name};
 use std::alloc::Global;
 
 /// The earliest place of a name at the top that clashes with one before it, or `None` where none

@@ -1,13 +1,13 @@
 //! The numbers of types by their spellings.
 ghost use Rattle.std.specs.Prelude.{◌≡◌, ◌++◌, ◌∷◌, ◌<◌, ◌^◌, [], length, map, IfOk, OnOk, List as Seq};
-ghost use Rattle.fort_builtin.specs.Types.{declared_spellings};
+ghost use Rattle.fort_types_builtin.specs.Types.{declared_spellings};
 ghost use Rattle.fort_hier.specs.Names.{Spelling};
 ghost use Rattle.fort_hier.specs.Numbers.{NumberIs, HoldsNumbers, all_types, number_of, head_spelling};
 
 use crate::heads::TypeHead;
 use crate::spellings::spelled;
 use fort_base::{Bytes, Memory};
-use fort_builtin::{TYPE_COUNT, type_name};
+use fort_types_builtin::{TYPE_COUNT, type_name};
 use indexmap::IndexMap;
 use std::alloc::Global;
 

@@ -20,9 +20,9 @@ use crate::types::types_in;
 use crate::unknown::first_unknown;
 use fort_base::rules::{DUPLICATE_NAME, UNKNOWN_TYPE};
 use fort_base::{Bytes, CheckFault, List, TypeTable};
-use fort_builtin::TYPE_NAME_COUNT;
 use fort_tree::{Component, Name};
 use fort_types::DeclaredType;
+use fort_types_builtin::TYPE_NAME_COUNT;
 use std::alloc::Global;
 
 /// Refuses a component with a name at the top that clashes with an earlier one (401).

@@ -1,6 +1,6 @@
 //! The declared types by numbers.
 ghost use Rattle.std.specs.Prelude.{◌≡◌, ◌++◌, length, map, IfOk, List as Seq};
-ghost use Rattle.fort_builtin.specs.Types.{built_in_declared};
+ghost use Rattle.fort_types_builtin.specs.Types.{built_in_declared};
 ghost use Rattle.fort_hier.specs.Names.{Spelling};
 ghost use Rattle.fort_hier.specs.Numbers.{HoldsNumbers, declared_by, extends_numbers, number};
 
@@ -8,9 +8,9 @@ use crate::heads::TypeHead;
 use crate::numbers::Numbers;
 use crate::spellings::spelled;
 use fort_base::{Bytes, List, Memory};
-use fort_builtin::{OBJECT, declared_types};
 use fort_tree::Name;
 use fort_types::DeclaredType;
+use fort_types_builtin::{OBJECT, declared_types};
 use std::alloc::Global;
 
 /// The declared types that heads declare, built-in ones first; the size is that of the list of

@@ -9,21 +9,21 @@ use Rattle.std.proofs.lemmas.Str.{IsUtf8-from_is_utf8, is_utf8-from_IsUtf8, IsUt
 use Rattle.fort_base.specs.declared.rules.TheConstants.{NOT_UTF8, TOO_MANY_TOKENS}
 use Rattle.fort_base.specs.declared.refusal.Place.{Place}
 use Rattle.fort_base.specs.declared.refusal.Rule.{Rule}
-use Rattle.fort_scan.specs.declared.word.Shape.{Shape}
-use Rattle.fort_scan.specs.declared.word.Shape.TheVariants as shape
-use Rattle.fort_scan.specs.Lists.{same, among}
-use Rattle.fort_scan.specs.Places.{place_after, the_start, gap_kind}
-use Rattle.fort_scan.specs.Tokens.{Piece}
-use Rattle.fort_scan.specs.Words.{shape_of}
-use Rattle.fort_scan.proofs.Symbols.{same_is, same_refl}
-use Rattle.fort_scan.proofs.Exists.{IsReadable, one_exists}
+use Rattle.fort_lex_scan.specs.declared.word.Shape.{Shape}
+use Rattle.fort_lex_scan.specs.declared.word.Shape.TheVariants as shape
+use Rattle.fort_lex_scan.specs.Lists.{same, among}
+use Rattle.fort_lex_scan.specs.Places.{place_after, the_start, gap_kind}
+use Rattle.fort_lex_scan.specs.Tokens.{Piece}
+use Rattle.fort_lex_scan.specs.Words.{shape_of}
+use Rattle.fort_lex_scan.proofs.Symbols.{same_is, same_refl}
+use Rattle.fort_lex_scan.proofs.Exists.{IsReadable, one_exists}
 use Rattle.fort_ops.specs.declared.op.Op.TheVariants as an_op
 use Rattle.fort_lex.specs.declared.meaning.Meaning.{Meaning}
 use Rattle.fort_lex.specs.declared.meaning.Meaning.TheVariants as a_meaning
-use Rattle.fort_token.specs.declared.token.Kind.{Kind}
-use Rattle.fort_token.specs.declared.token.Kind.TheVariants as kind
-use Rattle.fort_token.specs.declared.token.Token.{Token}
-use Rattle.fort_token.specs.declared.token.Tokens.{Tokens}
+use Rattle.fort_lex_token.specs.declared.token.Kind.{Kind}
+use Rattle.fort_lex_token.specs.declared.token.Kind.TheVariants as kind
+use Rattle.fort_lex_token.specs.declared.token.Token.{Token}
+use Rattle.fort_lex_token.specs.declared.token.Tokens.{Tokens}
 use Rattle.fort_lex.specs.Meanings.{meaning_of, is_numbered, is_numbered_shape, has_number, KindFor, MeansShape}
 use Rattle.fort_lex.specs.Files.{without, once, numbered_in, names_of, texts_of, texts_after, AreTokens, StandsFor, HasTokens, BreaksRule, not_utf8, too_many, fault}
 use Rattle.fort_lex.proofs.NameLaws.{or_true}

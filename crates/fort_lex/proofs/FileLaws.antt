@@ -3,16 +3,16 @@ use Rattle.std.proofs.Common.{◌≡◌, ℕ, suc, ◌+◌, ◌≤◌, Bool, tru
 use Rattle.std.specs.Prelude.{encode_utf8_all}
 use Rattle.std.proofs.lemmas.List.{append-nil, length-map}
 use Rattle.fort_base.specs.declared.refusal.Place.{Place}
-use Rattle.fort_scan.specs.Lists.{same, among}
-use Rattle.fort_scan.specs.Places.{place_after, the_start, gap_kind}
-use Rattle.fort_scan.specs.Tokens.{Piece}
-use Rattle.fort_scan.specs.declared.word.Shape.{Shape}
-use Rattle.fort_scan.specs.declared.word.Shape.TheVariants as shape
-use Rattle.fort_scan.specs.Words.{shape_of}
-use Rattle.fort_scan.proofs.Symbols.{same_is}
+use Rattle.fort_lex_scan.specs.Lists.{same, among}
+use Rattle.fort_lex_scan.specs.Places.{place_after, the_start, gap_kind}
+use Rattle.fort_lex_scan.specs.Tokens.{Piece}
+use Rattle.fort_lex_scan.specs.declared.word.Shape.{Shape}
+use Rattle.fort_lex_scan.specs.declared.word.Shape.TheVariants as shape
+use Rattle.fort_lex_scan.specs.Words.{shape_of}
+use Rattle.fort_lex_scan.proofs.Symbols.{same_is}
 use Rattle.fort_lex.specs.declared.builder.Builder.{Builder}
-use Rattle.fort_token.specs.declared.token.Kind.{Kind}
-use Rattle.fort_token.specs.declared.token.Token.{Token}
+use Rattle.fort_lex_token.specs.declared.token.Kind.{Kind}
+use Rattle.fort_lex_token.specs.declared.token.Token.{Token}
 use Rattle.fort_lex.specs.Meanings.{meaning_of, has_number, is_text_word, MeansShape, Means, said}
 use Rattle.fort_lex.specs.Files.{without, once, numbered_in, names_of, texts_of, texts_after, IsTokenOf, AreTokens, StandsFor}
 use Rattle.fort_lex.specs.Building.{HoldsNames, with_word, end_of, Holds, AddsWord}

@@ -4,10 +4,10 @@ use Rattle.std.specs.Prelude.{Contains}
 use Rattle.fort_ops.specs.declared.op.Op.{Op}
 use Rattle.fort_ops.specs.Spellings.{Spells, spellings}
 use Rattle.std.proofs.lemmas.Bool.Decides.{nat_tests}
-use Rattle.fort_scan.specs.Lists.{every, same}
-use Rattle.fort_scan.proofs.Symbols.{same_is, same_refl}
-use Rattle.fort_token.specs.declared.reserved.Reserved.{Reserved}
-use Rattle.fort_token.specs.declared.marks.Mark.{Mark}
+use Rattle.fort_lex_scan.specs.Lists.{every, same}
+use Rattle.fort_lex_scan.proofs.Symbols.{same_is, same_refl}
+use Rattle.fort_lex_token.specs.declared.reserved.Reserved.{Reserved}
+use Rattle.fort_lex_token.specs.declared.marks.Mark.{Mark}
 use Rattle.fort_lex.specs.declared.meaning.Meaning.TheVariants as a_meaning
 use Rattle.fort_lex.specs.declared.marks.TheConstants.{MARKS}
 use Rattle.fort_lex.specs.Spellings.{reserved_named, mark_ascii, mark_sign, is_sign, mark_in, mark_named, operator_in, operator_named, is_small, is_capital, is_capital_or_bar, has_operator_form}

@@ -4,12 +4,12 @@ use Rattle.std.specs.Prelude.{slice_get, encode_utf8_all}
 use Rattle.std.specs.Str.{bytes_eq}
 use Rattle.std.specs.Cmp.Lexicographic.{bytes_decides}
 use Rattle.std.proofs.lemmas.List.{append-nil, map-append, length-map}
-use Rattle.fort_scan.specs.Lists.{same, among}
-use Rattle.fort_scan.proofs.Symbols.{same_is, same_refl}
+use Rattle.fort_lex_scan.specs.Lists.{same, among}
+use Rattle.fort_lex_scan.proofs.Symbols.{same_is, same_refl}
 use Rattle.fort_lex.specs.declared.names.NameTable.{NameTable}
 use Rattle.fort_lex.specs.declared.meaning.Meaning.{Meaning}
 use Rattle.fort_lex.specs.declared.meaning.Meaning.TheVariants as a_meaning
-use Rattle.fort_token.specs.declared.token.Kind.{Kind}
+use Rattle.fort_lex_token.specs.declared.token.Kind.{Kind}
 use Rattle.fort_lex.specs.Meanings.{meaning_of, is_numbered, KindFor}
 use Rattle.fort_lex.specs.Building.{HoldsNames, KindAt, known_kind, with_word, words_with}
 

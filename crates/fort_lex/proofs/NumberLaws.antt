@@ -9,19 +9,19 @@ use Rattle.fort_base.specs.declared.refusal.Place.{Place}
 use Rattle.fort_ops.specs.declared.op.Op.{Op}
 use Rattle.fort_ops.specs.declared.op.Op.TheVariants as an_op
 use Rattle.fort_ops.specs.Spellings.{spellings}
-use Rattle.fort_scan.specs.Lists.{same}
-use Rattle.fort_scan.specs.Places.{place_after, the_start}
-use Rattle.fort_scan.specs.Tokens.{Piece}
-use Rattle.fort_scan.specs.declared.word.Shape.{Shape}
-use Rattle.fort_scan.specs.declared.word.Shape.TheVariants as shape
-use Rattle.fort_scan.specs.Words.{shape_of}
-use Rattle.fort_token.specs.declared.reserved.Reserved.{Reserved}
-use Rattle.fort_token.specs.declared.marks.Mark.{Mark}
+use Rattle.fort_lex_scan.specs.Lists.{same}
+use Rattle.fort_lex_scan.specs.Places.{place_after, the_start}
+use Rattle.fort_lex_scan.specs.Tokens.{Piece}
+use Rattle.fort_lex_scan.specs.declared.word.Shape.{Shape}
+use Rattle.fort_lex_scan.specs.declared.word.Shape.TheVariants as shape
+use Rattle.fort_lex_scan.specs.Words.{shape_of}
+use Rattle.fort_lex_token.specs.declared.reserved.Reserved.{Reserved}
+use Rattle.fort_lex_token.specs.declared.marks.Mark.{Mark}
 use Rattle.fort_lex.specs.declared.meaning.Meaning.{Meaning}
 use Rattle.fort_lex.specs.declared.meaning.Meaning.TheVariants as a_meaning
-use Rattle.fort_token.specs.declared.token.Kind.{Kind}
-use Rattle.fort_token.specs.declared.token.Token.{Token}
-use Rattle.fort_token.specs.declared.token.Tokens.{Tokens}
+use Rattle.fort_lex_token.specs.declared.token.Kind.{Kind}
+use Rattle.fort_lex_token.specs.declared.token.Token.{Token}
+use Rattle.fort_lex_token.specs.declared.token.Tokens.{Tokens}
 use Rattle.fort_lex.specs.Spellings.{reserved_named, mark_named, operator_in, operator_named, has_operator_form}
 use Rattle.fort_lex.specs.Meanings.{meaning_of, is_text_shape, is_text_word, KindFor, MeansShape, said}
 use Rattle.fort_lex.specs.Files.{names_of, texts_of, texts_after, AreTokens, StandsFor, IsOpWithin, IsKindWithin, HasItsNumbers}

@@ -1,13 +1,13 @@
 -- A text that is read up to some place.
 use Rattle.std.proofs.Common.{◌≡◌, ℕ, zero, suc, ◌+◌, ◌-◌, ◌<◌, ◌≤◌, ◌^◌, Bool, true, false, ◌&&◌, List, [], ◌∷◌, ◌++◌, length, take, drop, refl, sym, ap, subst, ◌∙◌, arith}
 use Rattle.std.proofs.lemmas.List.{drop-drop}
-use Rattle.fort_scan.specs.Chain.{Chain}
-use Rattle.fort_scan.specs.Gaps.{mark, body}
-use Rattle.fort_scan.specs.Tokens.{Piece, IsToken, with_mark}
-use Rattle.fort_scan.specs.declared.word.Shape.{Shape}
-use Rattle.fort_scan.specs.Steps.{piece_at, IsNext}
-use Rattle.fort_scan.proofs.Chains.{chain_more}
-use Rattle.fort_scan.proofs.Theorem.{pending, marked_last, pending_after, length_marked}
+use Rattle.fort_lex_scan.specs.Chain.{Chain}
+use Rattle.fort_lex_scan.specs.Gaps.{mark, body}
+use Rattle.fort_lex_scan.specs.Tokens.{Piece, IsToken, with_mark}
+use Rattle.fort_lex_scan.specs.declared.word.Shape.{Shape}
+use Rattle.fort_lex_scan.specs.Steps.{piece_at, IsNext}
+use Rattle.fort_lex_scan.proofs.Chains.{chain_more}
+use Rattle.fort_lex_scan.proofs.Theorem.{pending, marked_last, pending_after, length_marked}
 use Rattle.fort_lex.specs.declared.builder.Builder.{Builder}
 use Rattle.std.proofs.Math.Utf8.{scalar, scalars}
 use Rattle.fort_lex.specs.Building.{Holds}

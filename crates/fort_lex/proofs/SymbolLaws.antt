@@ -1,9 +1,9 @@
 -- Every symbol stands for something: none is taken for a name.
 use Rattle.std.proofs.Common.{◌≡◌, ℕ, Bool, true, false, cond, not, ◌&&◌, ◌||◌, ◌==◌, List, [], ◌∷◌, refl, sym, subst, arith}
 use Rattle.std.proofs.lemmas.Bool.Decides.{nat_tests}
-use Rattle.fort_scan.specs.Lists.{same, among, is_among}
-use Rattle.fort_scan.specs.Spelling.{endings, singles, is_symbol}
-use Rattle.fort_scan.proofs.Symbols.{same_is}
+use Rattle.fort_lex_scan.specs.Lists.{same, among, is_among}
+use Rattle.fort_lex_scan.specs.Spelling.{endings, singles, is_symbol}
+use Rattle.fort_lex_scan.proofs.Symbols.{same_is}
 use Rattle.fort_lex.specs.Spellings.{reserved_named, mark_named, operator_named}
 use Rattle.fort_lex.specs.Meanings.{meaning_of, is_numbered}
 

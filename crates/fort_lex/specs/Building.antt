@@ -6,10 +6,10 @@ use Rattle.fort_base.specs.declared.refusal.CheckFault.TheVariants as a_fault
 use Rattle.fort_base.specs.declared.refusal.Memory.{Memory}
 use Rattle.fort_base.specs.declared.refusal.Place.{Place}
 use Rattle.fort_base.specs.declared.refusal.Rule.{Rule}
-use Rattle.fort_scan.specs.Lists.{among}
-use Rattle.fort_scan.specs.Places.{place_after, the_start}
-use Rattle.fort_scan.specs.Tokens.{Piece}
-use Rattle.fort_scan.specs.Faults.{IsList, IsFault, IsMany}
+use Rattle.fort_lex_scan.specs.Lists.{among}
+use Rattle.fort_lex_scan.specs.Places.{place_after, the_start}
+use Rattle.fort_lex_scan.specs.Tokens.{Piece}
+use Rattle.fort_lex_scan.specs.Faults.{IsList, IsFault, IsMany}
 use Rattle.std.specs.Str.{bytes_eq}
 use Rattle.fort_base.specs.declared.rules.TheConstants.{TOO_MANY_TOKENS}
 use Rattle.indexmap.specs.IndexMap.{get_by}
@@ -18,9 +18,9 @@ use Rattle.fort_lex.specs.declared.builder.Builder.{Builder}
 use Rattle.fort_ops.specs.declared.op.Op.TheVariants as an_op
 use Rattle.fort_lex.specs.declared.meaning.Meaning.{Meaning}
 use Rattle.fort_lex.specs.declared.meaning.Meaning.TheVariants as a_meaning
-use Rattle.fort_token.specs.declared.token.Kind.{Kind}
-use Rattle.fort_token.specs.declared.token.Kind.TheVariants as kind
-use Rattle.fort_token.specs.declared.token.Tokens.{Tokens}
+use Rattle.fort_lex_token.specs.declared.token.Kind.{Kind}
+use Rattle.fort_lex_token.specs.declared.token.Kind.TheVariants as kind
+use Rattle.fort_lex_token.specs.declared.token.Tokens.{Tokens}
 use Rattle.fort_lex.specs.Meanings.{meaning_of, is_numbered, has_number, is_text_word, KindFor, Means, said}
 use Rattle.fort_lex.specs.Files.{names_of, texts_of, AreTokens, StandsFor}
 

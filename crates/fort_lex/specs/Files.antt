@@ -7,16 +7,16 @@ use Rattle.fort_base.specs.declared.refusal.Rule.{Rule}
 use Rattle.fort_base.specs.declared.refusal.Place.{Place}
 use Rattle.fort_base.specs.declared.refusal.CheckFault.{CheckFault}
 use Rattle.fort_base.specs.declared.refusal.CheckFault.TheVariants.{Refused, Memory}
-use Rattle.fort_scan.specs.Lists.{same}
-use Rattle.fort_scan.specs.Places.{place_after, the_start, gap_kind}
-use Rattle.fort_scan.specs.Tokens.{Piece}
-use Rattle.fort_scan.specs.Faults.{IsList, IsFault, IsMany}
+use Rattle.fort_lex_scan.specs.Lists.{same}
+use Rattle.fort_lex_scan.specs.Places.{place_after, the_start, gap_kind}
+use Rattle.fort_lex_scan.specs.Tokens.{Piece}
+use Rattle.fort_lex_scan.specs.Faults.{IsList, IsFault, IsMany}
 use Rattle.fort_ops.specs.declared.op.Op.{Op}
 use Rattle.fort_ops.specs.declared.op.Op.TheVariants as an_op
-use Rattle.fort_token.specs.declared.token.Kind.{Kind}
-use Rattle.fort_token.specs.declared.token.Kind.TheVariants as kind
-use Rattle.fort_token.specs.declared.token.Token.{Token}
-use Rattle.fort_token.specs.declared.token.Tokens.{Tokens}
+use Rattle.fort_lex_token.specs.declared.token.Kind.{Kind}
+use Rattle.fort_lex_token.specs.declared.token.Kind.TheVariants as kind
+use Rattle.fort_lex_token.specs.declared.token.Token.{Token}
+use Rattle.fort_lex_token.specs.declared.token.Tokens.{Tokens}
 use Rattle.fort_lex.specs.Meanings.{has_number, is_text_word, Means, said}
 
 -- the words that aren't w

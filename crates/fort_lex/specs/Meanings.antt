@@ -1,14 +1,14 @@
 -- The chapter "Tokens", what a spelling stands for. The code keeps what it found in a map.
 use Rattle.std.specs.Prelude.{◌≡◌, ℕ, Bool, true, false, cond, ◌==◌, List, [], ◌∷◌, Some, slice_get, drop}
 use Rattle.std.specs.Option.{option_map_or}
-use Rattle.fort_scan.specs.declared.word.Shape.{Shape}
-use Rattle.fort_scan.specs.declared.word.Shape.TheVariants as shape
-use Rattle.fort_scan.specs.Words.{shape_of}
+use Rattle.fort_lex_scan.specs.declared.word.Shape.{Shape}
+use Rattle.fort_lex_scan.specs.declared.word.Shape.TheVariants as shape
+use Rattle.fort_lex_scan.specs.Words.{shape_of}
 use Rattle.fort_ops.specs.declared.op.Op.TheVariants as an_op
 use Rattle.fort_lex.specs.declared.meaning.Meaning.{Meaning}
 use Rattle.fort_lex.specs.declared.meaning.Meaning.TheVariants as a_meaning
-use Rattle.fort_token.specs.declared.token.Kind.{Kind}
-use Rattle.fort_token.specs.declared.token.Kind.TheVariants as kind
+use Rattle.fort_lex_token.specs.declared.token.Kind.{Kind}
+use Rattle.fort_lex_token.specs.declared.token.Kind.TheVariants as kind
 use Rattle.fort_lex.specs.Spellings.{reserved_named, mark_named, operator_named, has_operator_form}
 
 -- a reserved word, another symbol or an operator by its table; else an operator word by its form;

@@ -3,13 +3,13 @@
 use Rattle.std.specs.Prelude.{ℕ, ◌-◌, Bool, false, cond, not, ◌&&◌, ◌||◌, ◌==◌, List, [], ◌∷◌, Option, None, Some, codes, nat_le, get_or, length}
 use Rattle.fort_ops.specs.declared.op.Op.{Op}
 use Rattle.fort_ops.specs.Spellings.{spellings}
-use Rattle.fort_token.specs.declared.reserved.Reserved.{Reserved}
-use Rattle.fort_token.specs.declared.reserved.Reserved.TheVariants as word
-use Rattle.fort_token.specs.declared.marks.Mark.{Mark}
-use Rattle.fort_token.specs.declared.marks.Mark.TheVariants as a_mark
+use Rattle.fort_lex_token.specs.declared.reserved.Reserved.{Reserved}
+use Rattle.fort_lex_token.specs.declared.reserved.Reserved.TheVariants as word
+use Rattle.fort_lex_token.specs.declared.marks.Mark.{Mark}
+use Rattle.fort_lex_token.specs.declared.marks.Mark.TheVariants as a_mark
 use Rattle.fort_lex.specs.declared.reserved.TheConstants.{WORDS}
 use Rattle.fort_lex.specs.declared.marks.TheConstants.{MARKS}
-use Rattle.fort_scan.specs.Lists.{every, same}
+use Rattle.fort_lex_scan.specs.Lists.{every, same}
 
 -- whether a word is a sign of one character, where there is one
 abbrev pub is_sign : Option ℕ → List ℕ → Bool

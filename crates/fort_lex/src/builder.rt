@@ -1,15 +1,15 @@
 ghost use Rattle.std.specs.Prelude.{◌≡◌, ◌<◌, ◌≤◌, ◌^◌, ◌+◌, ◌++◌, [], ◌∷◌, List as Seq, true, length, IfOk, OnOk, encode_utf8_all};
 ghost use Rattle.std.proofs.Math.Utf8.{scalars};
-ghost use Rattle.fort_scan.specs.Words.{shape_of};
-ghost use Rattle.fort_scan.specs.Tokens.{Piece};
+ghost use Rattle.fort_lex_scan.specs.Words.{shape_of};
+ghost use Rattle.fort_lex_scan.specs.Tokens.{Piece};
 ghost use Rattle.fort_lex.specs.Meanings.{said, escaped_char};
 ghost use Rattle.fort_lex.specs.Building.{Holds, OkKind};
 ghost use Rattle.fort_lex.specs.Files.{StandsFor};
 
 use crate::names::NameTable;
 use fort_base::{Bytes, List, Memory, Place};
-use fort_scan::{Shape, gap_kind, place_after};
-use fort_token::{Kind, Token, Tokens};
+use fort_lex_scan::{Shape, gap_kind, place_after};
+use fort_lex_token::{Kind, Token, Tokens};
 use std::alloc::Global;
 
 /// What a text says, its escapes replaced, as UTF-8.

@@ -1,8 +1,8 @@
 ghost use Rattle.std.specs.Prelude.{◌≡◌, ◌⊎◌, ℕ, List, true, false};
 ghost use Rattle.fort_base.specs.declared.refusal.Rule.{Rule};
 ghost use Rattle.fort_base.specs.declared.refusal.Place.{Place};
-ghost use Rattle.fort_token.specs.declared.token.Tokens.{Tokens};
-ghost use Rattle.fort_scan.specs.Spelling.{is_symbol};
+ghost use Rattle.fort_lex_token.specs.declared.token.Tokens.{Tokens};
+ghost use Rattle.fort_lex_scan.specs.Spelling.{is_symbol};
 ghost use Rattle.fort_lex.specs.Meanings.{meaning_of, is_numbered};
 ghost use Rattle.fort_lex.specs.Files.{HasTokens, BreaksRule};
 

@@ -10,7 +10,7 @@ mod reserved;
 mod source;
 mod text;
 
-pub use fort_scan::MOST_TOKENS;
-pub use fort_token::{Kind, Mark, Reserved, Token, Tokens};
+pub use fort_lex_scan::MOST_TOKENS;
+pub use fort_lex_token::{Kind, Mark, Reserved, Token, Tokens};
 pub use law::{no_symbol_is_a_name, one_answer};
 pub use source::tokens;

@@ -2,7 +2,7 @@ ghost use Rattle.std.specs.Prelude.{◌≡◌};
 ghost use Rattle.fort_lex.specs.Spellings.{mark_ascii, mark_sign, spells_mark, mark_in, mark_named};
 
 use crate::text::{is_ascii, is_sign};
-use fort_token::Mark;
+use fort_lex_token::Mark;
 
 /// Every such symbol.
 pub const MARKS: [Mark; 17] = [

@@ -1,13 +1,13 @@
 ghost use Rattle.std.specs.Prelude.{◌≡◌, true, encode_utf8_all, get_or};
 ghost use Rattle.std.proofs.Math.Utf8.{scalars};
-ghost use Rattle.fort_scan.specs.Lists.{every};
+ghost use Rattle.fort_lex_scan.specs.Lists.{every};
 ghost use Rattle.fort_lex.specs.Spellings.{is_small, is_capital, is_capital_or_bar, has_other, has_operator_form};
 ghost use Rattle.fort_lex.specs.Meanings.{meaning_of};
 
 use crate::marks::mark_named;
 use crate::reserved::reserved_named;
+use fort_lex_token::{Mark, Reserved};
 use fort_ops::{Op, spelling_of};
-use fort_token::{Mark, Reserved};
 
 /// What a word that is neither a number nor a text stands for.
 #[derive(Clone, Copy, Debug, PartialEq, Eq)]

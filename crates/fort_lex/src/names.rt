@@ -6,8 +6,8 @@ ghost use Rattle.fort_lex.specs.Building.{HoldsNames, KindAt, words_with};
 use crate::meaning::{Meaning, meaning_of};
 use crate::text::spelled;
 use fort_base::{Bytes, List, Memory, NameId};
+use fort_lex_token::Kind;
 use fort_ops::Op;
-use fort_token::Kind;
 use indexmap::IndexMap;
 use std::alloc::Global;
 

@@ -2,7 +2,7 @@ ghost use Rattle.std.specs.Prelude.{◌≡◌};
 ghost use Rattle.fort_lex.specs.Spellings.{word_ascii, word_sign, spells_word, reserved_in, reserved_named};
 
 use crate::text::{is_ascii, is_sign};
-use fort_token::Reserved;
+use fort_lex_token::Reserved;
 
 /// Every reserved word.
 pub const WORDS: [Reserved; 39] = [

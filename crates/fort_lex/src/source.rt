@@ -1,15 +1,15 @@
 ghost use Rattle.std.specs.Prelude.{◌≡◌, ◌<◌, ◌≤◌, ◌^◌, true, length, IfOk};
 ghost use Rattle.std.specs.Str.{chars};
 ghost use Rattle.std.proofs.Math.Utf8.{scalars};
-ghost use Rattle.fort_scan.specs.Places.{place_at, place_after, the_start};
+ghost use Rattle.fort_lex_scan.specs.Places.{place_at, place_after, the_start};
 ghost use Rattle.fort_lex.specs.Building.{TextAnswers};
 ghost use Rattle.fort_lex.specs.Files.{Answers, HasItsNumbers};
 
 use crate::builder::Builder;
 use fort_base::rules::{BAD_CHARACTER, NOT_UTF8, TOO_MANY_TOKENS};
 use fort_base::{CheckFault, Memory, Place};
-use fort_scan::{MOST_TOKENS, Step, mark_len, next_step, place_after};
-use fort_token::Tokens;
+use fort_lex_scan::{MOST_TOKENS, Step, mark_len, next_step, place_after};
+use fort_lex_token::Tokens;
 use std::alloc::{AllocError, Global};
 
 /// The characters of a text.

@@ -1,5 +1,5 @@
 ghost use Rattle.std.specs.Prelude.{◌≡◌, IfOk, encode_utf8_all, string_bytes};
-ghost use Rattle.fort_scan.specs.Lists.{same};
+ghost use Rattle.fort_lex_scan.specs.Lists.{same};
 ghost use Rattle.fort_lex.specs.Spellings.{is_sign};
 
 use std::alloc::{AllocError, Global};

@@ -5,13 +5,13 @@ use Rattle.fort_base.specs.declared.ty.Ty.{Ty}
 use Rattle.fort_base.specs.declared.ty.Ty.TheVariants as a_type
 use Rattle.fort_base.specs.declared.ids.TypeId.{TypeId}
 use Rattle.fort_types.specs.Types.{IsNumbered}
-use Rattle.fort_set.specs.declared.member.MemberKind.TheVariants as a_kind
-use Rattle.fort_set.specs.Rules.{HasNamed}
-use Rattle.fort_builtin.specs.declared.table.BuiltInDeclaration.{BuiltInDeclaration}
-use Rattle.fort_builtin.specs.declared.types.TheConstants.{TYPE_COUNT, ZZ32, ZZ64, STRING, BOOLEAN, RANGE}
-use Rattle.fort_builtin.specs.Declarations.{declarations}
-use Rattle.fort_builtin.specs.Rows.{Signature, signature_of, zz32, zz64, string, boolean, range, unit, row, binary, unary, number_operators, comparisons, equalities, junctions, spans, printers, number_rows, comparison_rows, equality_rows, negation_rows, joining_rows, function_rows, all_number_rows, all_truth_rows, all_text_rows, all_function_rows, all_other_rows, all_rows}
-use Rattle.fort_builtin.proofs.TableLaws.{has_rows}
+use Rattle.fort_types_sets.specs.declared.member.MemberKind.TheVariants as a_kind
+use Rattle.fort_types_sets.specs.Rules.{HasNamed}
+use Rattle.fort_types_builtin.specs.declared.table.BuiltInDeclaration.{BuiltInDeclaration}
+use Rattle.fort_types_builtin.specs.declared.types.TheConstants.{TYPE_COUNT, ZZ32, ZZ64, STRING, BOOLEAN, RANGE}
+use Rattle.fort_types_builtin.specs.Declarations.{declarations}
+use Rattle.fort_types_builtin.specs.Rows.{Signature, signature_of, zz32, zz64, string, boolean, range, unit, row, binary, unary, number_operators, comparisons, equalities, junctions, spans, printers, number_rows, comparison_rows, equality_rows, negation_rows, joining_rows, function_rows, all_number_rows, all_truth_rows, all_text_rows, all_function_rows, all_other_rows, all_rows}
+use Rattle.fort_types_builtin.proofs.TableLaws.{has_rows}
 use Rattle.fort_hier.specs.Names.{Spelling}
 use Rattle.fort_member.specs.declared.entries.Entry.{Entry}
 use Rattle.fort_member.specs.BuiltIn.{built_in_entry, built_in_entries}

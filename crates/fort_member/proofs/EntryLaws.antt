@@ -30,16 +30,16 @@ use Rattle.fort_tree.specs.declared.declarations.Parameters.{Parameters}
 use Rattle.fort_tree.specs.declared.declarations.Trait.{Trait}
 use Rattle.fort_tree.specs.declared.declarations.TraitMember.{TraitMember}
 use Rattle.fort_tree.specs.declared.declarations.TraitMember.TheVariants as trait_member
-use Rattle.fort_type_names.specs.Mentions.{mentioned_type, mentioned_parameters}
-use Rattle.fort_type_names.specs.Mentioning.{mentioned_expr}
-use Rattle.fort_type_names.specs.TypeNames.{mentioned_function, mentioned_method_parameter, mentioned_method_parameters, mentioned_body, mentioned_method, mentioned_trait_member, mentioned_object_member, mentioned_object_parameter_list, mentioned_object_parameters, mentioned_trait, mentioned_object, mentioned_declaration, extended, excluded, comprised}
+use Rattle.fort_tree_type_names.specs.Mentions.{mentioned_type, mentioned_parameters}
+use Rattle.fort_tree_type_names.specs.Mentioning.{mentioned_expr}
+use Rattle.fort_tree_type_names.specs.TypeNames.{mentioned_function, mentioned_method_parameter, mentioned_method_parameters, mentioned_body, mentioned_method, mentioned_trait_member, mentioned_object_member, mentioned_object_parameter_list, mentioned_object_parameters, mentioned_trait, mentioned_object, mentioned_declaration, extended, excluded, comprised}
 use Rattle.fort_hier.specs.declared.heads.TypeHead.{TypeHead}
 use Rattle.fort_hier.specs.Heads.{heads_from, head_of}
 use Rattle.fort_hier.specs.Names.{Spelling, spelling}
 use Rattle.fort_hier.specs.Numbers.{number_of}
 use Rattle.fort_hier.specs.Tops.{is_self, has_self, is_functional}
-use Rattle.fort_set.specs.Rules.{HasNamed}
-use Rattle.fort_field.specs.Written.{named, written}
+use Rattle.fort_types_sets.specs.Rules.{HasNamed}
+use Rattle.fort_member_fields.specs.Written.{named, written}
 use Rattle.fort_member.specs.declared.entries.Entry.{Entry}
 use Rattle.fort_member.specs.Declarations.{parameter_types, next_parameter_type, function_entry, method_parameter_type, next_method_parameter_type, method_types, self_among, self_position, type_id, owner_position, method_entry, trait_member_entry, trait_entry, object_member_entry, object_entry, next_object_parameter_type, object_types, constructor_entry, entries_at, declared_entries}
 use Rattle.fort_member.proofs.Numbered.{all_left, all_right, all_join, out_named, named_numbered, written_numbered}

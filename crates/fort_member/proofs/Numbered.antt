@@ -15,12 +15,12 @@ use Rattle.fort_tree.specs.declared.types.TypeList.{TypeList}
 use Rattle.fort_tree.specs.declared.types.SimpleType.TheOpen.{SimpleType-F, TypeTree-F, NextType-F, TypeList-F}
 use Rattle.fort_tree.specs.declared.types.SimpleType.TheFolds.{fold-roll-SimpleType, map-SimpleType, fold-roll-TypeTree, map-TypeTree, ind-TypeTree, fold-roll-NextType, map-NextType, fold-roll-TypeList, map-TypeList}
 use Rattle.fort_tree.specs.declared.types.SimpleType.TheViews.{roll-SimpleType, roll-TypeTree, roll-NextType, roll-TypeList}
-use Rattle.fort_type_names.specs.Mentioned.{Mentioned, all_mentioned}
-use Rattle.fort_type_names.specs.Mentions.{mentioned_simple_type, mentioned_type, mentioned_next_type, mentioned_type_list, mention_type_tree, mention_simple_type, mention_type_list, mention_next_type}
-use Rattle.fort_builtin.specs.Types.{any_spelling}
+use Rattle.fort_tree_type_names.specs.Mentioned.{Mentioned, all_mentioned}
+use Rattle.fort_tree_type_names.specs.Mentions.{mentioned_simple_type, mentioned_type, mentioned_next_type, mentioned_type_list, mention_type_tree, mention_simple_type, mention_type_list, mention_next_type}
+use Rattle.fort_types_builtin.specs.Types.{any_spelling}
 use Rattle.fort_hier.specs.Names.{Spelling, spelling}
 use Rattle.fort_hier.specs.Numbers.{number_of}
-use Rattle.fort_field.specs.Written.{named, parts, simple_type, type_tree, next_type, type_list, written, written_simple, written_next, written_list}
+use Rattle.fort_member_fields.specs.Written.{named, parts, simple_type, type_tree, next_type, type_list, written, written_simple, written_next, written_list}
 
 -- ---- lists all of whose items have a property
 

@@ -5,9 +5,9 @@ use Rattle.fort_tree.specs.declared.declarations.Declared.{Declared}
 use Rattle.fort_hier.specs.declared.heads.TypeHead.{TypeHead}
 use Rattle.fort_hier.specs.Heads.{heads_of}
 use Rattle.fort_hier.specs.Names.{Spelling}
-use Rattle.fort_set.specs.declared.field.Field.{Field}
-use Rattle.fort_set.specs.declared.member.Members.{Members}
-use Rattle.fort_field.specs.Answers.{HasFields}
+use Rattle.fort_types_sets.specs.declared.field.Field.{Field}
+use Rattle.fort_types_sets.specs.declared.member.Members.{Members}
+use Rattle.fort_member_fields.specs.Answers.{HasFields}
 use Rattle.fort_member.specs.Answers.{AreMembers, AreOver}
 
 over_parts : (c : Component) (fields : List (List Field)) (m : Members) → HasFields c fields

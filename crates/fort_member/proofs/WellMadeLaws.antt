@@ -11,22 +11,22 @@ use Rattle.fort_types.specs.Hierarchy as types
 use Rattle.fort_types.specs.Types.{IsNumbered}
 use Rattle.fort_tree.specs.declared.declarations.Component.{Component}
 use Rattle.fort_tree.specs.declared.spot.Name.{Name}
-use Rattle.fort_type_names.specs.TypeNames.{type_names}
+use Rattle.fort_tree_type_names.specs.TypeNames.{type_names}
 use Rattle.fort_hier.specs.declared.accepted.Hierarchy.{Hierarchy}
 use Rattle.fort_hier.specs.Heads.{heads_of}
 use Rattle.fort_hier.specs.Hierarchies.{declares, IsHierarchy, unknown}
-use Rattle.fort_builtin.specs.declared.types.TheConstants.{TYPE_COUNT}
-use Rattle.fort_builtin.specs.Types.{any_spelling, declared_spellings, built_in_declared}
-use Rattle.fort_builtin.proofs.PlainTypes.{built_in_count, declared_count}
+use Rattle.fort_types_builtin.specs.declared.types.TheConstants.{TYPE_COUNT}
+use Rattle.fort_types_builtin.specs.Types.{any_spelling, declared_spellings, built_in_declared}
+use Rattle.fort_types_builtin.proofs.PlainTypes.{built_in_count, declared_count}
 use Rattle.fort_hier.specs.Names.{Spelling, spelling}
 use Rattle.fort_hier.specs.Numbers.{number_of, declared_types, declared_by, head_spelling, all_types}
 use Rattle.fort_hier.proofs.NamesWalk.{as_long}
 use Rattle.fort_hier.proofs.NumberLaws.{unknown_past}
-use Rattle.fort_set.specs.declared.member.Member.{Member}
-use Rattle.fort_set.specs.declared.member.MemberSet.{MemberSet}
-use Rattle.fort_set.specs.declared.member.MemberKind.TheVariants as a_kind
-use Rattle.fort_set.specs.Rules.{IsWellMade, HasNamed}
-use Rattle.fort_field.specs.Own.{types_of}
+use Rattle.fort_types_sets.specs.declared.member.Member.{Member}
+use Rattle.fort_types_sets.specs.declared.member.MemberSet.{MemberSet}
+use Rattle.fort_types_sets.specs.declared.member.MemberKind.TheVariants as a_kind
+use Rattle.fort_types_sets.specs.Rules.{IsWellMade, HasNamed}
+use Rattle.fort_member_fields.specs.Own.{types_of}
 use Rattle.fort_member.specs.declared.entries.Entry.{Entry}
 use Rattle.fort_member.specs.BuiltIn.{built_in_entries}
 use Rattle.fort_member.specs.Declarations.{declared_entries, entries_of}

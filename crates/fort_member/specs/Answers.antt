@@ -4,17 +4,17 @@ use Rattle.std.specs.List.{flat_map}
 use Rattle.fort_base.specs.declared.refusal.Place.{Place}
 use Rattle.fort_tree.specs.declared.declarations.Component.{Component}
 use Rattle.fort_tree.specs.declared.declarations.Declared.{Declared}
-use Rattle.fort_builtin.specs.declared.types.TheConstants.{TYPE_COUNT}
+use Rattle.fort_types_builtin.specs.declared.types.TheConstants.{TYPE_COUNT}
 use Rattle.fort_hier.specs.declared.heads.TypeHead.{TypeHead}
 use Rattle.fort_hier.specs.Heads.{head_place}
 use Rattle.fort_hier.specs.Hierarchies.{declares, places_of}
 use Rattle.fort_hier.specs.Names.{Spelling}
 use Rattle.fort_hier.specs.Numbers.{all_types, hierarchy_of}
-use Rattle.fort_set.specs.declared.field.Field.{Field}
-use Rattle.fort_set.specs.declared.member.Members.{Members}
-use Rattle.fort_set.specs.Leaves.{leaves_of}
-use Rattle.fort_field.specs.Own.{declared_variables, variables_of}
-use Rattle.fort_field.specs.Answers.{HasFields}
+use Rattle.fort_types_sets.specs.declared.field.Field.{Field}
+use Rattle.fort_types_sets.specs.declared.member.Members.{Members}
+use Rattle.fort_types_sets.specs.Leaves.{leaves_of}
+use Rattle.fort_member_fields.specs.Own.{declared_variables, variables_of}
+use Rattle.fort_member_fields.specs.Answers.{HasFields}
 use Rattle.fort_member.specs.BuiltIn.{built_in_entries}
 use Rattle.fort_member.specs.Declarations.{declared_entries, entries_of}
 use Rattle.fort_member.specs.Sets.{sets_of}

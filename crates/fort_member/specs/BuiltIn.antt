@@ -1,10 +1,10 @@
 -- The chapter "Members", built-in declarations: what they are as members. The code makes one for
 -- each row of their table.
 use Rattle.std.specs.Prelude.{false, List, None, map}
-use Rattle.fort_builtin.specs.declared.table.BuiltInDeclaration.{BuiltInDeclaration}
-use Rattle.fort_builtin.specs.Declarations.{declarations}
-use Rattle.fort_set.specs.declared.member.Member.{Member}
-use Rattle.fort_set.specs.declared.member.MemberKind.TheVariants as a_kind
+use Rattle.fort_types_builtin.specs.declared.table.BuiltInDeclaration.{BuiltInDeclaration}
+use Rattle.fort_types_builtin.specs.Declarations.{declarations}
+use Rattle.fort_types_sets.specs.declared.member.Member.{Member}
+use Rattle.fort_types_sets.specs.declared.member.MemberKind.TheVariants as a_kind
 use Rattle.fort_member.specs.declared.entries.Entry.{Entry}
 
 -- A built-in declaration as a member: it has no place and no owner.

@@ -37,11 +37,11 @@ use Rattle.fort_hier.specs.Names.{Spelling, spelling}
 use Rattle.fort_hier.specs.Numbers.{number_of}
 use Rattle.fort_hier.specs.Tops.{is_self, is_functional}
 use Rattle.fort_member.specs.declared.entries.Entry.{Entry}
-use Rattle.fort_set.specs.declared.member.Member.{Member}
-use Rattle.fort_set.specs.declared.member.MemberKind.{MemberKind}
-use Rattle.fort_set.specs.declared.member.MemberKind.TheVariants as a_kind
-use Rattle.fort_field.specs.Own.{types_of}
-use Rattle.fort_field.specs.Written.{written}
+use Rattle.fort_types_sets.specs.declared.member.Member.{Member}
+use Rattle.fort_types_sets.specs.declared.member.MemberKind.{MemberKind}
+use Rattle.fort_types_sets.specs.declared.member.MemberKind.TheVariants as a_kind
+use Rattle.fort_member_fields.specs.Own.{types_of}
+use Rattle.fort_member_fields.specs.Written.{written}
 use Rattle.fort_member.specs.BuiltIn.{built_in_entries}
 
 -- ---- names

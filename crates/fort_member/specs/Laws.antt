@@ -2,16 +2,16 @@
 -- none of this.
 use Rattle.std.specs.Prelude.{◌≡◌, ◌++◌, ℕ, Bool, cond, List, [], length, map, slice_get, Some}
 use Rattle.fort_tree.specs.declared.declarations.Component.{Component}
-use Rattle.fort_type_names.specs.TypeNames.{type_names}
+use Rattle.fort_tree_type_names.specs.TypeNames.{type_names}
 use Rattle.fort_hier.specs.declared.accepted.Hierarchy.{Hierarchy}
 use Rattle.fort_hier.specs.Hierarchies.{declares, IsHierarchy}
-use Rattle.fort_builtin.specs.declared.table.BuiltInDeclaration.{BuiltInDeclaration}
-use Rattle.fort_builtin.specs.Declarations.{declarations_of}
-use Rattle.fort_set.specs.declared.member.Member.{Member}
-use Rattle.fort_set.specs.declared.member.MemberKind.TheVariants as a_kind
-use Rattle.fort_set.specs.declared.member.MemberSet.{MemberSet}
-use Rattle.fort_set.specs.declared.member.Members.{Members}
-use Rattle.fort_set.specs.Rules.{IsWellMade}
+use Rattle.fort_types_builtin.specs.declared.table.BuiltInDeclaration.{BuiltInDeclaration}
+use Rattle.fort_types_builtin.specs.Declarations.{declarations_of}
+use Rattle.fort_types_sets.specs.declared.member.Member.{Member}
+use Rattle.fort_types_sets.specs.declared.member.MemberKind.TheVariants as a_kind
+use Rattle.fort_types_sets.specs.declared.member.MemberSet.{MemberSet}
+use Rattle.fort_types_sets.specs.declared.member.Members.{Members}
+use Rattle.fort_types_sets.specs.Rules.{IsWellMade}
 use Rattle.fort_member.specs.Answers.{AreMembers}
 use Rattle.fort_member.specs.BuiltIn.{built_in_member}
 

@@ -4,8 +4,8 @@ use Rattle.std.specs.Bool.{beq}
 use Rattle.std.specs.Str.{bytes_eq}
 use Rattle.fort_hier.specs.Names.{Spelling}
 use Rattle.fort_member.specs.declared.entries.Entry.{Entry}
-use Rattle.fort_set.specs.declared.member.Member.{Member}
-use Rattle.fort_set.specs.declared.member.MemberSet.{MemberSet}
+use Rattle.fort_types_sets.specs.declared.member.Member.{Member}
+use Rattle.fort_types_sets.specs.declared.member.MemberSet.{MemberSet}
 
 -- What the declarations of one set have in common: the name, the kind (function or dotted), and the
 -- number of parameters.

@@ -4,8 +4,8 @@ ghost use Rattle.fort_member.specs.BuiltIn.{built_in_entries, built_in_entry};
 
 use crate::entries::Entry;
 use fort_base::{List, Memory};
-use fort_builtin::{BuiltInDeclaration, declarations};
-use fort_set::{Member, MemberKind};
+use fort_types_builtin::{BuiltInDeclaration, declarations};
+use fort_types_sets::{Member, MemberKind};
 use std::alloc::Global;
 
 /// The built-in declarations, in their order.

@@ -1,28 +1,28 @@
 //! The members of a component, or the rule that it breaks.
 ghost use Rattle.std.specs.Prelude.{◌≡◌, ◌++◌, ◌<◌, ◌^◌, length, Option, None, Some, map, replicate, IfOk, IfErr, List as Seq};
 ghost use Rattle.std.specs.List.{flat_map};
-ghost use Rattle.fort_type_names.specs.TypeNames.{type_names};
+ghost use Rattle.fort_tree_type_names.specs.TypeNames.{type_names};
 ghost use Rattle.fort_hier.specs.Heads.{head_place};
 ghost use Rattle.fort_hier.specs.Hierarchies.{IsHierarchy};
 ghost use Rattle.fort_hier.specs.Names.{Spelling};
 ghost use Rattle.fort_hier.specs.Numbers.{HoldsNumbers};
-ghost use Rattle.fort_field.specs.Rules.{IsFault};
+ghost use Rattle.fort_member_fields.specs.Rules.{IsFault};
 ghost use Rattle.fort_member.specs.Answers.{AreMembers, AreOver};
 ghost use Rattle.fort_member.specs.BuiltIn.{built_in_entries};
 ghost use Rattle.fort_member.specs.Declarations.{declared_entries};
 ghost use Rattle.fort_member.specs.Sets.{sets_of};
-ghost use Rattle.fort_set.specs.Leaves.{leaves_of, is_leaf as is_object_or_leaf};
+ghost use Rattle.fort_types_sets.specs.Leaves.{leaves_of, is_leaf as is_object_or_leaf};
 
 use crate::entries::entries_in;
 use crate::sets::sets_in;
 use crate::variables::variables_in;
 use fort_base::{Bytes, CheckFault, List, Memory, Place};
-use fort_builtin::{TYPE_COUNT, TYPE_NAME_COUNT};
-use fort_field::fields;
 use fort_hier::{Hierarchy, Numbers, TypeHead, heads_in, numbers_in, places_in, types_in};
-use fort_set::{Field, MemberSet, Members};
+use fort_member_fields::fields;
 use fort_tree::{Component, Declared};
 use fort_types::{DeclaredType, TypeKind};
+use fort_types_builtin::{TYPE_COUNT, TYPE_NAME_COUNT};
+use fort_types_sets::{Field, MemberSet, Members};
 use std::alloc::Global;
 
 /// More types than this have no numbers.

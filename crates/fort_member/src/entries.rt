@@ -10,10 +10,10 @@ use crate::built_in::built_in;
 use crate::functions::{add_constructor, add_function};
 use crate::methods::{add_object_methods, add_trait_methods};
 use fort_base::{Bytes, List, Memory};
-use fort_field::type_id;
 use fort_hier::{Numbers, spelled};
-use fort_set::Member;
+use fort_member_fields::type_id;
 use fort_tree::{Declaration, Declared};
+use fort_types_sets::Member;
 use std::alloc::Global;
 
 /// A declaration with what its set has in common beside the number of parameters.

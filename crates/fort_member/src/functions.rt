@@ -6,14 +6,14 @@ ghost use Rattle.fort_member.specs.Declarations.{operator_spelling, set_name, fu
 
 use crate::entries::Entry;
 use fort_base::{Bytes, List, Memory, Place, Ty, TypeId};
-use fort_field::written_type;
 use fort_hier::{Numbers, spelled};
+use fort_member_fields::written_type;
 use fort_ops::Op;
-use fort_set::{Member, MemberKind};
 use fort_tree::{
     Function, FunctionName, NextObjectParameter, NextParameter, Object, ObjectParameterList,
     Parameters,
 };
+use fort_types_sets::{Member, MemberKind};
 use std::alloc::Global;
 
 /// Adds a function.

@@ -13,7 +13,7 @@ pub fn sets_are_well_made()
 /// A law: in each overload set of a component the built-in declarations of its name and number of
 /// parameters stand first, in the order of their table, and no other one is built in; among dotted
 /// methods none is. So what a built-in member is to the machine is told by the name of its set, its
-/// number of parameters, and its position there (`primitive` of fort_builtin). The chapter is
+/// number of parameters, and its position there (`primitive` of fort_types_builtin). The chapter is
 /// "Members".
 pub fn built_ins_stand_first()
     ensures { BuiltInsStandFirst }

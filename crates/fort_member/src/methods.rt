@@ -10,13 +10,13 @@ ghost use Rattle.fort_member.specs.Declarations.{method_parameter_type, next_met
 use crate::entries::Entry;
 use crate::functions::{name_of_set, place_of_function};
 use fort_base::{Bytes, List, Memory, Ty, TypeId};
-use fort_field::written_type;
 use fort_hier::{Numbers, is_with_self};
-use fort_set::{Member, MemberKind};
+use fort_member_fields::written_type;
 use fort_tree::{
     Method, MethodBody, MethodParameter, MethodParameters, NextMethodParameter, ObjectEntry,
     ObjectMember, TraitEntry, TraitMember,
 };
+use fort_types_sets::{Member, MemberKind};
 use std::alloc::Global;
 
 /// Adds the methods of a trait.

@@ -5,7 +5,7 @@ ghost use Rattle.fort_member.specs.Sets.{sets_of, same_key, key_of, set_key, wid
 
 use crate::entries::Entry;
 use fort_base::{List, Memory};
-use fort_set::MemberSet;
+use fort_types_sets::MemberSet;
 use std::alloc::Global;
 
 /// The sets of declarations, in the order of their first ones.

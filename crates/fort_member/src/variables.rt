@@ -3,13 +3,13 @@ ghost use Rattle.std.specs.Prelude.{◌≡◌, ◌++◌, length, IfOk, OnOk, Lis
 ghost use Rattle.std.specs.List.{flat_map};
 ghost use Rattle.fort_hier.specs.Names.{Spelling};
 ghost use Rattle.fort_hier.specs.Numbers.{HoldsNumbers};
-ghost use Rattle.fort_field.specs.Own.{variables_at, declared_variables};
+ghost use Rattle.fort_member_fields.specs.Own.{variables_at, declared_variables};
 
 use fort_base::{Bytes, List, Memory};
-use fort_field::field_of_variable;
 use fort_hier::Numbers;
-use fort_set::Field;
+use fort_member_fields::field_of_variable;
 use fort_tree::{Declaration, Declared};
+use fort_types_sets::Field;
 use std::alloc::Global;
 
 /// The variables at the top, in source order; the size is that of the list of numbered names.

@@ -5,10 +5,10 @@ use Rattle.std.proofs.lemmas.Option.{slice_get_within}
 use Rattle.fort_base.specs.declared.table.TypeTable.{TypeTable}
 use Rattle.fort_types.specs.Hierarchy.{DeclaredTypes, Sound}
 use Rattle.fort_types.specs.Table.{HasRows}
-use Rattle.fort_set.specs.declared.member.Member.{Member}
-use Rattle.fort_set.specs.declared.member.MemberSet.{MemberSet}
-use Rattle.fort_set.specs.Pairs.{Passes}
-use Rattle.fort_set.specs.Rules.{StandsAt}
+use Rattle.fort_types_sets.specs.declared.member.Member.{Member}
+use Rattle.fort_types_sets.specs.declared.member.MemberSet.{MemberSet}
+use Rattle.fort_types_sets.specs.Pairs.{Passes}
+use Rattle.fort_types_sets.specs.Rules.{StandsAt}
 use Rattle.fort_over.specs.declared.places.BrokenPair.{BrokenPair}
 use Rattle.fort_over.specs.Standing.{standing, Spot, ByPositions, Pairs, pairs_of}
 use Rattle.fort_over.specs.Walks.{IsSooner, Keeps, IsJudged, IsBest, PairsAmong, PairAt, PairsWith, PairsIn, RowBest, SetBest, SetsBest}

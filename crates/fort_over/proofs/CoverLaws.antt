@@ -16,12 +16,12 @@ use Rattle.fort_types.specs.Types.{Below}
 use Rattle.fort_types.specs.Table.{is_set, IsExact, HasRows}
 use Rattle.fort_types.proofs.Bits.{set_inside}
 use Rattle.fort_types.proofs.Paths.{end_inside}
-use Rattle.fort_set.specs.declared.member.Member.{Member}
-use Rattle.fort_set.specs.declared.member.MemberSet.{MemberSet}
-use Rattle.fort_set.specs.declared.member.Members.{Members}
-use Rattle.fort_set.specs.Applicable.{Along}
-use Rattle.fort_set.specs.Coverage.{IsCovered}
-use Rattle.fort_set.specs.Leaves.{leaf_kind, leaves_of}
+use Rattle.fort_types_sets.specs.declared.member.Member.{Member}
+use Rattle.fort_types_sets.specs.declared.member.MemberSet.{MemberSet}
+use Rattle.fort_types_sets.specs.declared.member.Members.{Members}
+use Rattle.fort_types_sets.specs.Applicable.{Along}
+use Rattle.fort_types_sets.specs.Coverage.{IsCovered}
+use Rattle.fort_types_sets.specs.Leaves.{leaf_kind, leaves_of}
 use Rattle.fort_over.specs.Walks.{IsObjectOf, Covers, SomeCovers}
 
 near : (j n : ℕ) → j < n + 1 → (j < n) ⊎ (j ≡ n)

@@ -2,10 +2,10 @@
 use Rattle.std.proofs.Common.{◌≡◌, ℕ}
 use Rattle.fort_types.specs.Hierarchy.{DeclaredTypes, Sound}
 use Rattle.fort_types.proofs.Antisymmetry.{same_lists, same}
-use Rattle.fort_set.specs.declared.member.Member.{Member}
-use Rattle.fort_set.specs.declared.member.MemberSet.{MemberSet}
-use Rattle.fort_set.specs.Applicable.{IsMoreSpecific}
-use Rattle.fort_set.specs.Pairs.{NeverMeet, AreUnordered, Passes, aside, ordered, reversed, met, Breaks, same_parameters, first_result, second_result, arrow_overlap, no_meet, too_wide, not_declared}
+use Rattle.fort_types_sets.specs.declared.member.Member.{Member}
+use Rattle.fort_types_sets.specs.declared.member.MemberSet.{MemberSet}
+use Rattle.fort_types_sets.specs.Applicable.{IsMoreSpecific}
+use Rattle.fort_types_sets.specs.Pairs.{NeverMeet, AreUnordered, Passes, aside, ordered, reversed, met, Breaks, same_parameters, first_result, second_result, arrow_overlap, no_meet, too_wide, not_declared}
 
 module _ (h : DeclaredTypes) (sound : Sound h) (s : MemberSet) where
   -- two that are more specific than each other have the same parameters

@@ -11,12 +11,12 @@ use Rattle.fort_base.specs.Places.{IsBefore, IsFirst, Keeps as KeepsPlace, Keeps
 use Rattle.fort_types.specs.Hierarchy.{DeclaredTypes, Leaf}
 use Rattle.fort_types.specs.Table.{HasRows}
 use Rattle.fort_hier.proofs.First.{first_none, first_same, first_more, not_before}
-use Rattle.fort_set.specs.declared.member.Member.{Member}
-use Rattle.fort_set.specs.declared.member.MemberKind.TheVariants as a_kind
-use Rattle.fort_set.specs.declared.member.MemberSet.{MemberSet}
-use Rattle.fort_set.specs.declared.member.Members.{Members}
-use Rattle.fort_set.specs.Coverage.{IsObjectBelow, IsCovered}
-use Rattle.fort_set.specs.Rules.{StandsAt}
+use Rattle.fort_types_sets.specs.declared.member.Member.{Member}
+use Rattle.fort_types_sets.specs.declared.member.MemberKind.TheVariants as a_kind
+use Rattle.fort_types_sets.specs.declared.member.MemberSet.{MemberSet}
+use Rattle.fort_types_sets.specs.declared.member.Members.{Members}
+use Rattle.fort_types_sets.specs.Coverage.{IsObjectBelow, IsCovered}
+use Rattle.fort_types_sets.specs.Rules.{StandsAt}
 use Rattle.fort_over.specs.Standing.{standing}
 use Rattle.fort_over.specs.Walks.{UncoveredAt, UncoveredOf, UncoveredIn, UncoveredBy, PlacesAmong, AreOf, AreCoveredFor, IsObjectOf, ObjectsFirst, DeclarationFirst, SetFirst, SetsFirst}
 

@@ -8,8 +8,8 @@ use Rattle.fort_base.specs.declared.refusal.Place.{Place}
 use Rattle.fort_types.specs.Hierarchy.{DeclaredTypes}
 use Rattle.fort_hier.specs.declared.accepted.Hierarchy.{Hierarchy}
 use Rattle.fort_base.specs.Places.{IsFirst}
-use Rattle.fort_set.specs.declared.member.MemberSet.{MemberSet}
-use Rattle.fort_set.specs.declared.member.Members.{Members}
+use Rattle.fort_types_sets.specs.declared.member.MemberSet.{MemberSet}
+use Rattle.fort_types_sets.specs.declared.member.Members.{Members}
 use Rattle.fort_over.specs.declared.places.BrokenPair.{BrokenPair}
 use Rattle.fort_over.specs.Standing.{standing, Spot, pairs_of}
 use Rattle.fort_over.specs.Answers.{AreOver, KeepAllRules, IsUncovered, IsPairFault, IsObjectFault}

@@ -10,12 +10,12 @@ use Rattle.fort_types.specs.Hierarchy.{DeclaredTypes, Sound}
 use Rattle.fort_types.specs.Table.{HasRows}
 use Rattle.fort_hier.specs.declared.accepted.Hierarchy.{Hierarchy}
 use Rattle.fort_base.specs.Places.{IsEarliest}
-use Rattle.fort_set.specs.declared.member.Member.{Member}
-use Rattle.fort_set.specs.declared.member.MemberSet.{MemberSet}
-use Rattle.fort_set.specs.declared.member.Members.{Members}
-use Rattle.fort_set.specs.Coverage.{IsAbstractOf, IsObjectBelow, IsCovered}
-use Rattle.fort_set.specs.Leaves.{leaves_of}
-use Rattle.fort_set.specs.Rules.{StandsAt, IsWellMade, KeepsRules}
+use Rattle.fort_types_sets.specs.declared.member.Member.{Member}
+use Rattle.fort_types_sets.specs.declared.member.MemberSet.{MemberSet}
+use Rattle.fort_types_sets.specs.declared.member.Members.{Members}
+use Rattle.fort_types_sets.specs.Coverage.{IsAbstractOf, IsObjectBelow, IsCovered}
+use Rattle.fort_types_sets.specs.Leaves.{leaves_of}
+use Rattle.fort_types_sets.specs.Rules.{StandsAt, IsWellMade, KeepsRules}
 use Rattle.fort_over.specs.Standing.{standing, Spot, pairs_of, IsFirstBroken, NoneBroken}
 
 -- A component's members are over its declared types, which are an accepted hierarchy with these

@@ -4,10 +4,10 @@ use Rattle.std.specs.Prelude.{◌≡◌, ◌⊎◌, ◌<◌, ℕ, List, Option, 
 use Rattle.fort_base.specs.declared.refusal.Place.{Place}
 use Rattle.fort_base.specs.Places.{IsBefore}
 use Rattle.fort_types.specs.Hierarchy.{DeclaredTypes}
-use Rattle.fort_set.specs.declared.member.Member.{Member}
-use Rattle.fort_set.specs.declared.member.MemberSet.{MemberSet}
-use Rattle.fort_set.specs.Pairs.{Breaks}
-use Rattle.fort_set.specs.Rules.{StandsAt}
+use Rattle.fort_types_sets.specs.declared.member.Member.{Member}
+use Rattle.fort_types_sets.specs.declared.member.MemberSet.{MemberSet}
+use Rattle.fort_types_sets.specs.Pairs.{Breaks}
+use Rattle.fort_types_sets.specs.Rules.{StandsAt}
 
 -- Where something stands that has this place; what has none is built in and stands at line 1,
 -- column 1.

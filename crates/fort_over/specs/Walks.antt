@@ -8,15 +8,15 @@ use Rattle.fort_base.specs.Places.{IsBefore, IsFirst}
 use Rattle.fort_types.specs.Hierarchy.{DeclaredTypes, Sound}
 use Rattle.fort_types.specs.Types.{Below}
 use Rattle.fort_types.specs.Table.{HasRows}
-use Rattle.fort_set.specs.declared.member.Member.{Member}
-use Rattle.fort_set.specs.declared.member.MemberKind.TheVariants as a_kind
-use Rattle.fort_set.specs.declared.member.MemberSet.{MemberSet}
-use Rattle.fort_set.specs.declared.member.Members.{Members}
-use Rattle.fort_set.specs.Applicable.{Along, IsMoreSpecific}
-use Rattle.fort_set.specs.Coverage.{IsAbstractOf, IsObjectBelow, IsCovered}
-use Rattle.fort_set.specs.Leaves.{leaves_of}
-use Rattle.fort_set.specs.Pairs.{Passes, Breaks}
-use Rattle.fort_set.specs.Rules.{StandsAt, IsWellMade}
+use Rattle.fort_types_sets.specs.declared.member.Member.{Member}
+use Rattle.fort_types_sets.specs.declared.member.MemberKind.TheVariants as a_kind
+use Rattle.fort_types_sets.specs.declared.member.MemberSet.{MemberSet}
+use Rattle.fort_types_sets.specs.declared.member.Members.{Members}
+use Rattle.fort_types_sets.specs.Applicable.{Along, IsMoreSpecific}
+use Rattle.fort_types_sets.specs.Coverage.{IsAbstractOf, IsObjectBelow, IsCovered}
+use Rattle.fort_types_sets.specs.Leaves.{leaves_of}
+use Rattle.fort_types_sets.specs.Pairs.{Passes, Breaks}
+use Rattle.fort_types_sets.specs.Rules.{StandsAt, IsWellMade}
 use Rattle.fort_over.specs.declared.places.BrokenPair.{BrokenPair}
 use Rattle.fort_over.specs.Standing.{standing, Spot, Pairs, IsPair, IsFirstBroken}
 

@@ -4,13 +4,13 @@ ghost use Rattle.fort_types.specs.declared.hierarchy.DeclaredType.{DeclaredType}
 ghost use Rattle.fort_base.specs.declared.ty.Ty.TheVariants as a_type;
 ghost use Rattle.fort_types.specs.Types.{Below};
 ghost use Rattle.fort_types.specs.Table.{HasRows};
-ghost use Rattle.fort_set.specs.Applicable.{Along};
-ghost use Rattle.fort_set.specs.Coverage.{IsCovered};
+ghost use Rattle.fort_types_sets.specs.Applicable.{Along};
+ghost use Rattle.fort_types_sets.specs.Coverage.{IsCovered};
 ghost use Rattle.fort_over.specs.Walks.{Covers, SomeCovers};
 
 use fort_base::{Ty, TypeId, TypeTable};
-use fort_set::{Member, MemberKind, MemberSet};
 use fort_types::below;
+use fort_types_sets::{Member, MemberKind, MemberSet};
 
 /// Whether a set has a declaration that covers an abstract one for the object in its owner's place;
 /// it takes no memory.

@@ -8,7 +8,7 @@ use crate::uncovered::first_uncovered;
 use fort_base::CheckFault;
 use fort_base::rules::ABSTRACT_NOT_COVERED;
 use fort_hier::Hierarchy;
-use fort_set::Members;
+use fort_types_sets::Members;
 use std::alloc::Global;
 
 /// Checks the overload rules of a component's members, which its hierarchy's types are about.

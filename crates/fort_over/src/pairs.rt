@@ -7,8 +7,8 @@ ghost use Rattle.fort_over.specs.Walks.{IsJudged, RowBest, SetBest, SetsBest};
 
 use crate::places::{BrokenPair, sooner, standing};
 use fort_base::{Memory, TypeTable};
-use fort_pair::broken_rule;
-use fort_set::{Member, MemberSet};
+use fort_over_pair::broken_rule;
+use fort_types_sets::{Member, MemberSet};
 use std::alloc::Global;
 
 /// The first broken pair of all sets, by the later declaration's place and then by the earlier

@@ -6,8 +6,8 @@ ghost use Rattle.fort_over.specs.Walks.{IsObjectOf, ObjectsFirst, DeclarationFir
 use crate::covering::is_covered;
 use crate::places::standing;
 use fort_base::{Place, TypeId, TypeTable, earlier, earlier_of};
-use fort_set::{Member, MemberKind, MemberSet, Members};
 use fort_types::set_at;
+use fort_types_sets::{Member, MemberKind, MemberSet, Members};
 
 /// The earliest place of an object for which an abstract declaration of a set isn't covered; it
 /// takes no memory.

@@ -12,9 +12,9 @@ use Rattle.fort_tree.specs.Said.{tokens_of, elsewhere}
 use Rattle.fort_tree.specs.Types.{said_type}
 use Rattle.fort_tree.specs.Blocks.{initial_token}
 use Rattle.fort_tree.specs.Yield.{said_expr}
-use Rattle.fort_reading.specs.Parser.{Row, next_of}
-use Rattle.fort_reading.proofs.Laws.{Only, only_failed, Gets, ends}
-use Rattle.fort_reading.proofs.Yields.{Yields}
+use Rattle.fort_parse_reading.specs.Parser.{Row, next_of}
+use Rattle.fort_parse_reading.proofs.Laws.{Only, only_failed, Gets, ends}
+use Rattle.fort_parse_reading.proofs.Yields.{Yields}
 use Rattle.fort_parse.specs.Runs.{run_at, expr_at, variable_at}
 use Rattle.fort_parse.proofs.Statements.{allowing, YieldsVariable, expr_stops, RunLaws}
 use Rattle.fort_parse.proofs.FlatComplete.{flat_laws}

@@ -2,15 +2,15 @@
 -- line: what is read is their tokens, and their tokens are read as them. It knows of no production.
 use Rattle.std.proofs.Common.{◌≡◌, ℕ, zero, suc, Bool, true, false, List, [], ◌∷◌, ◌++◌, append_assoc, Option, Some, None, refl, sym, ap, ◌∙◌}
 use Rattle.std.specs.Prelude.{map, ◌||◌}
-use Rattle.fort_token.specs.declared.token.Kind.{Kind}
-use Rattle.fort_token.specs.declared.token.Token.{Token}
+use Rattle.fort_lex_token.specs.declared.token.Kind.{Kind}
+use Rattle.fort_lex_token.specs.declared.token.Token.{Token}
 use Rattle.fort_tree.specs.declared.spot.Spot.{Spot}
 use Rattle.fort_tree.specs.Tokens.{Spellings, is_line}
 use Rattle.fort_tree.specs.Said.{Said, SaidEntry, elsewhere, tokens_of, gap_of, semicolon_tokens, entries_tokens, begins_apart, entries_obey, last_semicolon}
-use Rattle.fort_reading.specs.Parser.{Row, next_of, many_run, Eater}
-use Rattle.fort_reading.proofs.Laws.{Only, only_many, Gets, reads, ends, gets_then}
-use Rattle.fort_reading.proofs.Yields.{both, left_true, right_true}
-use Rattle.fort_first.specs.Beginnings.{begins_apart_of}
+use Rattle.fort_parse_reading.specs.Parser.{Row, next_of, many_run, Eater}
+use Rattle.fort_parse_reading.proofs.Laws.{Only, only_many, Gets, reads, ends, gets_then}
+use Rattle.fort_parse_reading.proofs.Yields.{both, left_true, right_true}
+use Rattle.fort_parse_first.specs.Beginnings.{begins_apart_of}
 use Rattle.fort_parse.specs.Blocks.{is_ended, last_ended}
 
 -- ---- what is read

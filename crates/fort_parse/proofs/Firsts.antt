@@ -1,12 +1,12 @@
 -- The tokens with which expressions begin, and which they can't be.
 use Rattle.std.proofs.Common.{◌≡◌, Bool, true, false, Option, Some, None, refl}
 use Rattle.std.specs.Prelude.{◌||◌}
-use Rattle.fort_token.specs.declared.token.Kind.{Kind}
-use Rattle.fort_token.specs.declared.token.Kind.TheVariants as kind
-use Rattle.fort_token.specs.declared.marks.Mark.{Mark}
-use Rattle.fort_token.specs.declared.marks.Mark.TheVariants as mark
-use Rattle.fort_token.specs.declared.reserved.Reserved.{Reserved}
-use Rattle.fort_token.specs.declared.reserved.Reserved.TheVariants as reserved
+use Rattle.fort_lex_token.specs.declared.token.Kind.{Kind}
+use Rattle.fort_lex_token.specs.declared.token.Kind.TheVariants as kind
+use Rattle.fort_lex_token.specs.declared.marks.Mark.{Mark}
+use Rattle.fort_lex_token.specs.declared.marks.Mark.TheVariants as mark
+use Rattle.fort_lex_token.specs.declared.reserved.Reserved.{Reserved}
+use Rattle.fort_lex_token.specs.declared.reserved.Reserved.TheVariants as reserved
 use Rattle.fort_tree.specs.declared.expr.Atom.{Atom}
 use Rattle.fort_tree.specs.declared.expr.Big.{Big}
 use Rattle.fort_tree.specs.declared.expr.Big.TheVariants as big_word
@@ -27,8 +27,8 @@ use Rattle.fort_tree.proofs.CasesFlats.{cases_atom, cases_expr, cases_head}
 use Rattle.fort_tree.proofs.CasesBlocks.{cases_delimited}
 use Rattle.fort_tree.proofs.SaysFlats.{says-Flat, says-Assign, says-Open, says-OpenAssign, says-Atomic, says-Tryatomic, says-Throw, says-Fn, says-Big, flat_says, operand_says, run_says, says-Name, says-Number, says-Text, says-True, says-False, says-Self_, says-Parens, says-Delimited, says-ArrayFill}
 use Rattle.fort_tree.proofs.SaysBlocks.{says-Do, says-If, says-While, says-For, says-Case, says-Typecase, says-Try}
-use Rattle.fort_reading.proofs.Yields.{left_true, true_right}
-use Rattle.fort_first.specs.Beginnings.{word_begins_atom, begins_atom, begins_postfix, is_prefix, begins_unit, is_infix_kind, word_begins_head, begins_head, mark_assigns, assigns, begins_expr}
+use Rattle.fort_parse_reading.proofs.Yields.{left_true, true_right}
+use Rattle.fort_parse_first.specs.Beginnings.{word_begins_atom, begins_atom, begins_postfix, is_prefix, begins_unit, is_infix_kind, word_begins_head, begins_head, mark_assigns, assigns, begins_expr}
 use Rattle.fort_parse.proofs.Statements.{allowing}
 
 -- ---- what they begin with

@@ -4,11 +4,11 @@ use Rattle.std.proofs.Common.{◌≡◌, ℕ, Bool, true, false, List, [], ◌�
 use Rattle.std.specs.Prelude.{map, option_map, ◌||◌, not}
 use Rattle.fort_ops.specs.declared.op.Op.{Op}
 use Rattle.fort_ops.specs.declared.op.Op.TheVariants as op
-use Rattle.fort_token.specs.declared.token.Kind.{Kind}
-use Rattle.fort_token.specs.declared.token.Kind.TheVariants as kind
-use Rattle.fort_token.specs.declared.token.Token.{Token}
-use Rattle.fort_token.specs.declared.marks.Mark.TheVariants as mark
-use Rattle.fort_token.specs.declared.reserved.Reserved.TheVariants as reserved
+use Rattle.fort_lex_token.specs.declared.token.Kind.{Kind}
+use Rattle.fort_lex_token.specs.declared.token.Kind.TheVariants as kind
+use Rattle.fort_lex_token.specs.declared.token.Token.{Token}
+use Rattle.fort_lex_token.specs.declared.marks.Mark.TheVariants as mark
+use Rattle.fort_lex_token.specs.declared.reserved.Reserved.TheVariants as reserved
 use Rattle.fort_tree.specs.declared.spot.Spot.{Spot}
 use Rattle.fort_tree.specs.declared.spot.Sign.{Sign}
 use Rattle.fort_tree.specs.declared.expr.AssignSign.{AssignSign}
@@ -34,13 +34,13 @@ use Rattle.fort_tree.specs.Flats.{prefixed as with_prefix}
 use Rattle.fort_tree.specs.Yield.{said_expr, said_flat_part, said_generator, said_head, said_expr_list, said_flat, said_next_expr, said_operand, said_run}
 use Rattle.fort_tree.proofs.CasesFlats.{cases_expr, cases_head, cases_generator, cases_flat, cases_flat_part, cases_operand, cases_expr_list, cases_next_expr}
 use Rattle.fort_tree.proofs.SaysFlats.{says-Flat, says-Assign, says-Open, says-OpenAssign, says-Atomic, says-Tryatomic, says-Throw, says-Fn, says-Big, says-Parallel, says-Sequential, says_flat, says-Run, says-Infix, says_operand, says_expr_list, expr_list_says, says_next_expr, next_expr_says}
-use Rattle.fort_reading.specs.Parser.{Row, next_of, Eater}
-use Rattle.fort_reading.specs.Words.{is_mark, is_word, sees, same_mark}
-use Rattle.fort_reading.proofs.Laws.{Gets, reads, gets_then}
-use Rattle.fort_reading.proofs.Taking.{prefix_token, gets_prefix, gets_sign, gets_name, gets_mark, gets_word, gets_assign, gets_max, gets_min, gets_and, gets_or, is_word_at, is_mark_at, not_mark, not_word}
-use Rattle.fort_reading.proofs.Yields.{both, left_true, right_true, true_right, false_right, is_not, gets_list, next_stops}
+use Rattle.fort_parse_reading.specs.Parser.{Row, next_of, Eater}
+use Rattle.fort_parse_reading.specs.Words.{is_mark, is_word, sees, same_mark}
+use Rattle.fort_parse_reading.proofs.Laws.{Gets, reads, gets_then}
+use Rattle.fort_parse_reading.proofs.Taking.{prefix_token, gets_prefix, gets_sign, gets_name, gets_mark, gets_word, gets_assign, gets_max, gets_min, gets_and, gets_or, is_word_at, is_mark_at, not_mark, not_word}
+use Rattle.fort_parse_reading.proofs.Yields.{both, left_true, right_true, true_right, false_right, is_not, gets_list, next_stops}
 use Rattle.fort_parse_types.proofs.Complete.{complete_maybe_parameters}
-use Rattle.fort_first.specs.Beginnings.{is_prefix, is_infix_kind, begins_atom, begins_postfix, begins_unit, begins_run_part, begins_flat_part, begins_head, begins_expr, assigns}
+use Rattle.fort_parse_first.specs.Beginnings.{is_prefix, is_infix_kind, begins_atom, begins_postfix, begins_unit, begins_run_part, begins_flat_part, begins_head, begins_expr, assigns}
 use Rattle.fort_parse.specs.Flats.{prefixed, operand, infix_part, flat_part, flat_parts, flat, sequential, parallel, generator, reduction, big_reduction, function, head, open_assign, opened, assigned, assign, flat_more, expr_from, expr, next_expr, next_exprs, expr_list, maybe_list}
 use Rattle.fort_parse.proofs.Statements.{allowing, flat_stops, expr_stops, UnitExpr, HeadExpr, RunLaws, FlatLaws}
 use Rattle.fort_parse.proofs.Firsts.{run_begins, flat_begins, head_begins, expr_begins, close_no_expr, flat_not_head, atom_not_prefix, atom_not_infix, atom_not_assigns, infix_not_assigns}

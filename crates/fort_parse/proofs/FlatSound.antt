@@ -3,12 +3,12 @@
 use Rattle.std.proofs.Common.{◌≡◌, ℕ, Bool, true, false, List, [], ◌∷◌, ◌++◌, append_assoc, Option, Some, None, refl, sym, ap, ◌∙◌}
 use Rattle.std.specs.Prelude.{map, option_map, ◌||◌, not}
 use Rattle.fort_ops.specs.declared.op.Op.TheVariants as op
-use Rattle.fort_token.specs.declared.token.Kind.{Kind}
-use Rattle.fort_token.specs.declared.token.Kind.TheVariants as kind
-use Rattle.fort_token.specs.declared.token.Token.{Token}
-use Rattle.fort_token.specs.declared.marks.Mark.TheVariants as mark
-use Rattle.fort_token.specs.declared.reserved.Reserved.{Reserved}
-use Rattle.fort_token.specs.declared.reserved.Reserved.TheVariants as reserved
+use Rattle.fort_lex_token.specs.declared.token.Kind.{Kind}
+use Rattle.fort_lex_token.specs.declared.token.Kind.TheVariants as kind
+use Rattle.fort_lex_token.specs.declared.token.Token.{Token}
+use Rattle.fort_lex_token.specs.declared.marks.Mark.TheVariants as mark
+use Rattle.fort_lex_token.specs.declared.reserved.Reserved.{Reserved}
+use Rattle.fort_lex_token.specs.declared.reserved.Reserved.TheVariants as reserved
 use Rattle.fort_tree.specs.declared.spot.Spot.{Spot}
 use Rattle.fort_tree.specs.declared.spot.Name.{Name}
 use Rattle.fort_tree.specs.declared.expr.AssignSign.{AssignSign}
@@ -32,13 +32,13 @@ use Rattle.fort_tree.specs.Flats.{assign_token, big_first, big_more}
 use Rattle.fort_tree.specs.Flats.{prefixed as with_prefix}
 use Rattle.fort_tree.specs.Yield.{said_expr, said_flat_part, said_generator, said_head, said_expr_list, said_flat, said_next_expr, said_operand, said_run}
 use Rattle.fort_tree.proofs.SaysFlats.{says-Flat, says-Assign, says-Open, says-OpenAssign, says-Atomic, says-Tryatomic, says-Throw, says-Fn, says-Big, says-Parallel, says-Sequential, says_flat, says-Run, says-Infix, says_operand, says_expr_list, says_next_expr}
-use Rattle.fort_reading.specs.Parser.{Row, next_of, Eater}
-use Rattle.fort_reading.specs.Words.{is_mark, is_word, sees}
-use Rattle.fort_reading.proofs.Laws.{Only, only_read, only_failed, only_then, only_if, only_many}
-use Rattle.fort_reading.proofs.Taking.{prefix_token, only_prefix, only_sign, only_name, only_mark, only_word, only_assign, only_big}
-use Rattle.fort_reading.proofs.Yields.{Yields, YieldsMaybe, both, left_true, right_true, true_right, only_list, left_out, stands_there, all_after}
+use Rattle.fort_parse_reading.specs.Parser.{Row, next_of, Eater}
+use Rattle.fort_parse_reading.specs.Words.{is_mark, is_word, sees}
+use Rattle.fort_parse_reading.proofs.Laws.{Only, only_read, only_failed, only_then, only_if, only_many}
+use Rattle.fort_parse_reading.proofs.Taking.{prefix_token, only_prefix, only_sign, only_name, only_mark, only_word, only_assign, only_big}
+use Rattle.fort_parse_reading.proofs.Yields.{Yields, YieldsMaybe, both, left_true, right_true, true_right, only_list, left_out, stands_there, all_after}
 use Rattle.fort_parse_types.proofs.Sound.{sound_maybe_parameters}
-use Rattle.fort_first.specs.Beginnings.{is_prefix, is_infix_kind, begins_flat_part, begins_head, assigns}
+use Rattle.fort_parse_first.specs.Beginnings.{is_prefix, is_infix_kind, begins_flat_part, begins_head, assigns}
 use Rattle.fort_parse.specs.Flats.{prefixed, operand, infix_part, flat_part, flat_parts, flat, sequential, parallel, generator, reduction, big_reduction, function, word_head, head_for, head, open_assign, opened, assigned, assign, flat_more, expr_from, expr, next_expr, next_exprs, expr_list, maybe_list}
 use Rattle.fort_parse.proofs.Statements.{allowing, YieldsUnit, RunLaws}
 

@@ -4,12 +4,12 @@ use Rattle.std.proofs.Common.{◌≡◌, ℕ, Bool, true, false, List, [], ◌�
 use Rattle.std.specs.Prelude.{map, option_map, ◌||◌}
 use Rattle.std.proofs.lemmas.List.{append_cancel_right}
 use Rattle.fort_base.specs.declared.refusal.Gap.{Gap}
-use Rattle.fort_token.specs.declared.token.Kind.{Kind}
-use Rattle.fort_token.specs.declared.token.Kind.TheVariants as kind
-use Rattle.fort_token.specs.declared.token.Token.{Token}
-use Rattle.fort_token.specs.declared.marks.Mark.TheVariants as mark
-use Rattle.fort_token.specs.declared.reserved.Reserved.{Reserved}
-use Rattle.fort_token.specs.declared.reserved.Reserved.TheVariants as reserved
+use Rattle.fort_lex_token.specs.declared.token.Kind.{Kind}
+use Rattle.fort_lex_token.specs.declared.token.Kind.TheVariants as kind
+use Rattle.fort_lex_token.specs.declared.token.Token.{Token}
+use Rattle.fort_lex_token.specs.declared.marks.Mark.TheVariants as mark
+use Rattle.fort_lex_token.specs.declared.reserved.Reserved.{Reserved}
+use Rattle.fort_lex_token.specs.declared.reserved.Reserved.TheVariants as reserved
 use Rattle.fort_tree.specs.declared.spot.Spot.{Spot}
 use Rattle.fort_tree.specs.declared.spot.Name.{Name}
 use Rattle.fort_tree.specs.declared.spot.NextName.{NextName}
@@ -42,17 +42,17 @@ use Rattle.fort_tree.specs.Blocks.{initial_token, has_next_name}
 use Rattle.fort_tree.specs.Yield.{said_operand, said_flat, said_generator, said_expr, said_variable, said_item, said_delimited, said_also, said_block_item, said_case_clause, said_catch, said_elif, said_else_block, said_else_clause, said_finally, said_next_generator, said_type_clause}
 use Rattle.fort_tree.proofs.SaysBlocks.{says-Do, says-If, says-While, says-For, says-Case, says-Typecase, says-Try, says_also, also_says, says_elif, elif_says, says_else_block, else_block_says, says_next_generator, next_generator_says, says_case_clause, says_type_clause, says_else_clause, says_catch, catch_says, says_finally, finally_says, says_block_item, says-Variable, says-Names, says-Expr, block_item_says, case_clause_says, type_clause_says}
 use Rattle.fort_tree.proofs.CasesBlocks.{cases_delimited, cases_also, cases_elif, cases_else_block, cases_next_generator, cases_case_clause, cases_type_clause, cases_else_clause, cases_catch, cases_finally, cases_block_item, cases_item, cases_variable}
-use Rattle.fort_reading.specs.Parser.{Row, next_of, Eater}
-use Rattle.fort_reading.specs.Words.{same_mark, same_word, is_range, is_mark, is_word, sees}
-use Rattle.fort_reading.proofs.Laws.{Gets, reads, gets_then}
-use Rattle.fort_reading.proofs.Taking.{gets_mark, gets_word, gets_name, gets_colon, gets_equals, gets_initial, not_word}
-use Rattle.fort_reading.proofs.Yields.{left_true, right_true, is_not, false_right, next_stops, gets_list}
+use Rattle.fort_parse_reading.specs.Parser.{Row, next_of, Eater}
+use Rattle.fort_parse_reading.specs.Words.{same_mark, same_word, is_range, is_mark, is_word, sees}
+use Rattle.fort_parse_reading.proofs.Laws.{Gets, reads, gets_then}
+use Rattle.fort_parse_reading.proofs.Taking.{gets_mark, gets_word, gets_name, gets_colon, gets_equals, gets_initial, not_word}
+use Rattle.fort_parse_reading.proofs.Yields.{left_true, right_true, is_not, false_right, next_stops, gets_list}
 use Rattle.fort_parse_types.specs.Types.{begins_type}
 use Rattle.fort_parse_types.proofs.Complete.{complete_type_tree, type_begins, type_stops, type_stops_at}
-use Rattle.fort_first.specs.declared.plain.PlainNames.{PlainNames}
-use Rattle.fort_first.specs.Beginnings.{begins_atom, begins_head, begins_item, begins_item_kind, begins_case_clause, begins_type_clause, begins_else, begins_apart_of, begins_unit, begins_expr, is_prefix}
-use Rattle.fort_first.specs.Plain.{plain_name, plain_names}
-use Rattle.fort_first.specs.Endings.{semicolon_run}
+use Rattle.fort_parse_first.specs.declared.plain.PlainNames.{PlainNames}
+use Rattle.fort_parse_first.specs.Beginnings.{begins_atom, begins_head, begins_item, begins_item_kind, begins_case_clause, begins_type_clause, begins_else, begins_apart_of, begins_unit, begins_expr, is_prefix}
+use Rattle.fort_parse_first.specs.Plain.{plain_name, plain_names}
+use Rattle.fort_parse_first.specs.Endings.{semicolon_run}
 use Rattle.fort_parse.specs.Blocks.{is_ended, last_ended, some_of, sees_second, initialised, variable_from, var_item, names_from, flat_item, by_names, by_name, declared, item_from, head_item, item, block_item, block, case_clause, case_list, case_clauses, type_clause, type_clause_list, type_clauses, else_from, second_else, else_clause, also_block, also_blocks, elif, elifs, else_block, catch_from, catch, finally, next_generator, next_generators}
 use Rattle.fort_parse.specs.Runs.{do_form, if_rest, if_form, while_form, for_rest, for_form, case_rest, case_form, typecase_rest, typecase_form, try_form, delimited}
 use Rattle.fort_parse.proofs.FormFirsts.{Stops, item_begins, unit_is_item, type_is_item, new_line, Ends, ends_with}

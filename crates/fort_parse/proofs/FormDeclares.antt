@@ -2,10 +2,10 @@
 use Rattle.std.proofs.Common.{◌≡◌, ℕ, Bool, true, false, List, [], ◌∷◌, ◌++◌, append_assoc, Some, None, refl, sym, ap, subst, ◌∙◌}
 use Rattle.std.specs.Prelude.{◌||◌}
 use Rattle.fort_ops.specs.declared.op.Op.TheVariants as op
-use Rattle.fort_token.specs.declared.token.Kind.{Kind}
-use Rattle.fort_token.specs.declared.token.Kind.TheVariants as kind
-use Rattle.fort_token.specs.declared.token.Token.{Token}
-use Rattle.fort_token.specs.declared.marks.Mark.TheVariants as mark
+use Rattle.fort_lex_token.specs.declared.token.Kind.{Kind}
+use Rattle.fort_lex_token.specs.declared.token.Kind.TheVariants as kind
+use Rattle.fort_lex_token.specs.declared.token.Token.{Token}
+use Rattle.fort_lex_token.specs.declared.marks.Mark.TheVariants as mark
 use Rattle.fort_tree.specs.declared.spot.Spot.{Spot}
 use Rattle.fort_tree.specs.declared.spot.Name.{Name}
 use Rattle.fort_tree.specs.declared.spot.NextName.{NextName}
@@ -14,15 +14,15 @@ use Rattle.fort_tree.specs.declared.expr.Operand.{Operand}
 use Rattle.fort_tree.specs.declared.expr.Run.{Run}
 use Rattle.fort_tree.specs.Tokens.{Spellings, token, named, marked, colon, is_name, is_colon, is_comma, is_open_paren, is_close_paren, begins_with_name, closes_names, goes_on_with_names, begins_with_names, begins_declaration}
 use Rattle.fort_tree.specs.Blocks.{next_names_tokens, has_next_name}
-use Rattle.fort_reading.specs.Parser.{Row, Outcome, Read, next_of, Eater}
-use Rattle.fort_reading.specs.Words.{is_range, sees, spot_of}
-use Rattle.fort_reading.proofs.Laws.{Gets, reads, ends}
-use Rattle.fort_reading.proofs.Taking.{is_range_is, is_range_at}
-use Rattle.fort_reading.proofs.Yields.{left_true, right_true}
-use Rattle.fort_first.specs.declared.plain.PlainNames.{PlainNames}
-use Rattle.fort_first.specs.Beginnings.{begins_head}
+use Rattle.fort_parse_reading.specs.Parser.{Row, Outcome, Read, next_of, Eater}
+use Rattle.fort_parse_reading.specs.Words.{is_range, sees, spot_of}
+use Rattle.fort_parse_reading.proofs.Laws.{Gets, reads, ends}
+use Rattle.fort_parse_reading.proofs.Taking.{is_range_is, is_range_at}
+use Rattle.fort_parse_reading.proofs.Yields.{left_true, right_true}
+use Rattle.fort_parse_first.specs.declared.plain.PlainNames.{PlainNames}
+use Rattle.fort_parse_first.specs.Beginnings.{begins_head}
 use Rattle.fort_parse.specs.Flats.{operand}
-use Rattle.fort_first.specs.Plain.{plain_name, plain_names}
+use Rattle.fort_parse_first.specs.Plain.{plain_name, plain_names}
 use Rattle.fort_parse.proofs.FormFirsts.{colon_parts}
 use Rattle.fort_parse.proofs.FormPlain.{unit_of, parens_of, names_tokens, name_unit_says, name_unit_is, parens_unit_says, parens_unit_obeys, names_unit_is}
 use Rattle.fort_parse.proofs.Statements.{FlatLaws}

@@ -5,13 +5,13 @@ use Rattle.std.specs.Prelude.{◌||◌}
 use Rattle.fort_base.specs.declared.refusal.Gap.{Gap}
 use Rattle.fort_base.specs.declared.refusal.Gap.TheVariants as gap
 use Rattle.fort_ops.specs.declared.op.Op.TheVariants as op
-use Rattle.fort_token.specs.declared.token.Kind.{Kind}
-use Rattle.fort_token.specs.declared.token.Kind.TheVariants as kind
-use Rattle.fort_token.specs.declared.token.Token.{Token}
-use Rattle.fort_token.specs.declared.marks.Mark.{Mark}
-use Rattle.fort_token.specs.declared.marks.Mark.TheVariants as mark
-use Rattle.fort_token.specs.declared.reserved.Reserved.{Reserved}
-use Rattle.fort_token.specs.declared.reserved.Reserved.TheVariants as reserved
+use Rattle.fort_lex_token.specs.declared.token.Kind.{Kind}
+use Rattle.fort_lex_token.specs.declared.token.Kind.TheVariants as kind
+use Rattle.fort_lex_token.specs.declared.token.Token.{Token}
+use Rattle.fort_lex_token.specs.declared.marks.Mark.{Mark}
+use Rattle.fort_lex_token.specs.declared.marks.Mark.TheVariants as mark
+use Rattle.fort_lex_token.specs.declared.reserved.Reserved.{Reserved}
+use Rattle.fort_lex_token.specs.declared.reserved.Reserved.TheVariants as reserved
 use Rattle.fort_tree.specs.declared.spot.Spot.{Spot}
 use Rattle.fort_tree.specs.declared.delimited.Item.{Item}
 use Rattle.fort_tree.specs.Tokens.{Spellings, is_empty, is_line, word, colon}
@@ -21,11 +21,11 @@ use Rattle.fort_tree.specs.Yield.{said_expr, said_item}
 use Rattle.fort_tree.proofs.SaysBlocks.{says-Variable, says-Names, says-Expr, variable_says}
 use Rattle.fort_tree.proofs.CasesBlocks.{cases_item}
 use Rattle.fort_tree.specs.declared.declarations.Variable.{out-Variable}
-use Rattle.fort_reading.specs.Words.{is_mark, is_range, sees}
-use Rattle.fort_reading.proofs.Taking.{not_mark, not_this, is_range_is}
-use Rattle.fort_reading.proofs.Yields.{right_true, false_right}
+use Rattle.fort_parse_reading.specs.Words.{is_mark, is_range, sees}
+use Rattle.fort_parse_reading.proofs.Taking.{not_mark, not_this, is_range_is}
+use Rattle.fort_parse_reading.proofs.Yields.{right_true, false_right}
 use Rattle.fort_parse_types.specs.Types.{begins_type, mark_begins_type}
-use Rattle.fort_first.specs.Beginnings.{word_begins_atom, begins_atom, begins_postfix, begins_run_part, is_prefix, begins_unit, begins_flat_part, begins_head, assigns, mark_assigns, begins_expr, begins_item_kind, begins_apart_of}
+use Rattle.fort_parse_first.specs.Beginnings.{word_begins_atom, begins_atom, begins_postfix, begins_run_part, is_prefix, begins_unit, begins_flat_part, begins_head, assigns, mark_assigns, begins_expr, begins_item_kind, begins_apart_of}
 use Rattle.fort_parse.proofs.Firsts.{expr_begins}
 use Rattle.fort_parse.proofs.Stops.{word_ends_expr}
 use Rattle.fort_parse.proofs.Statements.{flat_stops, expr_stops}

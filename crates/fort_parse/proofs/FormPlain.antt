@@ -3,8 +3,8 @@
 use Rattle.std.proofs.Common.{◌≡◌, true, List, [], ◌∷◌, ◌++◌, Option, Some, None, refl, sym, ap, ◌∙◌, rules}
 use Rattle.std.specs.Prelude.{map, ◌&&◌}
 use Rattle.std.proofs.lemmas.List.{append-nil}
-use Rattle.fort_token.specs.declared.token.Token.{Token}
-use Rattle.fort_token.specs.declared.marks.Mark.TheVariants as mark
+use Rattle.fort_lex_token.specs.declared.token.Token.{Token}
+use Rattle.fort_lex_token.specs.declared.marks.Mark.TheVariants as mark
 use Rattle.fort_tree.specs.declared.spot.Spot.{Spot}
 use Rattle.fort_tree.specs.declared.spot.Name.{Name}
 use Rattle.fort_tree.specs.declared.spot.NextName.{NextName}
@@ -29,8 +29,8 @@ use Rattle.fort_tree.specs.Flats.{alone}
 use Rattle.fort_tree.specs.Yield.{said_run, said_operand, said_flat, said_expr, said_atom, said_expr_list, said_next_expr}
 use Rattle.fort_tree.proofs.SaysFlats.{says-Flat, flat_says, says_flat, operand_says, says_operand, run_says, says_run, says-Name, says-Parens, says_expr_list, expr_list_says, says_next_expr, next_expr_says}
 use Rattle.fort_tree.proofs.CasesFlats.{cases_atom, cases_expr}
-use Rattle.fort_first.specs.declared.plain.PlainNames.{PlainNames}
-use Rattle.fort_first.specs.Plain.{lone_run, lone_unit, lone_atom, atom_name, maybe_name, plain_name, flat_name, expr_name, join_names, next_names, names_between, atom_names, maybe_names, plain_names}
+use Rattle.fort_parse_first.specs.declared.plain.PlainNames.{PlainNames}
+use Rattle.fort_parse_first.specs.Plain.{lone_run, lone_unit, lone_atom, atom_name, maybe_name, plain_name, flat_name, expr_name, join_names, next_names, names_between, atom_names, maybe_names, plain_names}
 
 -- ---- what is plain says its names
 

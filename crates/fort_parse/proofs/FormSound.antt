@@ -3,12 +3,12 @@
 use Rattle.std.proofs.Common.{◌≡◌, ℕ, Bool, true, false, List, [], ◌∷◌, ◌++◌, append_assoc, Option, Some, None, refl, sym, ap, ◌∙◌}
 use Rattle.std.specs.Prelude.{map, option_map, ◌&&◌, ◌||◌}
 use Rattle.fort_base.specs.declared.refusal.Gap.{Gap}
-use Rattle.fort_token.specs.declared.token.Kind.{Kind}
-use Rattle.fort_token.specs.declared.token.Kind.TheVariants as kind
-use Rattle.fort_token.specs.declared.token.Token.{Token}
-use Rattle.fort_token.specs.declared.marks.Mark.TheVariants as mark
-use Rattle.fort_token.specs.declared.reserved.Reserved.{Reserved}
-use Rattle.fort_token.specs.declared.reserved.Reserved.TheVariants as reserved
+use Rattle.fort_lex_token.specs.declared.token.Kind.{Kind}
+use Rattle.fort_lex_token.specs.declared.token.Kind.TheVariants as kind
+use Rattle.fort_lex_token.specs.declared.token.Token.{Token}
+use Rattle.fort_lex_token.specs.declared.marks.Mark.TheVariants as mark
+use Rattle.fort_lex_token.specs.declared.reserved.Reserved.{Reserved}
+use Rattle.fort_lex_token.specs.declared.reserved.Reserved.TheVariants as reserved
 use Rattle.fort_tree.specs.declared.spot.Spot.{Spot}
 use Rattle.fort_tree.specs.declared.spot.Name.{Name}
 use Rattle.fort_tree.specs.declared.declarations.InitialSign.{InitialSign}
@@ -38,18 +38,18 @@ use Rattle.fort_tree.specs.Types.{said_type}
 use Rattle.fort_tree.specs.Blocks.{initial_token, after_var, clause, next_names_tokens}
 use Rattle.fort_tree.specs.Yield.{said_operand, said_flat, said_generator, said_expr, said_variable, said_item, said_delimited, said_also, said_block_item, said_case_clause, said_catch, said_elif, said_else_block, said_else_clause, said_finally, said_next_generator, said_type_clause}
 use Rattle.fort_tree.proofs.SaysBlocks.{says-Do, says-If, says-While, says-For, says-Case, says-Typecase, says-Try, says_also, says_elif, says_else_block, says_next_generator, says_case_clause, says_type_clause, says_else_clause, says_catch, says_finally, says_block_item, says-Variable, says-Names, says-Expr, says_variable, block_item_says, case_clause_says, type_clause_says}
-use Rattle.fort_reading.specs.Parser.{Row, Outcome, Read, Failed, and_then, next_of, Eater}
-use Rattle.fort_reading.specs.Words.{is_range, is_mark, is_word, sees}
-use Rattle.fort_reading.proofs.Laws.{Only, only_read, only_failed, only_then, only_if}
-use Rattle.fort_reading.proofs.Taking.{only_mark, only_word, only_name, only_colon, only_equals, only_initial}
-use Rattle.fort_reading.proofs.Yields.{Yields, YieldsAll, YieldsMaybe, both, left_true, not_true, true_right, only_list}
+use Rattle.fort_parse_reading.specs.Parser.{Row, Outcome, Read, Failed, and_then, next_of, Eater}
+use Rattle.fort_parse_reading.specs.Words.{is_range, is_mark, is_word, sees}
+use Rattle.fort_parse_reading.proofs.Laws.{Only, only_read, only_failed, only_then, only_if}
+use Rattle.fort_parse_reading.proofs.Taking.{only_mark, only_word, only_name, only_colon, only_equals, only_initial}
+use Rattle.fort_parse_reading.proofs.Yields.{Yields, YieldsAll, YieldsMaybe, both, left_true, not_true, true_right, only_list}
 use Rattle.fort_parse_types.proofs.Sound.{sound_type_tree}
-use Rattle.fort_first.specs.declared.plain.PlainNames.{PlainNames}
-use Rattle.fort_first.specs.Beginnings.{begins_atom, begins_head, begins_item, begins_item_kind, begins_case_clause, begins_type_clause, begins_else, begins_apart_of, begins_unit}
+use Rattle.fort_parse_first.specs.declared.plain.PlainNames.{PlainNames}
+use Rattle.fort_parse_first.specs.Beginnings.{begins_atom, begins_head, begins_item, begins_item_kind, begins_case_clause, begins_type_clause, begins_else, begins_apart_of, begins_unit}
 use Rattle.fort_parse_types.specs.Types.{begins_type}
 use Rattle.fort_parse.specs.Flats.{operand}
-use Rattle.fort_first.specs.Plain.{plain_name, plain_names}
-use Rattle.fort_first.specs.Endings.{semicolon_run}
+use Rattle.fort_parse_first.specs.Plain.{plain_name, plain_names}
+use Rattle.fort_parse_first.specs.Endings.{semicolon_run}
 use Rattle.fort_parse.specs.Blocks.{is_ended, last_ended, some_of, sees_second, initialised, variable_from, var_item, names_from, flat_item, by_names, by_name, declared, item_from, head_item, item, block_item, block, case_clause, case_list, case_clauses, type_clause, type_clause_list, type_clauses, else_from, second_else, else_clause, also_block, also_blocks, elif, elifs, else_block, catch_from, catch, no_finally, finally, next_generator, next_generators}
 use Rattle.fort_parse.specs.Runs.{do_form, if_rest, if_form, while_form, for_rest, for_form, case_rest, case_form, typecase_rest, typecase_form, try_form, word_form, form_for, delimited}
 use Rattle.fort_parse.proofs.FormDeclares.{Ahead, ahead_of, ahead_more, head_declares_not, declares}

@@ -1,11 +1,11 @@
 -- The tokens of each atom and run are read as it, where what follows them does not continue it.
 use Rattle.std.proofs.Common.{◌≡◌, ℕ, zero, suc, Bool, true, false, List, [], ◌∷◌, ◌++◌, append_assoc, Option, Some, None, refl, ◌∙◌}
 use Rattle.std.specs.Prelude.{map, ◌&&◌, ◌||◌}
-use Rattle.fort_token.specs.declared.token.Kind.{Kind}
-use Rattle.fort_token.specs.declared.token.Kind.TheVariants as kind
-use Rattle.fort_token.specs.declared.token.Token.{Token}
-use Rattle.fort_token.specs.declared.marks.Mark.TheVariants as mark
-use Rattle.fort_token.specs.declared.reserved.Reserved.TheVariants as reserved
+use Rattle.fort_lex_token.specs.declared.token.Kind.{Kind}
+use Rattle.fort_lex_token.specs.declared.token.Kind.TheVariants as kind
+use Rattle.fort_lex_token.specs.declared.token.Token.{Token}
+use Rattle.fort_lex_token.specs.declared.marks.Mark.TheVariants as mark
+use Rattle.fort_lex_token.specs.declared.reserved.Reserved.TheVariants as reserved
 use Rattle.fort_tree.specs.declared.spot.Spot.{Spot}
 use Rattle.fort_tree.specs.declared.spot.Name.{Name}
 use Rattle.fort_tree.specs.declared.expr.Atom.{Atom}
@@ -27,13 +27,13 @@ use Rattle.fort_tree.proofs.CasesFlats.{cases_atom, cases_postfix, cases_run_par
 use Rattle.fort_tree.proofs.CasesBlocks.{cases_delimited}
 use Rattle.fort_tree.proofs.SaysFlats.{says_run, says-Atom, says-Postfix, says-Subscript, says-Power, says-Field, says-Call, says-Name, says-Number, says-Text, says-True, says-False, says-Self_, says-Parens, says-Delimited, says-ArrayFill}
 use Rattle.fort_tree.proofs.SaysBlocks.{says-Do, says-If, says-While, says-For, says-Case, says-Typecase, says-Try}
-use Rattle.fort_reading.specs.Parser.{Row, next_of, many_run, Eater}
-use Rattle.fort_reading.specs.Words.{is_mark, same_mark, is_called, sees, sees_tight}
-use Rattle.fort_reading.proofs.Laws.{Gets, reads, ends, gets_then, gets_accept}
-use Rattle.fort_reading.proofs.Taking.{gets_mark, gets_word, gets_power, gets_tight_mark, gets_tight_name, gets_tight_called, is_mark_at}
-use Rattle.fort_reading.proofs.Yields.{left_true, right_true, true_right, false_right, is_not, not_true, all_after}
+use Rattle.fort_parse_reading.specs.Parser.{Row, next_of, many_run, Eater}
+use Rattle.fort_parse_reading.specs.Words.{is_mark, same_mark, is_called, sees, sees_tight}
+use Rattle.fort_parse_reading.proofs.Laws.{Gets, reads, ends, gets_then, gets_accept}
+use Rattle.fort_parse_reading.proofs.Taking.{gets_mark, gets_word, gets_power, gets_tight_mark, gets_tight_name, gets_tight_called, is_mark_at}
+use Rattle.fort_parse_reading.proofs.Yields.{left_true, right_true, true_right, false_right, is_not, not_true, all_after}
 use Rattle.fort_parse_types.proofs.Complete.{complete_type_tree, type_stops, type_stops_at}
-use Rattle.fort_first.specs.Beginnings.{begins_atom, begins_postfix, begins_run_part, is_next_tight}
+use Rattle.fort_parse_first.specs.Beginnings.{begins_atom, begins_postfix, begins_run_part, is_next_tight}
 use Rattle.fort_parse.specs.Runs.{literal_of, parens, fill_value, fill_size, array_fill, form_atom, do_atom, atom_for, atom, subscript, tight_atom, method_call, dotted, postfix, run_part, run_parts, run_level}
 use Rattle.fort_parse.proofs.Statements.{allowing, RunLaws, FlatLaws, FormLaws}
 use Rattle.fort_parse.proofs.Firsts.{atom_begins, atom_not_postfix}

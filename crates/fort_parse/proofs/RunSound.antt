@@ -3,13 +3,13 @@
 use Rattle.std.proofs.Common.{◌≡◌, ℕ, Bool, true, false, List, [], ◌∷◌, ◌++◌, append_assoc, Some, None, refl, sym, ap, subst, ◌∙◌}
 use Rattle.std.specs.Prelude.{map, ◌&&◌, not}
 use Rattle.fort_ops.specs.declared.op.Op.TheVariants as op
-use Rattle.fort_token.specs.declared.token.Kind.{Kind}
-use Rattle.fort_token.specs.declared.token.Kind.TheVariants as kind
-use Rattle.fort_token.specs.declared.token.Token.{Token}
-use Rattle.fort_token.specs.declared.marks.Mark.{Mark}
-use Rattle.fort_token.specs.declared.marks.Mark.TheVariants as mark
-use Rattle.fort_token.specs.declared.reserved.Reserved.{Reserved}
-use Rattle.fort_token.specs.declared.reserved.Reserved.TheVariants as reserved
+use Rattle.fort_lex_token.specs.declared.token.Kind.{Kind}
+use Rattle.fort_lex_token.specs.declared.token.Kind.TheVariants as kind
+use Rattle.fort_lex_token.specs.declared.token.Token.{Token}
+use Rattle.fort_lex_token.specs.declared.marks.Mark.{Mark}
+use Rattle.fort_lex_token.specs.declared.marks.Mark.TheVariants as mark
+use Rattle.fort_lex_token.specs.declared.reserved.Reserved.{Reserved}
+use Rattle.fort_lex_token.specs.declared.reserved.Reserved.TheVariants as reserved
 use Rattle.fort_tree.specs.declared.spot.Spot.{Spot}
 use Rattle.fort_tree.specs.declared.spot.Name.{Name}
 use Rattle.fort_tree.specs.declared.expr.Atom.{Atom}
@@ -27,13 +27,13 @@ use Rattle.fort_tree.specs.Types.{said_type}
 use Rattle.fort_tree.specs.Flats.{alone, is_field, begins_with_paren, calls_are_whole}
 use Rattle.fort_tree.specs.Yield.{said_atom, said_expr, said_run_part, said_run}
 use Rattle.fort_tree.proofs.SaysFlats.{says_run, says-Atom, says-Postfix, says-Subscript, says-Power, says-Field, says-Call, says-Name, says-Number, says-Text, says-True, says-False, says-Self_, says-Parens, says-Delimited, says-ArrayFill}
-use Rattle.fort_reading.specs.Parser.{Row, accept_run, next_of, Eater}
-use Rattle.fort_reading.specs.Words.{is_mark, same_mark, is_called, spot_of, sees, sees_tight}
-use Rattle.fort_reading.proofs.Laws.{Only, only_read, only_failed, only_then, only_if, only_many, only_more, only_accept}
-use Rattle.fort_reading.proofs.Taking.{only_mark, only_word, only_power, only_tight_mark, only_tight_name, only_tight_called}
-use Rattle.fort_reading.proofs.Yields.{both, left_true, false_right, all_after}
+use Rattle.fort_parse_reading.specs.Parser.{Row, accept_run, next_of, Eater}
+use Rattle.fort_parse_reading.specs.Words.{is_mark, same_mark, is_called, spot_of, sees, sees_tight}
+use Rattle.fort_parse_reading.proofs.Laws.{Only, only_read, only_failed, only_then, only_if, only_many, only_more, only_accept}
+use Rattle.fort_parse_reading.proofs.Taking.{only_mark, only_word, only_power, only_tight_mark, only_tight_name, only_tight_called}
+use Rattle.fort_parse_reading.proofs.Yields.{both, left_true, false_right, all_after}
 use Rattle.fort_parse_types.proofs.Sound.{sound_type_tree}
-use Rattle.fort_first.specs.Beginnings.{begins_atom, begins_postfix, begins_run_part, is_next_tight}
+use Rattle.fort_parse_first.specs.Beginnings.{begins_atom, begins_postfix, begins_run_part, is_next_tight}
 use Rattle.fort_parse.specs.Runs.{word_literal, literal_in, literal_of, parens, fill_value, fill_size, array_fill, form_atom, do_atom, word_atom, mark_atom, atom_for, atom, subscript, tight_atom, method_call, dotted, mark_postfix, postfix_for, postfix, run_part, run_parts, run_level}
 use Rattle.fort_parse.proofs.Statements.{allowing, YieldsUnit, FlatLaws, FormLaws}
 use Rattle.fort_parse.proofs.Firsts.{atom_begins}

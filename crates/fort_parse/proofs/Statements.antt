@@ -2,8 +2,8 @@
 -- checked by itself. A parser of runs that keeps the laws of runs makes parsers of flat
 -- expressions, of expressions, of blocks and again of runs that keep theirs.
 use Rattle.std.specs.Prelude.{◌≡◌, ℕ, Bool, true, false, ◌&&◌, not, List, [], ◌∷◌, ◌++◌, Option, Some, None, option_map}
-use Rattle.fort_token.specs.declared.token.Token.{Token}
-use Rattle.fort_token.specs.declared.marks.Mark.TheVariants as mark
+use Rattle.fort_lex_token.specs.declared.token.Token.{Token}
+use Rattle.fort_lex_token.specs.declared.marks.Mark.TheVariants as mark
 use Rattle.fort_tree.specs.declared.spot.Spot.{Spot}
 use Rattle.fort_tree.specs.declared.spot.Name.{Name}
 use Rattle.fort_tree.specs.declared.expr.Expr.{Expr}
@@ -17,18 +17,18 @@ use Rattle.fort_tree.specs.declared.declarations.Variable.{Variable, roll-Variab
 use Rattle.fort_tree.specs.declared.declarations.InitialSign.{InitialSign}
 use Rattle.fort_tree.specs.declared.types.TypeTree.{TypeTree}
 use Rattle.fort_tree.specs.declared.delimited.Delimited.{Delimited}
-use Rattle.fort_token.specs.declared.reserved.Reserved.TheVariants as reserved
+use Rattle.fort_lex_token.specs.declared.reserved.Reserved.TheVariants as reserved
 use Rattle.fort_tree.specs.Tokens.{Spellings, marked, word, named}
 use Rattle.fort_tree.specs.Tokens.{colon as at_colon}
 use Rattle.fort_tree.specs.Types.{said_type}
 use Rattle.fort_tree.specs.Blocks.{initial_token}
 use Rattle.fort_tree.specs.Said.{Said, Allowed, tokens_of, maybe_tokens, maybe_obeys, elsewhere, in_brackets}
 use Rattle.fort_tree.specs.Yield.{said_run, said_operand, said_flat, said_generator, said_head, said_expr, said_expr_list, said_variable, said_delimited}
-use Rattle.fort_reading.specs.Parser.{Row, Eater, next_of}
-use Rattle.fort_reading.specs.Words.{sees}
-use Rattle.fort_reading.proofs.Laws.{Only, Gets}
-use Rattle.fort_reading.proofs.Yields.{Yields, YieldsMaybe}
-use Rattle.fort_first.specs.Beginnings.{begins_atom, begins_run_part, begins_flat_part, begins_head, assigns}
+use Rattle.fort_parse_reading.specs.Parser.{Row, Eater, next_of}
+use Rattle.fort_parse_reading.specs.Words.{sees}
+use Rattle.fort_parse_reading.proofs.Laws.{Only, Gets}
+use Rattle.fort_parse_reading.proofs.Yields.{Yields, YieldsMaybe}
+use Rattle.fort_parse_first.specs.Beginnings.{begins_atom, begins_run_part, begins_flat_part, begins_head, assigns}
 use Rattle.fort_parse.specs.Flats.{operand, flat, generator, head, opened, expr_from, expr, maybe_list}
 use Rattle.fort_parse.specs.Blocks.{variable_from}
 use Rattle.fort_parse.specs.Runs.{delimited}

@@ -1,18 +1,18 @@
 -- What ends a flat expression and an expression.
 use Rattle.std.proofs.Common.{◌≡◌, Bool, true, false, Option, Some, None, refl}
 use Rattle.std.specs.Prelude.{◌&&◌, ◌||◌, not}
-use Rattle.fort_token.specs.declared.token.Token.{Token}
-use Rattle.fort_token.specs.declared.marks.Mark.{Mark}
-use Rattle.fort_token.specs.declared.marks.Mark.TheVariants as mark
-use Rattle.fort_token.specs.declared.reserved.Reserved.{Reserved}
+use Rattle.fort_lex_token.specs.declared.token.Token.{Token}
+use Rattle.fort_lex_token.specs.declared.marks.Mark.{Mark}
+use Rattle.fort_lex_token.specs.declared.marks.Mark.TheVariants as mark
+use Rattle.fort_lex_token.specs.declared.reserved.Reserved.{Reserved}
 use Rattle.fort_tree.specs.declared.spot.Spot.{Spot}
 use Rattle.fort_tree.specs.declared.expr.AssignSign.{AssignSign}
 use Rattle.fort_tree.specs.declared.expr.AssignSign.TheVariants as assign_sign
 use Rattle.fort_tree.specs.Tokens.{marked, word, is_empty, is_line}
 use Rattle.fort_tree.specs.Flats.{assign_token}
-use Rattle.fort_reading.specs.Words.{sees}
-use Rattle.fort_reading.proofs.Yields.{both, left_true, right_true, false_right, is_not}
-use Rattle.fort_first.specs.Beginnings.{word_begins_atom, mark_begins_atom, begins_atom, mark_begins_postfix, begins_postfix, begins_run_part, is_infix_kind, begins_flat_part, mark_assigns, assigns}
+use Rattle.fort_parse_reading.specs.Words.{sees}
+use Rattle.fort_parse_reading.proofs.Yields.{both, left_true, right_true, false_right, is_not}
+use Rattle.fort_parse_first.specs.Beginnings.{word_begins_atom, mark_begins_atom, begins_atom, mark_begins_postfix, begins_postfix, begins_run_part, is_infix_kind, begins_flat_part, mark_assigns, assigns}
 use Rattle.fort_parse.proofs.Statements.{allowing, flat_stops, expr_stops}
 
 pub stops_run : (lines blocks : Bool) (next : Option Token) → flat_stops lines blocks next ≡ true

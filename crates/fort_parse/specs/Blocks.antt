@@ -1,9 +1,9 @@
 -- The productions of blocks and of the parts of the forms that end with `end` as parsers, over one
 -- of runs.
 use Rattle.std.specs.Prelude.{ℕ, Bool, true, false, ◌&&◌, List, [], ◌∷◌, Option, Some, None}
-use Rattle.fort_token.specs.declared.token.Token.{Token}
-use Rattle.fort_token.specs.declared.marks.Mark.TheVariants as mark
-use Rattle.fort_token.specs.declared.reserved.Reserved.TheVariants as reserved
+use Rattle.fort_lex_token.specs.declared.token.Token.{Token}
+use Rattle.fort_lex_token.specs.declared.marks.Mark.TheVariants as mark
+use Rattle.fort_lex_token.specs.declared.reserved.Reserved.TheVariants as reserved
 use Rattle.fort_tree.specs.declared.spot.Spot.{Spot}
 use Rattle.fort_tree.specs.declared.spot.Name.{Name}
 use Rattle.fort_tree.specs.declared.types.TypeTree.{TypeTree}
@@ -23,13 +23,13 @@ use Rattle.fort_tree.specs.declared.delimited.TypeClause.{TypeClause, out-TypeCl
 use Rattle.fort_tree.specs.declared.expr.Operand.{Operand}
 use Rattle.fort_tree.specs.declared.expr.Run.{Run}
 use Rattle.fort_tree.specs.Tokens.{Spellings}
-use Rattle.fort_reading.specs.Parser.{Parser, Eater, pure, wrong, ◌>>=◌, fork, fork_eater, token, accept, ◌>>|◌, chain, many, same_budget}
-use Rattle.fort_reading.specs.Words.{is_mark, is_word, is_range, is_eq, spot_if, name_of, initial_of, sees}
+use Rattle.fort_parse_reading.specs.Parser.{Parser, Eater, pure, wrong, ◌>>=◌, fork, fork_eater, token, accept, ◌>>|◌, chain, many, same_budget}
+use Rattle.fort_parse_reading.specs.Words.{is_mark, is_word, is_range, is_eq, spot_if, name_of, initial_of, sees}
 use Rattle.fort_parse_types.specs.Types.{type_tree}
-use Rattle.fort_first.specs.declared.plain.PlainNames.{PlainNames}
-use Rattle.fort_first.specs.Beginnings.{begins_head, begins_item, begins_case_clause, begins_type_clause, begins_else}
-use Rattle.fort_first.specs.Endings.{semicolon}
-use Rattle.fort_first.specs.Plain.{plain_name, plain_names}
+use Rattle.fort_parse_first.specs.declared.plain.PlainNames.{PlainNames}
+use Rattle.fort_parse_first.specs.Beginnings.{begins_head, begins_item, begins_case_clause, begins_type_clause, begins_else}
+use Rattle.fort_parse_first.specs.Endings.{semicolon}
+use Rattle.fort_parse_first.specs.Plain.{plain_name, plain_names}
 use Rattle.fort_parse.specs.Flats.{operand, flat, generator, head, opened, expr_from, expr}
 
 -- whether there is a `;`

@@ -2,12 +2,12 @@
 -- whether an atom of its own may begin with `do`, one of expressions whether new lines may stand
 -- between its units.
 use Rattle.std.specs.Prelude.{ℕ, Bool, true, false, List, [], ◌++◌, Option, Some, None}
-use Rattle.fort_token.specs.declared.token.Kind.{Kind}
-use Rattle.fort_token.specs.declared.token.Kind.TheVariants as kind
-use Rattle.fort_token.specs.declared.token.Token.{Token}
-use Rattle.fort_token.specs.declared.marks.Mark.TheVariants as mark
-use Rattle.fort_token.specs.declared.reserved.Reserved.{Reserved}
-use Rattle.fort_token.specs.declared.reserved.Reserved.TheVariants as reserved
+use Rattle.fort_lex_token.specs.declared.token.Kind.{Kind}
+use Rattle.fort_lex_token.specs.declared.token.Kind.TheVariants as kind
+use Rattle.fort_lex_token.specs.declared.token.Token.{Token}
+use Rattle.fort_lex_token.specs.declared.marks.Mark.TheVariants as mark
+use Rattle.fort_lex_token.specs.declared.reserved.Reserved.{Reserved}
+use Rattle.fort_lex_token.specs.declared.reserved.Reserved.TheVariants as reserved
 use Rattle.fort_tree.specs.declared.spot.Spot.{Spot}
 use Rattle.fort_tree.specs.declared.spot.Name.{Name}
 use Rattle.fort_tree.specs.declared.expr.AssignSign.{AssignSign}
@@ -27,10 +27,10 @@ use Rattle.fort_tree.specs.declared.expr.NextExpr.{NextExpr, roll-NextExpr}
 use Rattle.fort_tree.specs.declared.expr.Operand.{Operand, roll-Operand}
 use Rattle.fort_tree.specs.declared.expr.Run.{Run}
 use Rattle.fort_tree.specs.Tokens.{Spellings}
-use Rattle.fort_reading.specs.Parser.{Parser, Eater, pure, ◌>>=◌, fork, fork_eater, token, accept, choose, no_eater, ◌>>|◌, many}
-use Rattle.fort_reading.specs.Words.{is_mark, is_word, spot_if, name_of, sign_of, prefix_of, assign_of, big_of, sees}
+use Rattle.fort_parse_reading.specs.Parser.{Parser, Eater, pure, ◌>>=◌, fork, fork_eater, token, accept, choose, no_eater, ◌>>|◌, many}
+use Rattle.fort_parse_reading.specs.Words.{is_mark, is_word, spot_if, name_of, sign_of, prefix_of, assign_of, big_of, sees}
 use Rattle.fort_parse_types.specs.Types.{maybe_parameters}
-use Rattle.fort_first.specs.Beginnings.{is_prefix, is_infix_kind, begins_flat_part, begins_head, assigns}
+use Rattle.fort_parse_first.specs.Beginnings.{is_prefix, is_infix_kind, begins_flat_part, begins_head, assigns}
 
 module _ (names : Spellings) {n : ℕ} (run : Bool → Eater Run n) where
   unfoldable pub prefixed : Bool → Eater Operand n

@@ -2,11 +2,11 @@
 use Rattle.std.specs.Prelude.{◌≡◌, ℕ, Bool, List, Result}
 use Rattle.std.specs.declared.alloc.Global.{Global}
 use denote.Ref.{Bor, MutBor}
-use Rattle.fort_token.specs.declared.token.Token.{Token}
+use Rattle.fort_lex_token.specs.declared.token.Token.{Token}
 use Rattle.fort_tree.specs.declared.expr.Run.{Run}
 use Rattle.fort_tree.specs.Tokens.{Spellings}
-use Rattle.fort_reading.specs.declared.fault.Fault.{Fault}
-use Rattle.fort_reading.specs.Parser.{Reads}
+use Rattle.fort_parse_reading.specs.declared.fault.Fault.{Fault}
+use Rattle.fort_parse_reading.specs.Parser.{Reads}
 use Rattle.fort_parse.specs.Runs.{run_at}
 
 -- it may be called, and reads runs

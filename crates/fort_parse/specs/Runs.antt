@@ -1,13 +1,13 @@
 -- The productions of atoms and runs as parsers, over one of runs with a smaller budget; and those
 -- of expressions and blocks.
 use Rattle.std.specs.Prelude.{ℕ, zero, suc, Bool, true, false, List, Option, Some, None, codes}
-use Rattle.fort_token.specs.declared.token.Kind.{Kind}
-use Rattle.fort_token.specs.declared.token.Kind.TheVariants as kind
-use Rattle.fort_token.specs.declared.token.Token.{Token}
-use Rattle.fort_token.specs.declared.marks.Mark.{Mark}
-use Rattle.fort_token.specs.declared.marks.Mark.TheVariants as mark
-use Rattle.fort_token.specs.declared.reserved.Reserved.{Reserved}
-use Rattle.fort_token.specs.declared.reserved.Reserved.TheVariants as reserved
+use Rattle.fort_lex_token.specs.declared.token.Kind.{Kind}
+use Rattle.fort_lex_token.specs.declared.token.Kind.TheVariants as kind
+use Rattle.fort_lex_token.specs.declared.token.Token.{Token}
+use Rattle.fort_lex_token.specs.declared.marks.Mark.{Mark}
+use Rattle.fort_lex_token.specs.declared.marks.Mark.TheVariants as mark
+use Rattle.fort_lex_token.specs.declared.reserved.Reserved.{Reserved}
+use Rattle.fort_lex_token.specs.declared.reserved.Reserved.TheVariants as reserved
 use Rattle.fort_tree.specs.declared.spot.Spot.{Spot}
 use Rattle.fort_tree.specs.declared.spot.Name.{Name}
 use Rattle.fort_tree.specs.declared.types.TypeTree.{TypeTree}
@@ -29,11 +29,11 @@ use Rattle.fort_tree.specs.declared.delimited.TypeClause.{out-TypeClause}
 use Rattle.fort_tree.specs.declared.expr.Flat.{Flat}
 use Rattle.fort_tree.specs.declared.expr.Run.{Run, roll-Run}
 use Rattle.fort_tree.specs.Tokens.{Spellings, is_empty}
-use Rattle.fort_reading.specs.Parser.{Parser, Eater, pure, wrong, ◌>>=◌, fork, fork_eater, token, accept, choose, no_eater, no_budget, ◌>>>◌, ◌>>|◌, many_more}
-use Rattle.fort_reading.specs.Words.{is_mark, is_word, is_eq, is_power, spot_of, spot_if, tight, name_of, called_of, sees, sees_tight}
+use Rattle.fort_parse_reading.specs.Parser.{Parser, Eater, pure, wrong, ◌>>=◌, fork, fork_eater, token, accept, choose, no_eater, no_budget, ◌>>>◌, ◌>>|◌, many_more}
+use Rattle.fort_parse_reading.specs.Words.{is_mark, is_word, is_eq, is_power, spot_of, spot_if, tight, name_of, called_of, sees, sees_tight}
 use Rattle.fort_parse_types.specs.Types.{type_tree}
 use Rattle.fort_tree.specs.Said.{is_there}
-use Rattle.fort_first.specs.Beginnings.{begins_postfix, begins_run_part, is_next_tight}
+use Rattle.fort_parse_first.specs.Beginnings.{begins_postfix, begins_run_part, is_next_tight}
 use Rattle.fort_parse.specs.Flats.{flat, generator, expr, maybe_list}
 use Rattle.fort_parse.specs.Flats as flats
 use Rattle.fort_parse.specs.Blocks.{last_ended, block, case_clauses, type_clauses, else_clause, also_blocks, elifs, else_block, catch, finally, next_generators}

@@ -2,19 +2,19 @@
 ghost use Rattle.std.specs.Prelude.{◌≡◌};
 ghost use Rattle.fort_tree.specs.declared.delimited.CaseClause.{out-CaseClause};
 ghost use Rattle.fort_tree.specs.declared.delimited.TypeClause.{out-TypeClause};
-ghost use Rattle.fort_reading.specs.Parser.{Reads};
+ghost use Rattle.fort_parse_reading.specs.Parser.{Reads};
 ghost use Rattle.fort_parse.specs.Blocks as block_spec;
 ghost use Rattle.fort_parse.specs.Runs.{run_at};
 ghost use Rattle.fort_parse.specs.Nests.{Nests};
 
 use crate::grammar::Grammar;
 use fort_base::{Boxed, Bytes, List};
-use fort_first::{
+use fort_lex_token::{Mark, Reserved};
+use fort_parse_first::{
     PlainNames, begins_case_clause, begins_else, begins_item, begins_type_clause, plain_name,
     plain_names, sees_head, semicolon,
 };
-use fort_reading::{Cursor, Fault, add};
-use fort_token::{Mark, Reserved};
+use fort_parse_reading::{Cursor, Fault, add};
 use fort_tree::{
     Also, Block, BlockItem, CaseClause, Catch, Elif, ElseBlock, ElseClause, Expr, Finally, Item,
     Name, NextGenerator, Operand, Run, Spot, TypeClause, TypeTree, Variable,

@@ -1,15 +1,15 @@
 //! Reading flat expressions, generators, heads and expressions.
 ghost use Rattle.std.specs.Prelude.{◌≡◌};
-ghost use Rattle.fort_reading.specs.Parser.{Reads};
+ghost use Rattle.fort_parse_reading.specs.Parser.{Reads};
 ghost use Rattle.fort_parse.specs.Flats as flats;
 ghost use Rattle.fort_parse.specs.Runs.{run_at};
 ghost use Rattle.fort_parse.specs.Nests.{Nests};
 
 use crate::grammar::Grammar;
 use fort_base::{Boxed, Bytes, List};
-use fort_first::{begins_flat_part, sees_assign, sees_head, sees_infix, sees_prefix};
-use fort_reading::{Cursor, Fault, add};
-use fort_token::{Kind, Mark, Reserved};
+use fort_lex_token::{Kind, Mark, Reserved};
+use fort_parse_first::{begins_flat_part, sees_assign, sees_head, sees_infix, sees_prefix};
+use fort_parse_reading::{Cursor, Fault, add};
 use fort_tree::{
     AssignSign, Big, Expr, ExprList, Flat, FlatPart, Generator, Head, Name, NextExpr, Operand, Run,
     Spot,

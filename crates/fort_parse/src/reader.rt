@@ -1,12 +1,12 @@
 //! What the crates above read: expressions, and variables behind their names.
 ghost use Rattle.std.specs.Prelude.{◌≡◌};
-ghost use Rattle.fort_reading.specs.Parser.{Reads};
+ghost use Rattle.fort_parse_reading.specs.Parser.{Reads};
 ghost use Rattle.fort_parse.specs.Runs.{expr_at, variable_at};
 
 use crate::grammar::Grammar;
 use crate::runs::run;
 use fort_base::Bytes;
-use fort_reading::{Cursor, Fault};
+use fort_parse_reading::{Cursor, Fault};
 use fort_tree::{Expr, Name, Spot, Variable};
 use std::alloc::Global;
 

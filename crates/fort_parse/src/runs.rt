@@ -1,6 +1,6 @@
 //! Reading atoms, postfixes and runs.
 ghost use Rattle.std.specs.Prelude.{◌≡◌};
-ghost use Rattle.fort_reading.specs.Parser.{Reads, accept_run};
+ghost use Rattle.fort_parse_reading.specs.Parser.{Reads, accept_run};
 ghost use Rattle.fort_parse.specs.Runs as runs;
 ghost use Rattle.fort_parse.specs.Runs.{run_at};
 ghost use Rattle.fort_parse.specs.Nests.{Nests};
@@ -8,9 +8,9 @@ ghost use Rattle.fort_parse.specs.Nests.{Nests};
 use crate::blocks::{case_ended, type_ended};
 use crate::grammar::Grammar;
 use fort_base::{Boxed, Bytes, List};
-use fort_first::{begins_run_part, is_next_tight, sees_arguments, sees_postfix};
-use fort_reading::{Cursor, Fault, add, spot_of};
-use fort_token::{Kind, Mark, Reserved, Token};
+use fort_lex_token::{Kind, Mark, Reserved, Token};
+use fort_parse_first::{begins_run_part, is_next_tight, sees_arguments, sees_postfix};
+use fort_parse_reading::{Cursor, Fault, add, spot_of};
 use fort_tree::{
     Atom, Block, Delimited, Expr, FillSpots, Flat, Generator, Name, NextGenerator, Postfix, Run,
     RunPart, Spot, TypeTree,

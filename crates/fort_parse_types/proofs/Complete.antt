@@ -2,10 +2,10 @@
 -- does not continue it.
 use Rattle.std.proofs.Common.{◌≡◌, ℕ, zero, suc, Bool, true, false, ◌∷◌, ◌++◌, append_assoc, Option, Some, None, refl}
 use Rattle.std.specs.Prelude.{option_map, codes, ◌&&◌, not}
-use Rattle.fort_token.specs.declared.token.Kind.TheVariants as kind
-use Rattle.fort_token.specs.declared.token.Token.{Token}
-use Rattle.fort_token.specs.declared.marks.Mark.{Mark}
-use Rattle.fort_token.specs.declared.marks.Mark.TheVariants as mark
+use Rattle.fort_lex_token.specs.declared.token.Kind.TheVariants as kind
+use Rattle.fort_lex_token.specs.declared.token.Token.{Token}
+use Rattle.fort_lex_token.specs.declared.marks.Mark.{Mark}
+use Rattle.fort_lex_token.specs.declared.marks.Mark.TheVariants as mark
 use Rattle.fort_tree.specs.declared.spot.Spot.{Spot}
 use Rattle.fort_tree.specs.declared.spot.Name.{Name}
 use Rattle.fort_tree.specs.declared.declarations.NextParameter.{NextParameter}
@@ -21,11 +21,11 @@ use Rattle.fort_tree.specs.Said.{tokens_of, maybe_tokens, maybe_obeys, elsewhere
 use Rattle.fort_tree.specs.Types.{said_simple_type, said_type, said_next_type, said_type_list, said_parameter, said_next_parameter, said_parameters}
 use Rattle.fort_tree.proofs.CasesTypes.{cases_type, cases_simple_type, cases_type_list, cases_next_type}
 use Rattle.fort_tree.proofs.SaysTypes.{says-Simple, says-Arrow, says-Named, says-Array, says-Parts, says_type_list, type_list_says, says_next_type, next_type_says}
-use Rattle.fort_reading.specs.Parser.{Row, next_of, Eater}
-use Rattle.fort_reading.specs.Words.{same_mark, is_mark, is_called, sees}
-use Rattle.fort_reading.proofs.Laws.{Gets, reads, ends, gets_then}
-use Rattle.fort_reading.proofs.Taking.{is_mark_at, not_mark, gets_mark, gets_name, gets_called, gets_colon}
-use Rattle.fort_reading.proofs.Yields.{left_true, right_true, is_not, next_stops, gets_list}
+use Rattle.fort_parse_reading.specs.Parser.{Row, next_of, Eater}
+use Rattle.fort_parse_reading.specs.Words.{same_mark, is_mark, is_called, sees}
+use Rattle.fort_parse_reading.proofs.Laws.{Gets, reads, ends, gets_then}
+use Rattle.fort_parse_reading.proofs.Taking.{is_mark_at, not_mark, gets_mark, gets_name, gets_called, gets_colon}
+use Rattle.fort_parse_reading.proofs.Yields.{left_true, right_true, is_not, next_stops, gets_list}
 use Rattle.fort_parse_types.specs.Types.{begins_type, next_type, next_types, type_list, maybe_types, type_parts, array_index, array_type, named_by, named_type, simple_type, arrow_from, type_level, type_tree, typed, parameter, next_parameter, next_parameters, parameters, maybe_parameters}
 
 -- ---- what ends a type

@@ -5,10 +5,10 @@ use Rattle.fort_tree.specs.declared.types.TypeTree.{TypeTree}
 use Rattle.fort_tree.specs.Tokens.{Spellings}
 use Rattle.fort_tree.specs.Said.{tokens_of, elsewhere}
 use Rattle.fort_tree.specs.Types.{said_type}
-use Rattle.fort_reading.specs.declared.fault.Fault.TheVariants.{Syntax, TooDeep}
-use Rattle.fort_reading.specs.Parser.{Row, Read, Failed}
-use Rattle.fort_reading.proofs.Laws.{Gets}
-use Rattle.fort_reading.proofs.Longest.{all_have, all_only, some_left, none_has, fails_at, is_longest}
+use Rattle.fort_parse_reading.specs.declared.fault.Fault.TheVariants.{Syntax, TooDeep}
+use Rattle.fort_parse_reading.specs.Parser.{Row, Read, Failed}
+use Rattle.fort_parse_reading.proofs.Laws.{Gets}
+use Rattle.fort_parse_reading.proofs.Longest.{all_have, all_only, some_left, none_has, fails_at, is_longest}
 use Rattle.fort_parse_types.specs.Types.{type_tree}
 use Rattle.fort_parse_types.specs.Longest.{TypeOf, NoLongerType, LongestType}
 use Rattle.fort_parse_types.proofs.Sound.{sound_type_tree}

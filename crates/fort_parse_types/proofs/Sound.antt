@@ -2,10 +2,10 @@
 -- it.
 use Rattle.std.proofs.Common.{◌≡◌, ℕ, zero, suc, Bool, true, false, List, [], ◌∷◌, append_assoc, Option, Some, None, refl, ap, ◌∙◌}
 use Rattle.std.specs.Prelude.{map, option_map, codes}
-use Rattle.fort_token.specs.declared.token.Kind.{Kind}
-use Rattle.fort_token.specs.declared.token.Kind.TheVariants as kind
-use Rattle.fort_token.specs.declared.marks.Mark.{Mark}
-use Rattle.fort_token.specs.declared.marks.Mark.TheVariants as mark
+use Rattle.fort_lex_token.specs.declared.token.Kind.{Kind}
+use Rattle.fort_lex_token.specs.declared.token.Kind.TheVariants as kind
+use Rattle.fort_lex_token.specs.declared.marks.Mark.{Mark}
+use Rattle.fort_lex_token.specs.declared.marks.Mark.TheVariants as mark
 use Rattle.fort_tree.specs.declared.spot.Spot.{Spot}
 use Rattle.fort_tree.specs.declared.spot.Name.{Name}
 use Rattle.fort_tree.specs.declared.declarations.NextParameter.{NextParameter}
@@ -20,11 +20,11 @@ use Rattle.fort_tree.specs.Tokens.{Spellings, named, marked, colon, is_spelled}
 use Rattle.fort_tree.specs.Said.{elsewhere}
 use Rattle.fort_tree.specs.Types.{said_simple_type, said_type, said_next_type, said_type_list, said_parameter, said_next_parameter, said_parameters}
 use Rattle.fort_tree.proofs.SaysTypes.{says-Simple, says-Arrow, says-Named, says-Array, says-Parts, says_type_list, says_next_type}
-use Rattle.fort_reading.specs.Parser.{Row, next_of, Eater}
-use Rattle.fort_reading.specs.Words.{is_mark, is_called, sees}
-use Rattle.fort_reading.proofs.Laws.{Only, only_read, only_failed, only_then, only_if}
-use Rattle.fort_reading.proofs.Taking.{only_mark, only_name, only_called, only_colon}
-use Rattle.fort_reading.proofs.Yields.{Yields, YieldsAll, YieldsMaybe, both, left_out, stands_there, only_list}
+use Rattle.fort_parse_reading.specs.Parser.{Row, next_of, Eater}
+use Rattle.fort_parse_reading.specs.Words.{is_mark, is_called, sees}
+use Rattle.fort_parse_reading.proofs.Laws.{Only, only_read, only_failed, only_then, only_if}
+use Rattle.fort_parse_reading.proofs.Taking.{only_mark, only_name, only_called, only_colon}
+use Rattle.fort_parse_reading.proofs.Yields.{Yields, YieldsAll, YieldsMaybe, both, left_out, stands_there, only_list}
 use Rattle.fort_parse_types.specs.Types.{next_type, next_types, type_list, maybe_types, type_parts, array_index, array_type, named_by, named_type, mark_type, simple_for, simple_type, arrow_from, type_level, type_tree, typed, parameter, next_parameter, next_parameters, parameters, maybe_parameters}
 
 -- the test of a word in the code and in the grammar are one

@@ -1,12 +1,12 @@
 -- The chapter "Grammar": the longest type that begins a row of tokens. The code runs a parser;
 -- where it fails it asks at falling ends whether all tokens up to there are a type.
 use Rattle.std.specs.Prelude.{◌≡◌, ℕ, List, Option, Some, None}
-use Rattle.fort_token.specs.declared.token.Token.{Token}
+use Rattle.fort_lex_token.specs.declared.token.Token.{Token}
 use Rattle.fort_tree.specs.declared.types.TypeTree.{TypeTree}
 use Rattle.fort_tree.specs.Tokens.{Spellings}
 use Rattle.fort_tree.specs.Said.{elsewhere}
 use Rattle.fort_tree.specs.Types.{said_type}
-use Rattle.fort_reading.specs.Longest.{HasTree, NoneLonger, LongestPart, NoPart}
+use Rattle.fort_parse_reading.specs.Longest.{HasTree, NoneLonger, LongestPart, NoPart}
 
 -- The tokens are those of the type.
 abbrev pub HasType : Spellings → List Token → TypeTree → Type 0

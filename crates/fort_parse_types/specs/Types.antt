@@ -1,10 +1,10 @@
 -- The productions of types and parameters as parsers.
 use Rattle.std.specs.Prelude.{ℕ, zero, suc, Bool, true, false, List, Option, Some, None, codes}
-use Rattle.fort_token.specs.declared.token.Kind.{Kind}
-use Rattle.fort_token.specs.declared.token.Kind.TheVariants as kind
-use Rattle.fort_token.specs.declared.token.Token.{Token}
-use Rattle.fort_token.specs.declared.marks.Mark.{Mark}
-use Rattle.fort_token.specs.declared.marks.Mark.TheVariants as mark
+use Rattle.fort_lex_token.specs.declared.token.Kind.{Kind}
+use Rattle.fort_lex_token.specs.declared.token.Kind.TheVariants as kind
+use Rattle.fort_lex_token.specs.declared.token.Token.{Token}
+use Rattle.fort_lex_token.specs.declared.marks.Mark.{Mark}
+use Rattle.fort_lex_token.specs.declared.marks.Mark.TheVariants as mark
 use Rattle.fort_tree.specs.declared.spot.Spot.{Spot}
 use Rattle.fort_tree.specs.declared.spot.Name.{Name}
 use Rattle.fort_tree.specs.declared.declarations.NextParameter.{NextParameter}
@@ -17,8 +17,8 @@ use Rattle.fort_tree.specs.declared.types.TypeList.{TypeList, roll-TypeList}
 use Rattle.fort_tree.specs.declared.types.TypeTree.{TypeTree}
 use Rattle.fort_tree.specs.declared.types.TypeTree.TheVariants as a_type
 use Rattle.fort_tree.specs.Tokens.{Spellings}
-use Rattle.fort_reading.specs.Parser.{Parser, Eater, pure, ◌>>=◌, fork, token, accept, choose, no_eater, no_budget, ◌>>>◌, ◌>>|◌, many}
-use Rattle.fort_reading.specs.Words.{is_mark, is_range, spot_if, name_of, is_called, called_of, sees}
+use Rattle.fort_parse_reading.specs.Parser.{Parser, Eater, pure, ◌>>=◌, fork, token, accept, choose, no_eater, no_budget, ◌>>>◌, ◌>>|◌, many}
+use Rattle.fort_parse_reading.specs.Words.{is_mark, is_range, spot_if, name_of, is_called, called_of, sees}
 
 -- whether a symbol begins a type
 abbrev pub mark_begins_type : Mark → Bool

@@ -2,12 +2,12 @@
 //! of tokens.
 
 ghost use Rattle.std.specs.Prelude.{◌≡◌};
-ghost use Rattle.fort_reading.specs.Parser.{Reads};
+ghost use Rattle.fort_parse_reading.specs.Parser.{Reads};
 ghost use Rattle.fort_parse_types.specs.Types as spec;
 
 use fort_base::{Boxed, Bytes, List};
-use fort_reading::{Cursor, Fault, add, is_called};
-use fort_token::{Kind, Mark};
+use fort_lex_token::{Kind, Mark};
+use fort_parse_reading::{Cursor, Fault, add, is_called};
 use fort_tree::{
     Name, NextParameter, NextType, Parameter, Parameters, SimpleType, Spot, TypeList, TypeTree,
 };

@@ -5,8 +5,8 @@ ghost use Rattle.fort_parse_types.specs.Longest.{TypeOf, NoLongerType, LongestTy
 
 use crate::grammar::TypeGrammar;
 use fort_base::{Bytes, Memory};
-use fort_reading::{Cursor, Fault};
-use fort_token::Token;
+use fort_lex_token::Token;
+use fort_parse_reading::{Cursor, Fault};
 use fort_tree::TypeTree;
 use std::alloc::Global;
 

@@ -22,18 +22,18 @@ use Rattle.fort_frames.specs.States.{term_at}
 use Rattle.fort_frames.specs.declared.place.Place.{Place}
 use Rattle.fort_frames.specs.declared.state.State.{State}
 use Rattle.fort_frames.proofs.Same.{same_term}
-use Rattle.fort_effects.specs.Levels.{levels_of, seen}
-use Rattle.fort_picks.specs.Picks.{NoneAwake}
-use Rattle.fort_course.specs.Course.{is_inner}
-use Rattle.fort_course.proofs.Keeps.{moves_keep}
-use Rattle.fort_course.proofs.Reaches.{bare_here}
-use Rattle.fort_moves.specs.Turns.{IsAt, IsStep, IsTry, ready_term}
-use Rattle.fort_moves.specs.declared.turn.Ready as code
-use Rattle.fort_carry.specs.declared.course.Course.{Course}
-use Rattle.fort_carry.specs.declared.course.Going.{Going}
-use Rattle.fort_carry.specs.Courses.{HasCome, StandsAt, IsGoing, around}
-use Rattle.fort_carry.specs.Calls.{MayTry}
-use Rattle.fort_carry.specs.Picked.{PicksNothing, PicksAttempt}
+use Rattle.fort_store_effects.specs.Levels.{levels_of, seen}
+use Rattle.fort_walk_law_course.specs.Picks.{NoneAwake}
+use Rattle.fort_walk_law_course.specs.Course.{is_inner}
+use Rattle.fort_walk_law_course.proofs.Keeps.{moves_keep}
+use Rattle.fort_walk_law_course.proofs.Reaches.{bare_here}
+use Rattle.fort_frames_moves.specs.Turns.{IsAt, IsStep, IsTry, ready_term}
+use Rattle.fort_frames_moves.specs.declared.turn.Ready as code
+use Rattle.fort_walk_course.specs.declared.course.Course.{Course}
+use Rattle.fort_walk_course.specs.declared.course.Going.{Going}
+use Rattle.fort_walk_course.specs.Courses.{HasCome, StandsAt, IsGoing, around}
+use Rattle.fort_walk_course.specs.Calls.{MayTry}
+use Rattle.fort_walk_course.specs.Picked.{PicksNothing, PicksAttempt}
 use Rattle.fort_plain.specs.Legal.{AreLegal}
 use Rattle.fort_plain.specs.Paths.{NoThread, whole}
 use Rattle.fort_plain.specs.Takes.{NoPick, IsIllegal, Begins, Leaves, IsThreadAt, ActsOn, term_round}

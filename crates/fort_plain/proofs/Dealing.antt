@@ -4,11 +4,11 @@ use Rattle.fort_base.specs.declared.ids.Loc.{Loc}
 use Rattle.fort_core.specs.declared.program.Program.{Program}
 use Rattle.fort_core.specs.declared.term.Term.{Term}
 use Rattle.fort_core.specs.declared.value.Value.{Value}
-use Rattle.fort_deal.specs.declared.deal.Deal.{Deal}
-use Rattle.fort_deal.specs.declared.deal.Deal.TheVariants as deal
-use Rattle.fort_deal.specs.declared.deal.Goes.{Goes}
-use Rattle.fort_deal.specs.declared.deal.Makes.{Makes}
-use Rattle.fort_acting.specs.Only.{IsDealt}
+use Rattle.fort_step_deal.specs.declared.deal.Deal.{Deal}
+use Rattle.fort_step_deal.specs.declared.deal.Deal.TheVariants as deal
+use Rattle.fort_step_deal.specs.declared.deal.Goes.{Goes}
+use Rattle.fort_step_deal.specs.declared.deal.Makes.{Makes}
+use Rattle.fort_step_acting.specs.Only.{IsDealt}
 use Rattle.fort_plain.specs.Takes.{TouchesStore}
 
 pub touches_store : (p : Program) (a : Term) (d : Deal) → IsDealt p a d → (d ≡ deal.Stuck → ⊥)

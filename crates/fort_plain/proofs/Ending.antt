@@ -19,14 +19,14 @@ use Rattle.fort_machine.specs.Journals.{MakesWithinBounds, IsJournal, IsNext, En
 use Rattle.fort_machine.proofs.Single.{one_run}
 use Rattle.fort_machine.proofs.WholeEffects.{idle_both}
 use Rattle.fort_machine.proofs.Standing.{standing-Value, standing-throw, value_not_throw}
-use Rattle.fort_effects.specs.Levels.{levels_of, spent}
-use Rattle.fort_course.specs.Course.{Comes}
-use Rattle.fort_course.specs.Ends.{HasRun}
-use Rattle.fort_course.proofs.Bounds.{both_bounded}
-use Rattle.fort_course.proofs.Passes.{completed_run, uncaught_run}
-use Rattle.fort_carry.specs.declared.course.Course.{Course}
-use Rattle.fort_carry.specs.declared.course.Going.{Going}
-use Rattle.fort_carry.specs.Courses.{IsGoing, inwards}
+use Rattle.fort_store_effects.specs.Levels.{levels_of, spent}
+use Rattle.fort_walk_law_course.specs.Course.{Comes}
+use Rattle.fort_walk_law_course.specs.Ends.{HasRun}
+use Rattle.fort_walk_law_course.proofs.Bounds.{both_bounded}
+use Rattle.fort_walk_law_course.proofs.Passes.{completed_run, uncaught_run}
+use Rattle.fort_walk_course.specs.declared.course.Course.{Course}
+use Rattle.fort_walk_course.specs.declared.course.Going.{Going}
+use Rattle.fort_walk_course.specs.Courses.{IsGoing, inwards}
 use Rattle.fort_plain.specs.Legal.{AreLegal, a_run, begun_last, NoRun}
 use Rattle.fort_plain.specs.Paths.{IsSettled, whole}
 use Rattle.fort_plain.specs.Replays.{RunsWithin, BreaksAt, EndsAt, EndsSo, IsNoPick, Replays}

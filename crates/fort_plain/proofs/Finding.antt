@@ -14,8 +14,8 @@ use Rattle.fort_frames.specs.declared.place.Place.{Place}
 use Rattle.fort_frames.specs.declared.state.At.{At}
 use Rattle.fort_frames.specs.declared.state.At.TheVariants as at
 use Rattle.fort_frames.specs.declared.state.State.{State}
-use Rattle.fort_moves.specs.Turns.{IsAt, IsGathered, IsOdd, IsStep, IsTry, ready_term}
-use Rattle.fort_moves.specs.declared.turn.Ready as code
+use Rattle.fort_frames_moves.specs.Turns.{IsAt, IsGathered, IsOdd, IsStep, IsTry, ready_term}
+use Rattle.fort_frames_moves.specs.declared.turn.Ready as code
 use Rattle.fort_machine.proofs.Standing.{not_finished}
 use Rattle.fort_machine.proofs.Places.{plug_open, ready_open}
 use Rattle.fort_machine.proofs.Ready.{form_ready}

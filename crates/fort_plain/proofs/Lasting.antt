@@ -10,10 +10,10 @@ use Rattle.fort_machine.specs.Journals.{MakesWithinBounds, opening_store}
 use Rattle.fort_machine.proofs.Runs.{append, runs_fit}
 use Rattle.fort_machine.proofs.WholeEffects.{afterwards_both, both_assoc, idle_both}
 use Rattle.fort_frames.specs.Frames.{frames, rebuilt}
-use Rattle.fort_effects.specs.declared.cell.Closing.TheVariants as closing
-use Rattle.fort_picks.proofs.Picks.{attempt_is_begun, begun_within}
-use Rattle.fort_course.specs.Course.{Held, Base, root_base, base_of, Waits, AllWait}
-use Rattle.fort_course.proofs.Bounds.{both_bounded, closing_bounded}
+use Rattle.fort_store_effects.specs.declared.cell.Closing.TheVariants as closing
+use Rattle.fort_walk_law_course.proofs.Picks.{attempt_is_begun, begun_within}
+use Rattle.fort_walk_law_course.specs.Course.{Held, Base, root_base, base_of, Waits, AllWait}
+use Rattle.fort_walk_law_course.proofs.Bounds.{both_bounded, closing_bounded}
 use Rattle.fort_plain.specs.Legal.{AreLegal, a_run, begun_last}
 use Rattle.fort_plain.specs.Within.{AreSources, is_none}
 use Rattle.fort_plain.specs.declared.take.Source.{Source}

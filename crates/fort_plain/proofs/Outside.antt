@@ -17,8 +17,8 @@ use Rattle.fort_frames.specs.declared.frame.Frame.TheVariants as frame
 use Rattle.fort_frames.specs.declared.head.Head.{Head}
 use Rattle.fort_frames.specs.declared.node.Node.{Node}
 use Rattle.fort_frames.specs.declared.place.Place.{Place}
-use Rattle.fort_moves.proofs.Enters.{plain_frames}
-use Rattle.fort_moves.proofs.Parts.{put_part, suits_back}
+use Rattle.fort_frames_moves.proofs.Enters.{plain_frames}
+use Rattle.fort_frames_moves.proofs.Parts.{put_part, suits_back}
 use Rattle.fort_plain.specs.Paths.{IsInside, IsBeside, IsOpenAt, IsSought}
 use Rattle.fort_plain.specs.declared.find.Seek.{Seek}
 

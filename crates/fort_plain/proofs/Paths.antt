@@ -23,8 +23,8 @@ use Rattle.fort_frames.specs.declared.head.Head.{Head}
 use Rattle.fort_frames.specs.declared.head.Head.TheVariants as head
 use Rattle.fort_frames.specs.declared.place.Place.{Place}
 use Rattle.fort_frames.proofs.Same.{same_term, not_passed, same_thread}
-use Rattle.fort_moves.specs.Turns.{IsOver}
-use Rattle.fort_moves.proofs.Waits.{Kind, lone, between, kind_of, sides_of, beside_is, serial, parallel, next_at, by_kind, next_on, take_middle, drop_sides, at_middle}
+use Rattle.fort_frames_moves.specs.Turns.{IsOver}
+use Rattle.fort_frames_moves.proofs.Waits.{Kind, lone, between, kind_of, sides_of, beside_is, serial, parallel, next_at, by_kind, next_on, take_middle, drop_sides, at_middle}
 use Rattle.fort_plain.specs.Paths.{NoThread}
 
 abbrev number_of : Kind → List ℕ

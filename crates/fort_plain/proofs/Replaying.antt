@@ -6,8 +6,8 @@ use Rattle.std.proofs.lemmas.Option.{slice_get_within}
 use Rattle.fort_core.specs.declared.journal.Journal.{Journal}
 use Rattle.fort_core.specs.declared.pick.Pick.{Pick}
 use Rattle.fort_core.specs.declared.program.Program.{Program}
-use Rattle.fort_carry.specs.declared.course.Going.{Going}
-use Rattle.fort_carry.specs.Courses.{IsGoing}
+use Rattle.fort_walk_course.specs.declared.course.Going.{Going}
+use Rattle.fort_walk_course.specs.Courses.{IsGoing}
 use Rattle.fort_plain.specs.Legal.{NoRun}
 use Rattle.fort_plain.specs.Replays.{BreaksAt, EndsAt, Replays}
 use Rattle.fort_plain.specs.Within.{TakesPick}

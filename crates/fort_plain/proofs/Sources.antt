@@ -5,12 +5,12 @@ use Rattle.fort_core.specs.declared.path.Path.{Path}
 use Rattle.fort_core.specs.declared.pick.Pick.{Pick, Step, Attempt, out-Pick}
 use Rattle.fort_core.specs.declared.pick.Pick.TheVariants.{outs-Step, outs-Attempt}
 use Rattle.fort_core.specs.declared.program.Program.{Program}
-use Rattle.fort_course.specs.Course.{Held}
-use Rattle.fort_carry.specs.declared.course.Course.{Course}
-use Rattle.fort_carry.specs.declared.course.Going.{Going}
-use Rattle.fort_carry.specs.declared.course.Waiting.{Waiting}
-use Rattle.fort_carry.specs.Courses.{around, held, inwards}
-use Rattle.fort_carry.proofs.Around.{last_is_first}
+use Rattle.fort_walk_law_course.specs.Course.{Held}
+use Rattle.fort_walk_course.specs.declared.course.Course.{Course}
+use Rattle.fort_walk_course.specs.declared.course.Going.{Going}
+use Rattle.fort_walk_course.specs.declared.course.Waiting.{Waiting}
+use Rattle.fort_walk_course.specs.Courses.{around, held, inwards}
+use Rattle.fort_walk_course.proofs.Around.{last_is_first}
 use Rattle.fort_plain.specs.Takes.{GoesOn, Begins, Leaves}
 use Rattle.fort_plain.specs.Within.{AreSources, IsFirst, IsSource, IsInside, IsSourceOf, IsWithin, HasSources, TakesPick, IsHere, inmost}
 use Rattle.fort_plain.specs.declared.take.Source.{Source}

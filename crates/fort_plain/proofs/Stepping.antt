@@ -24,20 +24,20 @@ use Rattle.fort_frames.specs.Frames.{frames, outward}
 use Rattle.fort_frames.specs.declared.place.Place.{Place}
 use Rattle.fort_frames.specs.declared.state.At.TheVariants as at
 use Rattle.fort_frames.proofs.Same.{same_term}
-use Rattle.fort_effects.specs.Calls.{AreFree}
-use Rattle.fort_effects.specs.Levels.{levels_of, seen}
-use Rattle.fort_picks.specs.Picks.{Stage}
-use Rattle.fort_picks.proofs.Picks.{step_is_next, inner_abort_ends}
-use Rattle.fort_course.specs.Course.{Held, is_inner}
-use Rattle.fort_course.proofs.Reaches.{bare_here}
-use Rattle.fort_carry.specs.declared.course.Course.{Course}
-use Rattle.fort_carry.specs.declared.course.Waiting.{Waiting}
-use Rattle.fort_carry.specs.declared.course.Going.{Going}
-use Rattle.fort_carry.specs.Courses.{StandsAt, IsGoing, around, held, inwards}
-use Rattle.fort_carry.specs.Calls.{CannotThrow, MayAbort, MayStep}
-use Rattle.fort_carry.specs.Picked.{PicksStep, PicksAttempt}
-use Rattle.fort_acting.specs.Only.{OnlyDoes}
-use Rattle.fort_acting.proofs.Acted.{does_this, ends_only}
+use Rattle.fort_store_effects.specs.Calls.{AreFree}
+use Rattle.fort_store_effects.specs.Levels.{levels_of, seen}
+use Rattle.fort_walk_law_course.specs.Picks.{Stage}
+use Rattle.fort_walk_law_course.proofs.Picks.{step_is_next, inner_abort_ends}
+use Rattle.fort_walk_law_course.specs.Course.{Held, is_inner}
+use Rattle.fort_walk_law_course.proofs.Reaches.{bare_here}
+use Rattle.fort_walk_course.specs.declared.course.Course.{Course}
+use Rattle.fort_walk_course.specs.declared.course.Waiting.{Waiting}
+use Rattle.fort_walk_course.specs.declared.course.Going.{Going}
+use Rattle.fort_walk_course.specs.Courses.{StandsAt, IsGoing, around, held, inwards}
+use Rattle.fort_walk_course.specs.Calls.{CannotThrow, MayAbort, MayStep}
+use Rattle.fort_walk_course.specs.Picked.{PicksStep, PicksAttempt}
+use Rattle.fort_step_acting.specs.Only.{OnlyDoes}
+use Rattle.fort_step_acting.proofs.Acted.{does_this, ends_only}
 use Rattle.fort_plain.specs.Legal.{AreLegal, a_run}
 use Rattle.fort_plain.specs.Takes.{NoPick, IsIllegal, LeavesBy, Stops, IsLast, IsTurn, IsThreadAt, DoesOnly, TurnsOnly, term_round, StepsOn}
 use Rattle.fort_plain.specs.declared.act.Acted.TheVariants as acted

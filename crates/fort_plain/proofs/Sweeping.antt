@@ -23,11 +23,11 @@ use Rattle.fort_frames.specs.declared.state.At.{At}
 use Rattle.fort_frames.specs.declared.state.At.TheVariants as at
 use Rattle.fort_frames.specs.declared.state.State.{State}
 use Rattle.fort_frames.proofs.Same.{same_term, not_passed}
-use Rattle.fort_picks.specs.Picks.{NoneAwake}
-use Rattle.fort_moves.specs.Sweeps.{AllMet, IsMet, SweptAt, Swept, IsLeft, SweptTo, MissesNone}
-use Rattle.fort_moves.specs.Turns.{IsAt, IsStep, IsTry, IsGathered, ready_term}
-use Rattle.fort_moves.specs.declared.turn.Ready as ready
-use Rattle.fort_moves.specs.declared.turn.Stop.TheVariants as stop
+use Rattle.fort_walk_law_course.specs.Picks.{NoneAwake}
+use Rattle.fort_frames_moves.specs.Sweeps.{AllMet, IsMet, SweptAt, Swept, IsLeft, SweptTo, MissesNone}
+use Rattle.fort_frames_moves.specs.Turns.{IsAt, IsStep, IsTry, IsGathered, ready_term}
+use Rattle.fort_frames_moves.specs.declared.turn.Ready as ready
+use Rattle.fort_frames_moves.specs.declared.turn.Stop.TheVariants as stop
 use Rattle.fort_plain.specs.Paths.{AllSleep, IsNoForm, whole}
 use Rattle.fort_plain.proofs.Tries.{made_is_not_tried}
 

@@ -8,15 +8,15 @@ use Rattle.fort_machine.specs.Ends.{Finished}
 use Rattle.fort_machine.specs.Attempts.{goes}
 use Rattle.fort_machine.specs.Runs.{Runs}
 use Rattle.fort_machine.specs.Journals.{MakesWithinBounds, opening_store}
-use Rattle.fort_effects.specs.Levels.{Levels, levels_of, seen, spent}
-use Rattle.fort_course.specs.Course.{Held, base_of, AllWait, Comes, is_inner}
-use Rattle.fort_course.proofs.Bounds.{both_bounded}
-use Rattle.fort_course.proofs.Store.{store_by, seen_base, inner_is}
-use Rattle.fort_carry.specs.declared.course.Course.{Course}
-use Rattle.fort_carry.specs.declared.course.Going.{Going}
-use Rattle.fort_carry.specs.declared.course.Waiting.{Waiting}
-use Rattle.fort_carry.specs.Courses.{IsGoing, around, inwards}
-use Rattle.fort_carry.specs.Calls.{CannotThrow}
+use Rattle.fort_store_effects.specs.Levels.{Levels, levels_of, seen, spent}
+use Rattle.fort_walk_law_course.specs.Course.{Held, base_of, AllWait, Comes, is_inner}
+use Rattle.fort_walk_law_course.proofs.Bounds.{both_bounded}
+use Rattle.fort_walk_law_course.proofs.Store.{store_by, seen_base, inner_is}
+use Rattle.fort_walk_course.specs.declared.course.Course.{Course}
+use Rattle.fort_walk_course.specs.declared.course.Going.{Going}
+use Rattle.fort_walk_course.specs.declared.course.Waiting.{Waiting}
+use Rattle.fort_walk_course.specs.Courses.{IsGoing, around, inwards}
+use Rattle.fort_walk_course.specs.Calls.{CannotThrow}
 use Rattle.fort_plain.specs.Legal.{AreLegal, a_run, NoWay, NoRun}
 use Rattle.fort_plain.specs.Paths.{whole}
 use Rattle.fort_plain.specs.Takes.{NoPick, IsIllegal, GoesOn, Begins, Leaves, LeavesBy, Stops, IsLast}

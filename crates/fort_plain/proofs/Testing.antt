@@ -10,7 +10,7 @@ use Rattle.fort_core.specs.declared.value.Value.{Value}
 use Rattle.fort_machine.specs.Effects.{Store}
 use Rattle.fort_machine.specs.Marked.{Marks}
 use Rattle.fort_machine.specs.Attempts.{Form, fresh, slept, Sleeps}
-use Rattle.fort_effects.specs.Calls.{AreFree}
+use Rattle.fort_store_effects.specs.Calls.{AreFree}
 use Rattle.fort_plain.specs.Paths.{AllSleep}
 use Rattle.fort_plain.specs.Takes.{MustWait}
 

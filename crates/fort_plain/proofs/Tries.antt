@@ -17,9 +17,9 @@ use Rattle.fort_frames.specs.declared.head.Head.{Head}
 use Rattle.fort_frames.specs.declared.head.Head.TheVariants as head
 use Rattle.fort_frames.specs.declared.frame.Frame as code
 use Rattle.fort_frames.specs.declared.frame.Frame.TheVariants as frame
-use Rattle.fort_moves.specs.Turns.{IsMade, StepsByItself, ready_term}
-use Rattle.fort_moves.specs.declared.turn.Ready.{Ready}
-use Rattle.fort_moves.specs.declared.turn.Ready.TheVariants as ready
+use Rattle.fort_frames_moves.specs.Turns.{IsMade, StepsByItself, ready_term}
+use Rattle.fort_frames_moves.specs.declared.turn.Ready.{Ready}
+use Rattle.fort_frames_moves.specs.declared.turn.Ready.TheVariants as ready
 
 abbrev NotTried : Term-F Term Value Closure → Type 0
 NotTried (Term-F.Atomic mode body) = ⊥

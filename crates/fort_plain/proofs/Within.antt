@@ -18,9 +18,9 @@ use Rattle.fort_machine.proofs.Single.{one_run}
 use Rattle.fort_frames.specs.Frames.{frames, outward, rebuilt}
 use Rattle.fort_frames.specs.declared.place.Place.{Place}
 use Rattle.fort_frames.proofs.Same.{same_term, same_thread}
-use Rattle.fort_effects.specs.Levels.{Levels, seen, spent, attempts_cost}
-use Rattle.fort_course.specs.Course.{Held, Base, root_base, base_of, Waits, AllWait, Comes, is_inner}
-use Rattle.fort_course.proofs.Store.{levels_by, store_by, seen_base, inner_is}
+use Rattle.fort_store_effects.specs.Levels.{Levels, seen, spent, attempts_cost}
+use Rattle.fort_walk_law_course.specs.Course.{Held, Base, root_base, base_of, Waits, AllWait, Comes, is_inner}
+use Rattle.fort_walk_law_course.proofs.Store.{levels_by, store_by, seen_base, inner_is}
 use Rattle.fort_plain.specs.Legal.{AreLegal, NoWay, NoRun}
 use Rattle.fort_plain.specs.Within.{AreSources, is_none}
 use Rattle.fort_plain.specs.declared.take.Source.{Source}

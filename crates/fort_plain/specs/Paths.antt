@@ -16,8 +16,8 @@ use Rattle.fort_frames.specs.declared.place.Place.{Place}
 use Rattle.fort_frames.specs.declared.state.At.{At}
 use Rattle.fort_frames.specs.declared.state.At.TheVariants as at
 use Rattle.fort_frames.specs.declared.state.State.{State}
-use Rattle.fort_moves.specs.Turns.{IsStep, IsTry}
-use Rattle.fort_picks.specs.Picks.{NoneAwake}
+use Rattle.fort_frames_moves.specs.Turns.{IsStep, IsTry}
+use Rattle.fort_walk_law_course.specs.Picks.{NoneAwake}
 use Rattle.fort_plain.specs.declared.find.Found.{Found}
 use Rattle.fort_plain.specs.declared.find.Found.TheVariants as found
 use Rattle.fort_plain.specs.declared.find.Seek.{Seek}

@@ -10,7 +10,7 @@ use Rattle.fort_core.specs.declared.term.Term.{Term}
 use Rattle.fort_machine.specs.Effects.{Effect}
 use Rattle.fort_machine.specs.Acts.{unit}
 use Rattle.fort_machine.specs.Journals.{IsRun, IsJournal}
-use Rattle.fort_course.specs.Ends.{HasRun}
+use Rattle.fort_walk_law_course.specs.Ends.{HasRun}
 use Rattle.fort_plain.specs.declared.journal.Replayed.{Replayed}
 use Rattle.fort_plain.specs.declared.journal.Replayed.TheVariants as replayed
 use Rattle.fort_plain.specs.declared.settled.Settled.{Settled}

@@ -13,18 +13,18 @@ use Rattle.fort_machine.specs.Steps.{Acts, Local}
 use Rattle.fort_machine.specs.Journals.{MakesWithinBounds}
 use Rattle.fort_frames.specs.Frames.{frames, rebuilt}
 use Rattle.fort_frames.specs.declared.place.Place.{Place}
-use Rattle.fort_effects.specs.Levels.{levels_of, seen}
-use Rattle.fort_picks.specs.Picks.{MayBeTried}
-use Rattle.fort_course.specs.Course.{is_inner}
-use Rattle.fort_carry.specs.Courses.{StandsAt, IsGoing, around}
-use Rattle.fort_carry.specs.Calls.{CannotThrow}
-use Rattle.fort_carry.specs.Picked.{PicksAttempt}
-use Rattle.fort_carry.specs.declared.course.Course.{Course}
-use Rattle.fort_carry.specs.declared.course.Going.{Going}
-use Rattle.fort_carry.specs.declared.course.Waiting.{Waiting}
-use Rattle.fort_acting.specs.Only.{OnlyDoes}
-use Rattle.fort_deal.specs.declared.deal.Deal.{Deal}
-use Rattle.fort_deal.specs.declared.deal.Deal.TheVariants as deal
+use Rattle.fort_store_effects.specs.Levels.{levels_of, seen}
+use Rattle.fort_walk_law_course.specs.Picks.{MayBeTried}
+use Rattle.fort_walk_law_course.specs.Course.{is_inner}
+use Rattle.fort_walk_course.specs.Courses.{StandsAt, IsGoing, around}
+use Rattle.fort_walk_course.specs.Calls.{CannotThrow}
+use Rattle.fort_walk_course.specs.Picked.{PicksAttempt}
+use Rattle.fort_walk_course.specs.declared.course.Course.{Course}
+use Rattle.fort_walk_course.specs.declared.course.Going.{Going}
+use Rattle.fort_walk_course.specs.declared.course.Waiting.{Waiting}
+use Rattle.fort_step_acting.specs.Only.{OnlyDoes}
+use Rattle.fort_step_deal.specs.declared.deal.Deal.{Deal}
+use Rattle.fort_step_deal.specs.declared.deal.Deal.TheVariants as deal
 use Rattle.fort_plain.specs.Legal.{AreLegal, NoWay}
 use Rattle.fort_plain.specs.declared.act.Acted.{Acted}
 use Rattle.fort_plain.specs.declared.act.Acted.TheVariants as acted

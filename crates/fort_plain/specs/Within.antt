@@ -9,11 +9,11 @@ use Rattle.fort_machine.specs.Effects.{Effect}
 use Rattle.fort_machine.specs.Attempts.{goes}
 use Rattle.fort_machine.specs.Runs.{Runs}
 use Rattle.fort_machine.specs.Journals.{MakesWithinBounds, opening_store}
-use Rattle.fort_effects.specs.Levels.{levels_of}
-use Rattle.fort_course.specs.Course.{Held}
-use Rattle.fort_carry.specs.Courses.{IsGoing, around}
-use Rattle.fort_carry.specs.declared.course.Course.{Course}
-use Rattle.fort_carry.specs.declared.course.Going.{Going}
+use Rattle.fort_store_effects.specs.Levels.{levels_of}
+use Rattle.fort_walk_law_course.specs.Course.{Held}
+use Rattle.fort_walk_course.specs.Courses.{IsGoing, around}
+use Rattle.fort_walk_course.specs.declared.course.Course.{Course}
+use Rattle.fort_walk_course.specs.declared.course.Going.{Going}
 use Rattle.fort_plain.specs.Legal.{AreLegal, NoRun}
 use Rattle.fort_plain.specs.declared.take.Source.{Source}
 use Rattle.fort_plain.specs.declared.take.Within.{Within}

@@ -1,7 +1,7 @@
 //! One pick of the innermost machine.
 ghost use Rattle.std.specs.Prelude.{IfOk};
 ghost use Rattle.fort_machine.specs.Written.{WrittenProgram};
-ghost use Rattle.fort_carry.specs.Courses.{IsGoing};
+ghost use Rattle.fort_walk_course.specs.Courses.{IsGoing};
 ghost use Rattle.fort_core.specs.declared.pick.Pick.{Attempt as an_attempt, Step as a_step};
 ghost use Rattle.fort_plain.specs.Paths.{whole};
 ghost use Rattle.fort_plain.specs.Takes.{ActsOn, IsTurn};
@@ -10,9 +10,9 @@ use crate::attempts::begin;
 use crate::find::{Found, find};
 use crate::steps::step;
 use fort_base::{List, Loc, Memory};
-use fort_carry::{Execution, Going};
 use fort_core::{Path, Pick, Program};
 use fort_frames::State;
+use fort_walk_course::{Execution, Going};
 use std::alloc::Global;
 
 /// Where a pick stands in a journal.

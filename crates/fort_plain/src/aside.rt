@@ -10,7 +10,7 @@ use crate::find::{Found, Seek};
 use fort_base::{List, Memory, Shared};
 use fort_core::{Path, Term};
 use fort_frames::{Frame, Head, Node, Place};
-use fort_moves::{Ready, Turn, enter_part, part_at};
+use fort_frames_moves::{Ready, Turn, enter_part, part_at};
 use std::alloc::Global;
 
 /// Out of one frame.

@@ -7,9 +7,9 @@ ghost use Rattle.fort_core.specs.declared.term.Term.{Term};
 ghost use Rattle.fort_machine.specs.Attempts.{Form, Ready};
 ghost use Rattle.fort_machine.specs.Written.{WrittenProgram};
 ghost use Rattle.fort_frames.specs.Frames.{Reaches, frames};
-ghost use Rattle.fort_effects.specs.Levels.{levels_of, seen};
-ghost use Rattle.fort_carry.specs.Courses.{IsGoing, StandsAt};
-ghost use Rattle.fort_carry.specs.Calls.{MayTry};
+ghost use Rattle.fort_store_effects.specs.Levels.{levels_of, seen};
+ghost use Rattle.fort_walk_course.specs.Courses.{IsGoing, StandsAt};
+ghost use Rattle.fort_walk_course.specs.Calls.{MayTry};
 ghost use Rattle.fort_plain.specs.Paths.{whole};
 ghost use Rattle.fort_plain.specs.Takes.{ActsOn, Closes, MustWait, term_round};
 
@@ -17,9 +17,9 @@ use crate::act::Acted;
 use crate::awake::{all_sleep, sleeps};
 use crate::settled::{Settled, settle};
 use fort_base::{Memory, Shared};
-use fort_carry::{Execution, Going};
 use fort_core::{Mode, Program, Term};
 use fort_frames::Place;
+use fort_walk_course::{Execution, Going};
 use std::alloc::Global;
 
 /// An attempt of an atomic form begins, unless the form sleeps while another thread of its machine

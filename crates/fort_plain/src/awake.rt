@@ -4,16 +4,16 @@ ghost use Rattle.fort_machine.specs.Attempts.{Sleeps};
 ghost use Rattle.fort_machine.specs.Marked.{In};
 ghost use Rattle.fort_machine.specs.Ends.{open_yet, standing};
 ghost use Rattle.fort_frames.specs.Frames.{Reaches, frames, rebuilt};
-ghost use Rattle.fort_effects.specs.Levels.{levels_of, seen};
+ghost use Rattle.fort_store_effects.specs.Levels.{levels_of, seen};
 ghost use Rattle.fort_plain.specs.Paths.{AllSleep, IsNoForm};
 
 use crate::aside::{Out, leave_frame, node_form};
 use fort_base::{List, Loc, Memory, Shared};
-use fort_carry::Execution;
 use fort_core::{Term, Value};
 use fort_frames::{At, Place, Stack, State};
-use fort_moves::{Stop, moved};
-use fort_subst::group;
+use fort_frames_moves::{Stop, moved};
+use fort_step_subst::group;
+use fort_walk_course::Execution;
 use std::alloc::Global;
 
 /// Whether each thread sleeps of the term that has an open form at a place.

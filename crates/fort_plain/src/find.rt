@@ -4,15 +4,15 @@ ghost use Rattle.fort_machine.specs.Attempts as attempts;
 ghost use Rattle.fort_machine.specs.Ends.{group as group_of};
 ghost use Rattle.fort_frames.specs.Frames.{Reaches, frames, rebuilt};
 ghost use Rattle.fort_frames.specs.States.{term_at};
-ghost use Rattle.fort_moves.specs.Turns.{IsGathered, IsStep, IsTry, ready_term};
+ghost use Rattle.fort_frames_moves.specs.Turns.{IsGathered, IsStep, IsTry, ready_term};
 ghost use Rattle.fort_plain.specs.Paths.{IsFound, IsSought, whole};
 
 use crate::aside::aside;
 use fort_base::{List, Memory, Shared};
 use fort_core::{Path, Term};
 use fort_frames::{At, Place, State};
-use fort_moves::{Ready, Stop, moved};
-use fort_subst::group;
+use fort_frames_moves::{Ready, Stop, moved};
+use fort_step_subst::group;
 use std::alloc::Global;
 
 /// What has a path.

@@ -2,16 +2,16 @@
 ghost use Rattle.std.specs.Prelude.{◌≡◌, ◌≤◌, ◌↔◌, [], IfOk, IsTrue};
 ghost use Rattle.fort_machine.specs.Acts.{unit};
 ghost use Rattle.fort_machine.specs.Written.{WrittenProgram};
-ghost use Rattle.fort_carry.specs.Courses.{IsGoing};
-ghost use Rattle.fort_effects.specs.Levels.{levels_of};
+ghost use Rattle.fort_walk_course.specs.Courses.{IsGoing};
+ghost use Rattle.fort_store_effects.specs.Levels.{levels_of};
 ghost use Rattle.fort_plain.specs.Paths.{IsSettled};
 ghost use Rattle.fort_plain.specs.Replays.{EndsAt, EndsSo, IsNoPick, Replays};
 
 use crate::settled::{Settled, settle};
 use crate::take::{Taken, take};
 use fort_base::{Bytes, List, Memory};
-use fort_carry::{Execution, Going};
 use fort_core::{Ending, Journal, Pick, Program, Value};
+use fort_walk_course::{Execution, Going};
 use std::alloc::Global;
 
 /// What a replay of a journal comes to.

@@ -7,8 +7,8 @@ ghost use Rattle.fort_plain.specs.Paths.{IsSettled, whole};
 use fort_base::{Memory, Shared};
 use fort_core::Value;
 use fort_frames::{At, State};
-use fort_moves::{Stand, Stop, moved, standing_of};
-use fort_subst::group;
+use fort_frames_moves::{Stand, Stop, moved, standing_of};
+use fort_step_subst::group;
 use std::alloc::Global;
 
 /// How a machine's term stands.

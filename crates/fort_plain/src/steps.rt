@@ -1,24 +1,24 @@
 //! A step of a thread, as a pick takes it.
 ghost use Rattle.std.specs.Prelude.{◌≡◌, ◌≢◌, ◌↔◌, ◌+◌, ◌<◌, ◌≤◌, ◌^◌, [], IfOk, IsTrue, None};
-ghost use Rattle.fort_deal.specs.Deals.{making_cost, made_by as term_of, new_values as values_of};
-ghost use Rattle.fort_deal.specs.Deals.{next_by as next_value};
-ghost use Rattle.fort_deal.specs.declared.deal.Deal.TheVariants as deals;
+ghost use Rattle.fort_step_deal.specs.Deals.{making_cost, made_by as term_of, new_values as values_of};
+ghost use Rattle.fort_step_deal.specs.Deals.{next_by as next_value};
+ghost use Rattle.fort_step_deal.specs.declared.deal.Deal.TheVariants as deals;
 ghost use Rattle.fort_machine.specs.Acts as acts;
 ghost use Rattle.fort_machine.specs.Written.{WrittenProgram};
-ghost use Rattle.fort_moves.specs.Turns.{ready_term};
-ghost use Rattle.fort_acting.specs.Only.{IsDealt};
-ghost use Rattle.fort_effects.specs.Calls.{AreFree};
-ghost use Rattle.fort_effects.specs.Levels.{levels_of, seen};
+ghost use Rattle.fort_frames_moves.specs.Turns.{ready_term};
+ghost use Rattle.fort_step_acting.specs.Only.{IsDealt};
+ghost use Rattle.fort_store_effects.specs.Calls.{AreFree};
+ghost use Rattle.fort_store_effects.specs.Levels.{levels_of, seen};
 ghost use Rattle.fort_plain.specs.Takes.{DoesOnly, IsThreadAt, IsTurn, StepsOn, TouchesStore, TurnsOnly};
 
 use crate::act::{Acted, Turn};
-use fort_acting::{acting, made_by, makes_count, new_values, next_by};
 use fort_base::{Bytes, List, Loc, Memory, Shared};
-use fort_carry::{Execution, Going, single};
 use fort_core::{Program, Term, Value};
-use fort_deal::{Deal, Goes, Makes};
 use fort_frames::{At, Place, State};
-use fort_moves::Ready;
+use fort_frames_moves::Ready;
+use fort_step_acting::{acting, made_by, makes_count, new_values, next_by};
+use fort_step_deal::{Deal, Goes, Makes};
+use fort_walk_course::{Execution, Going, single};
 use std::alloc::Global;
 
 /// A thread takes its step, with the location that the pick names.

@@ -1,14 +1,14 @@
 //! One pick of the root's machine, with all picks within.
 ghost use Rattle.std.specs.Prelude.{◌≡◌, ◌&&◌, ◌++◌, ◌∷◌, ◌<◌, length, slice_get, Some, [], IfOk};
 ghost use Rattle.fort_machine.specs.Written.{WrittenProgram};
-ghost use Rattle.fort_carry.specs.Courses.{IsGoing};
+ghost use Rattle.fort_walk_course.specs.Courses.{IsGoing};
 ghost use Rattle.fort_plain.specs.Within.{GoesWithin, IsAttempt, IsHere, IsLeft, IsSourceOf, IsWithin, Takes, TakesOn};
 
 use crate::act::{Acted, Turn, act};
 use crate::attempts::close;
 use fort_base::{List, Memory};
-use fort_carry::{Execution, Going};
 use fort_core::{Pick, Program};
+use fort_walk_course::{Execution, Going};
 use std::alloc::Global;
 
 /// What a pick of the root's machine comes to.

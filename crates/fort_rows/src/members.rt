@@ -1,11 +1,11 @@
 //! The members of components, by examples of the chapter "Members".
 use fort_base::{CheckFault, Place};
-use fort_builtin::{DECLARATION_COUNT, TYPE_COUNT};
 use fort_hier::hierarchy;
 use fort_lex::tokens;
 use fort_member::members;
-use fort_set::{Field, Member, MemberKind, MemberSet, Members};
 use fort_syntax::component;
+use fort_types_builtin::{DECLARATION_COUNT, TYPE_COUNT};
+use fort_types_sets::{Field, Member, MemberKind, MemberSet, Members};
 use std::alloc::Global;
 use std::process::Abort;
 use std::test::Fail;

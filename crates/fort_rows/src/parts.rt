@@ -1,7 +1,7 @@
 //! The longest expression and type at a token, by examples of the chapter "Grammar".
 use fort_base::CheckFault;
 use fort_lex::tokens;
-use fort_longest::{expr_at, type_at};
+use fort_parse_longest::{expr_at, type_at};
 use std::alloc::Global;
 use std::process::Abort;
 use std::test::Fail;

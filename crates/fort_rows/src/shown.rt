@@ -1,8 +1,8 @@
 //! Yields and canonical texts by examples from outside the code.
 use fort_base::{Bytes, Gap, List, Memory, NameId, Place};
-use fort_canonical::shown;
 use fort_lex::tokens;
-use fort_token::{Kind, Reserved, Token};
+use fort_lex_canonical::shown;
+use fort_lex_token::{Kind, Reserved, Token};
 use fort_tree::{Component, Name, Spot};
 use fort_yield::yield_of;
 use std::alloc::Global;

@@ -1,8 +1,8 @@
 //! The token chapter by examples from outside: spellings, gaps, places and refusals.
 use fort_base::{CheckFault, Gap, List, NameId, Place, Rule};
 use fort_lex::tokens;
+use fort_lex_token::{Kind, Mark, Reserved, Token, Tokens};
 use fort_ops::Op;
-use fort_token::{Kind, Mark, Reserved, Token, Tokens};
 use std::alloc::Global;
 use std::process::Abort;
 use std::test::Fail;

@@ -1,9 +1,9 @@
 //! That types are read where there is memory, by examples of the chapter "Grammar", and that depth
 //! has a bound.
 use fort_base::{Bytes, Gap, List, Memory, NameId, Place};
+use fort_lex_token::{Kind, Mark, Token};
+use fort_parse_reading::Cursor;
 use fort_parse_types::{TypeGrammar, longest_type};
-use fort_reading::Cursor;
-use fort_token::{Kind, Mark, Token};
 use std::alloc::Global;
 
 const ARRAY: Kind = Kind::Name(NameId(0));

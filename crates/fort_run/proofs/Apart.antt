@@ -6,7 +6,7 @@ use Rattle.fort_base.specs.declared.refusal.Place.{Place}
 use Rattle.fort_lex.proofs.Uniqueness.{one_list_of_tokens, list_or_fault}
 use Rattle.fort_core.specs.declared.program.Program.{Program}
 use Rattle.fort_front.specs.Front.{IsAccepted, BreaksGrammar, Breaks, NeverBoth, NeverBothInGrammar, OneProgram}
-use Rattle.fort_record.specs.Text.{OneRecord}
+use Rattle.fort_audit_record.specs.Text.{OneRecord}
 use Rattle.fort_audit.specs.Audits.{OneAnswer}
 use Rattle.fort_run.specs.Reply.{IsAcceptedAs, BreaksOne, in_text, behind, IsShownAs, IsNoComponent, in_tokens, in_grammar}
 

@@ -6,8 +6,8 @@ use Rattle.fort_port.specs.Outside.{Holding}
 use Rattle.fort_cmd.specs.declared.command.Command.{Command}
 use Rattle.fort_cmd.specs.declared.command.Command.TheVariants.{Check, Show, Run, Bench, Record, Audit}
 use Rattle.fort_cmd.specs.Words.{IsCommand}
-use Rattle.fort_record.specs.Text.{IsRecordText, IsFormFault}
-use Rattle.fort_record.specs.declared.reading.Record as a_record
+use Rattle.fort_audit_record.specs.Text.{IsRecordText, IsFormFault}
+use Rattle.fort_audit_record.specs.declared.reading.Record as a_record
 use Rattle.fort_audit.specs.Audits.{Audits}
 use Rattle.fort_audit.specs.declared.answer.Audited.{Audited}
 use Rattle.fort_audit.specs.declared.refusal.Why.TheVariants as why

@@ -1,8 +1,8 @@
 -- What is said of a run with its record in the place of its output.
 use Rattle.std.proofs.Common.{◌≡◌, ℕ, List, ap, refl, subst}
 use Rattle.fort_core.specs.declared.journal.Journal.{Journal}
-use Rattle.fort_record.specs.Text.{HasText, IsRecordText}
-use Rattle.fort_never.specs.Never.{AcceptedHasText}
+use Rattle.fort_audit_record.specs.Text.{HasText, IsRecordText}
+use Rattle.fort_sound_never.specs.Never.{AcceptedHasText}
 use Rattle.fort_run.specs.Reply.{Reply, RunSays, Runs, Refuses, its_output, its_record}
 use Rattle.fort_run.specs.Said.{said, status_of}
 use Rattle.fort_run.specs.declared.answer.Answer.{Answer}

@@ -2,7 +2,7 @@
 use Rattle.std.proofs.Common.{ℕ, List, Err, ap, refl}
 use Rattle.fort_base.specs.declared.refusal.CheckFault.{CheckFault}
 use Rattle.fort_base.specs.declared.refusal.CheckFault.TheVariants as a_fault
-use Rattle.fort_token.specs.declared.token.Tokens.{Tokens}
+use Rattle.fort_lex_token.specs.declared.token.Tokens.{Tokens}
 use Rattle.fort_lex.specs.Files.{Answers, HasTokens}
 use Rattle.fort_front.specs.Front as front
 use Rattle.fort_port.specs.Outside.{Holding}

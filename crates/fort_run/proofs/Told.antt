@@ -5,9 +5,9 @@ use Rattle.fort_core.specs.declared.program.Program.{Program}
 use Rattle.fort_core.specs.declared.term.Term.{Term}
 use Rattle.fort_machine.specs.Effects.{Effect}
 use Rattle.fort_machine.specs.Journals.{Ends, Records}
-use Rattle.fort_carry.specs.Calls.{IsRun}
-use Rattle.fort_carry.specs.declared.ending.Ran.{Ran}
-use Rattle.fort_turns.specs.Defined.{AlwaysOne}
+use Rattle.fort_walk_course.specs.Calls.{IsRun}
+use Rattle.fort_walk_course.specs.declared.ending.Ran.{Ran}
+use Rattle.fort_walk_turns.specs.Defined.{AlwaysOne}
 use Rattle.fort_run.specs.Reply.{TellsEnding, TellsRun, its_output}
 use Rattle.fort_run.specs.Said.{said, status_of, note_of}
 use Rattle.fort_run.specs.declared.answer.Answer.TheVariants as answer

@@ -12,7 +12,7 @@ use Rattle.fort_bench.specs.Bank.{bank}
 use Rattle.fort_core.specs.declared.term.Term.{Term}
 use Rattle.fort_machine.specs.Effects.{Effect}
 use Rattle.fort_machine.specs.Journals.{Records}
-use Rattle.fort_record.specs.Text.{IsRecordText}
+use Rattle.fort_audit_record.specs.Text.{IsRecordText}
 use Rattle.fort_core.specs.declared.journal.Journal.{Journal}
 use Rattle.fort_audit.specs.Audits.{Prints}
 use Rattle.fort_diag.specs.Notes.{want_of_memory}

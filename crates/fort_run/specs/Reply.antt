@@ -10,10 +10,10 @@ use Rattle.fort_audit.specs.declared.refusal.Why.{Why}
 use Rattle.fort_audit.specs.declared.refusal.Why.TheVariants as why
 use Rattle.fort_base.specs.declared.refusal.Rule.{Rule}
 use Rattle.fort_base.specs.declared.refusal.Place.{Place}
-use Rattle.fort_token.specs.declared.token.Tokens.{Tokens}
+use Rattle.fort_lex_token.specs.declared.token.Tokens.{Tokens}
 use Rattle.fort_lex.specs.Files.{HasTokens, BreaksRule}
 use Rattle.fort_front.specs.Front.{IsGrammatical, BreaksGrammar, IsAccepted, Breaks}
-use Rattle.fort_canonical.specs.Canonical.{canonical}
+use Rattle.fort_lex_canonical.specs.Canonical.{canonical}
 use Rattle.fort_port.specs.Outside.{Holding, Untold, Absent, Held, Rose}
 use Rattle.fort_cmd.specs.declared.command.Command.{Command}
 use Rattle.fort_cmd.specs.declared.command.Command.TheVariants.{Check, Show, Run, Bench, Record, Audit}
@@ -26,9 +26,9 @@ use Rattle.fort_core.specs.declared.program.Program.{Program}
 use Rattle.fort_core.specs.declared.term.Term.{Term}
 use Rattle.fort_machine.specs.Effects.{Effect}
 use Rattle.fort_machine.specs.Journals.{Records}
-use Rattle.fort_record.specs.Text.{IsFormFault, IsRecordText}
-use Rattle.fort_record.specs.declared.reading.Record as a_record
-use Rattle.fort_turns.specs.Defined.{AlwaysOne}
+use Rattle.fort_audit_record.specs.Text.{IsFormFault, IsRecordText}
+use Rattle.fort_audit_record.specs.declared.reading.Record as a_record
+use Rattle.fort_walk_turns.specs.Defined.{AlwaysOne}
 use Rattle.fort_diag.specs.Notes.{usage, read_fault, too_large, out_of_fuel, uncaught, refusal}
 
 -- A status, what is for standard output, what is for standard error, and the journal of a run.

@@ -4,20 +4,20 @@ ghost use Rattle.fort_audit.specs.Audits.{Audits};
 ghost use Rattle.fort_audit.specs.declared.answer.Audited.{Audited};
 ghost use Rattle.fort_lex.specs.Files.{HasTokens};
 ghost use Rattle.fort_machine.specs.Written.{WrittenProgram};
-ghost use Rattle.fort_matched.specs.Component.{StandApart};
+ghost use Rattle.fort_elab_law_matched.specs.Component.{StandApart};
 ghost use Rattle.fort_run.specs.Reply.{AuditMeans, RecordMeans, RecordSays, audited, file_limit, refused_record};
 ghost use Rattle.fort_run.specs.Said.{said};
 
 use crate::answer::{Answer, refused_by};
 use crate::file::{RECORD_LIMIT, Unread, read_file};
-use fort_apart::tokens_stand_apart;
 use fort_audit::{Audited, Why, audit, note};
+use fort_audit_record::{AuditFault, Record, parsed};
 use fort_base::{Bytes, Memory};
 use fort_core::Program;
 use fort_front::{accepted_is_written, check};
 use fort_lex::{Tokens, tokens};
+use fort_lex_law_tokens::tokens_stand_apart;
 use fort_port::Shelf;
-use fort_record::{AuditFault, Record, parsed};
 use std::alloc::Global;
 
 /// What is meant to say of the component's file of that name and of the record under another: the

@@ -1,17 +1,17 @@
 //! The command `record`: the record of a component's run, or its refusal.
 ghost use Rattle.std.specs.Prelude.{◌≡◌, ◌≤◌, ℕ, List as Seq, length, IfOk};
-ghost use Rattle.fort_record.specs.Text.{HasText, IsRecordText};
+ghost use Rattle.fort_audit_record.specs.Text.{HasText, IsRecordText};
 ghost use Rattle.fort_run.specs.Reply.{RunSays, file_limit, its_output, its_record};
 ghost use Rattle.fort_run.specs.Said.{said};
 ghost use Rattle.fort_run.specs.declared.answer.Answer.TheVariants as Answer;
 
 use crate::answer::{Answer, Told};
 use crate::run::run_file;
+use fort_audit_record::record_of;
 use fort_base::{Bytes, Memory};
 use fort_core::Journal;
-use fort_never::accepted_has_text;
 use fort_port::Gate;
-use fort_record::record_of;
+use fort_sound_never::accepted_has_text;
 use std::alloc::Global;
 use std::thread::Threads;
 

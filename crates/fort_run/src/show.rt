@@ -6,9 +6,9 @@ ghost use Rattle.fort_run.specs.Said.{said};
 
 use crate::answer::{Answer, refused_by};
 use fort_base::{Bytes, Memory};
-use fort_canonical::shown;
 use fort_front::check_grammar;
 use fort_lex::{Tokens, tokens};
+use fort_lex_canonical::shown;
 use std::alloc::Global;
 
 /// What is to say of the file of that name: the rules of its tokens come first, then those of the

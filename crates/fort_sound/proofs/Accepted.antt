@@ -1,7 +1,7 @@
 -- Accepted tokens of a file are those of a component that keeps all the rules.
-use Rattle.fort_apart.specs.Apart.{TokensStandApart}
-use Rattle.fort_numerals.specs.Numerals.{FileNumbersFit}
-use Rattle.fort_typed.specs.Goes.{ReachedIsTyped, ReachedIsOne, NoRunIsStuck}
+use Rattle.fort_lex_law_tokens.specs.Apart.{TokensStandApart}
+use Rattle.fort_lex_law_tokens.specs.Numerals.{FileNumbersFit}
+use Rattle.fort_sound_typed.specs.Goes.{ReachedIsTyped, ReachedIsOne, NoRunIsStuck}
 use Rattle.fort_sound.specs.Accepted.{KeepersAreSound, AcceptedIsSound, AcceptedRunsWell}
 
 pub accepted : KeepersAreSound → TokensStandApart → FileNumbersFit → AcceptedIsSound

@@ -3,13 +3,13 @@ use Rattle.std.proofs.Common.{◌≡◌, List, [], ◌∷◌, subst}
 use Rattle.std.specs.List.{AllByRecursion}
 use Rattle.fort_ops.specs.declared.op.Op.TheVariants as an_op
 use Rattle.fort_core.specs.declared.program.Program.{Program}
-use Rattle.fort_token.specs.declared.token.Tokens.{Tokens}
+use Rattle.fort_lex_token.specs.declared.token.Tokens.{Tokens}
 use Rattle.fort_tree.specs.declared.declarations.Component.{Component}
 use Rattle.fort_tree.specs.declared.grouped.Groups.{Groups}
 use Rattle.fort_hier.specs.declared.accepted.Hierarchy.{Hierarchy}
-use Rattle.fort_set.specs.declared.member.Members.{Members}
+use Rattle.fort_types_sets.specs.declared.member.Members.{Members}
 use Rattle.fort_member.proofs.Numbered.{all_left, all_item}
-use Rattle.fort_known.specs.Known.{Knows}
+use Rattle.fort_typing_known.specs.Known.{Knows}
 use Rattle.fort_form.specs.declared.component.BodyForm.{BodyForm}
 use Rattle.fort_form.specs.declared.component.InitialForm.{InitialForm}
 use Rattle.fort_form.specs.declared.form.Form.{Form, out-Form, map-Form, fold_out-Form}
@@ -18,9 +18,9 @@ use Rattle.fort_form.specs.declared.form.Item.{Item}
 use Rattle.fort_form.specs.declared.form.Branch.{Branch}
 use Rattle.fort_form.specs.declared.form.Generator.{Generator}
 use Rattle.fort_form.specs.declared.form.TypeBranch.{TypeBranch}
-use Rattle.fort_typed_form.specs.declared.component.Typed.{Typed}
-use Rattle.fort_forms.specs.FormsOf.{forms_of}
-use Rattle.fort_typing_exact.specs.Ready.{IsBodyReady}
+use Rattle.fort_form_typed.specs.declared.component.Typed.{Typed}
+use Rattle.fort_form_walk.specs.FormsOf.{forms_of}
+use Rattle.fort_typing_law_exact.specs.Ready.{IsBodyReady}
 use Rattle.fort_sound_forms.specs.Figures.{Figure, IsRight, figures_form, figures_part, figures_arm, figures_source, figures_case, figures, figures_item, figures_branch, figures_generator, figures_clause, HasFigures}
 use Rattle.fort_sound_bodies.specs.Members.{IsFitBody}
 use Rattle.fort_sound_program.specs.Checked.{FitsFile, Checked}

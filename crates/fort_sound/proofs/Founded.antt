@@ -1,17 +1,17 @@
 -- The program of a component that keeps all the rules is what the laws of runs take of a program.
 use Rattle.std.specs.Prelude.{None}
 use Rattle.fort_hier.specs.Hierarchies.{declares}
-use Rattle.fort_defined.specs.Sets.{SetsKeepRules}
-use Rattle.fort_fit.specs.Fit.{known_of}
-use Rattle.fort_forms.specs.FormsOf.{forms_of}
-use Rattle.fort_matched.specs.Component.{ComponentIsWritten}
-use Rattle.fort_ready.specs.Component.{FormsAreReady}
-use Rattle.fort_translation.specs.Programs.{given}
-use Rattle.fort_typed.specs.Overloads.{RulesDefine}
+use Rattle.fort_sound_defined.specs.Sets.{SetsKeepRules}
+use Rattle.fort_typing_law_ready.specs.Fit.{known_of}
+use Rattle.fort_form_walk.specs.FormsOf.{forms_of}
+use Rattle.fort_elab_law_matched.specs.Component.{ComponentIsWritten}
+use Rattle.fort_typing_law_ready.specs.Component.{FormsAreReady}
+use Rattle.fort_elab_meaning.specs.Programs.{given}
+use Rattle.fort_sound_typed.specs.Overloads.{RulesDefine}
 use Rattle.fort_sound_bodies.specs.Members.{MembersHaveBodies}
 use Rattle.fort_sound_program.specs.Laws.{ProgramHasBodies, ProgramIsSound, ProgramIsComplete, ProgramSetsKeep}
 use Rattle.fort_sound_program.proofs.Order.{sound, rows}
-use Rattle.fort_figures.specs.Components.{FormsHaveFigures}
+use Rattle.fort_form_law_figures.specs.Components.{FormsHaveFigures}
 use Rattle.fort_sound.specs.Accepted.{KeepersAreSound}
 use Rattle.fort_sound.proofs.Fits.{checked, fit_bodies}
 use Rattle.fort_sound.proofs.Suited.{suited}

@@ -2,18 +2,18 @@
 use Rattle.std.proofs.Common.{◌≡◌, Option, ap}
 use Rattle.fort_base.specs.declared.ids.TypeId.{TypeId}
 use Rattle.fort_base.specs.declared.ty.Ty.TheVariants.{Named}
-use Rattle.fort_builtin.specs.declared.types.TheConstants.{BUILT_IN}
+use Rattle.fort_types_builtin.specs.declared.types.TheConstants.{BUILT_IN}
 use Rattle.fort_core.specs.declared.program.BuiltIn.{BuiltIn}
 use Rattle.fort_core.specs.declared.program.Program.{Program}
-use Rattle.fort_token.specs.declared.token.Tokens.{Tokens}
+use Rattle.fort_lex_token.specs.declared.token.Tokens.{Tokens}
 use Rattle.fort_tree.specs.declared.declarations.Component.{Component}
 use Rattle.fort_tree.specs.declared.grouped.Groups.{Groups}
 use Rattle.fort_hier.specs.declared.accepted.Hierarchy.{Hierarchy}
-use Rattle.fort_set.specs.declared.member.Members.{Members}
-use Rattle.fort_known.specs.Known.{within}
-use Rattle.fort_fit.specs.Fit.{known_of}
-use Rattle.fort_typed_form.specs.declared.component.Typed.{Typed}
-use Rattle.fort_translation.specs.Programs.{given}
+use Rattle.fort_types_sets.specs.declared.member.Members.{Members}
+use Rattle.fort_typing_known.specs.Known.{within}
+use Rattle.fort_typing_law_ready.specs.Fit.{known_of}
+use Rattle.fort_form_typed.specs.declared.component.Typed.{Typed}
+use Rattle.fort_elab_meaning.specs.Programs.{given}
 use Rattle.fort_sound_forms.specs.Suits.{Suits}
 use Rattle.fort_sound_program.specs.Checked.{Checked}
 use Rattle.fort_sound_program.proofs.Calls.{declared, widens}

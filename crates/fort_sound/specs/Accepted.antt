@@ -2,34 +2,34 @@
 use Rattle.std.specs.Prelude.{ℕ, Bool, List}
 use Rattle.std.specs.List.{AllByRecursion}
 use Rattle.fort_base.specs.declared.ty.Ty.{Ty}
-use Rattle.fort_token.specs.declared.token.Tokens.{Tokens}
+use Rattle.fort_lex_token.specs.declared.token.Tokens.{Tokens}
 use Rattle.fort_tree.specs.declared.declarations.Component.{Component}
 use Rattle.fort_tree.specs.declared.grouped.Groups.{Groups}
 use Rattle.fort_tree.specs.Component.{HasTree}
 use Rattle.fort_tree.specs.Limits.{flats}
 use Rattle.fort_group.specs.Components.{HasGroups}
-use Rattle.fort_type_names.specs.TypeNames.{type_names}
+use Rattle.fort_tree_type_names.specs.TypeNames.{type_names}
 use Rattle.fort_hier.specs.declared.accepted.Hierarchy.{Hierarchy}
 use Rattle.fort_hier.specs.Hierarchies.{IsHierarchy, declares}
-use Rattle.fort_set.specs.declared.member.Members.{Members}
+use Rattle.fort_types_sets.specs.declared.member.Members.{Members}
 use Rattle.fort_member.specs.Answers.{AreMembers}
 use Rattle.fort_over.specs.Answers.{KeepAllRules}
-use Rattle.fort_fit.specs.Fit.{known_of}
-use Rattle.fort_forms.specs.FormsOf.{forms_of}
-use Rattle.fort_typed_form.specs.declared.component.Typed.{Typed}
+use Rattle.fort_typing_law_ready.specs.Fit.{known_of}
+use Rattle.fort_form_walk.specs.FormsOf.{forms_of}
+use Rattle.fort_form_typed.specs.declared.component.Typed.{Typed}
 use Rattle.fort_typing_rules.specs.Components.{HasTypes}
 use Rattle.fort_core.specs.declared.program.Program.{Program}
 use Rattle.fort_core.specs.declared.term.Term.{Term}
 use Rattle.fort_machine.specs.Effects.{Store}
 use Rattle.fort_machine.specs.OneDefinition.{IsOne}
 use Rattle.fort_machine.specs.Proper.{Reached}
-use Rattle.fort_typed.specs.Sound.{Sound, Defined, Typed as TypedBy}
-use Rattle.fort_typed.specs.Goes.{Complete, Goes}
-use Rattle.fort_translation.specs.Programs.{IsProgramOf}
-use Rattle.fort_matched.specs.Component.{StandApart}
+use Rattle.fort_sound_typed.specs.Sound.{Sound, Defined, Typed as TypedBy}
+use Rattle.fort_sound_typed.specs.Goes.{Complete, Goes}
+use Rattle.fort_elab_meaning.specs.Programs.{IsProgramOf}
+use Rattle.fort_elab_law_matched.specs.Component.{StandApart}
 use Rattle.fort_front.specs.Front.{IsAccepted}
 use Rattle.fort_lex.specs.Files.{HasTokens}
-use Rattle.fort_numerals.specs.Numerals.{Fits}
+use Rattle.fort_lex_law_tokens.specs.Numerals.{Fits}
 
 -- A component that keeps all the rules, with its program: tokens that stand apart are its tree,
 -- whose flat expressions have these groupings; its declared types are a hierarchy; it has these

@@ -1,16 +1,15 @@
 ghost use Rattle.fort_sound.specs.Accepted.{AcceptedIsSound, AcceptedRunsWell, KeepersAreSound};
 
-use fort_apart::tokens_stand_apart;
-use fort_defined::sets_keep_rules;
-use fort_figures::forms_have_figures;
-use fort_matched::component_is_written;
-use fort_numerals::file_numbers_fit;
-use fort_ready::forms_are_ready;
+use fort_elab_law_matched::component_is_written;
+use fort_form_law_figures::forms_have_figures;
+use fort_lex_law_tokens::{file_numbers_fit, tokens_stand_apart};
 use fort_sound_bodies::members_have_bodies;
+use fort_sound_defined::sets_keep_rules;
 use fort_sound_program::{
     program_has_bodies, program_is_complete, program_is_sound, program_sets_keep,
 };
-use fort_typed::{no_run_is_stuck, reached_is_one, reached_is_typed, rules_define};
+use fort_sound_typed::{no_run_is_stuck, reached_is_one, reached_is_typed, rules_define};
+use fort_typing_law_ready::forms_are_ready;
 
 /// A law: the program of a component that keeps all the rules is sound and complete, and each call
 /// of typed values in it has one definition. So the laws of runs are so of it. The chapter is

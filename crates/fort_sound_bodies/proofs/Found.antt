@@ -4,15 +4,15 @@ use Rattle.std.specs.List.{slice_get, AllByRecursion}
 use Rattle.fort_base.specs.declared.refusal.Place.{Place}
 use Rattle.fort_base.specs.declared.ty.Ty.{Ty}
 use Rattle.fort_form.specs.declared.component.BodyForm.{BodyForm}
-use Rattle.fort_set.specs.declared.member.MemberKind.{MemberKind}
-use Rattle.fort_set.specs.declared.member.MemberKind.TheVariants as a_kind
+use Rattle.fort_types_sets.specs.declared.member.MemberKind.{MemberKind}
+use Rattle.fort_types_sets.specs.declared.member.MemberKind.TheVariants as a_kind
 use Rattle.fort_member.specs.declared.entries.Entry.{Entry}
 use Rattle.fort_core.specs.declared.term.Term.{Term}
-use Rattle.fort_typed_form.specs.declared.component.TypedBody.{TypedBody}
-use Rattle.fort_translation.specs.Parts.{Given}
-use Rattle.fort_translation.specs.Bodies.{body_made, bodies, body_at, same_place}
-use Rattle.fort_matched.proofs.Places.{one, same_itself, same_turned}
-use Rattle.fort_matched.proofs.Counted.{counted_by, all_counted, counts, counts_append}
+use Rattle.fort_form_typed.specs.declared.component.TypedBody.{TypedBody}
+use Rattle.fort_elab_meaning.specs.Parts.{Given}
+use Rattle.fort_elab_meaning.specs.Bodies.{body_made, bodies, body_at, same_place}
+use Rattle.fort_elab_law_matched.proofs.Places.{one, same_itself, same_turned}
+use Rattle.fort_elab_law_matched.proofs.Counted.{counted_by, all_counted, counts, counts_append}
 use Rattle.fort_sound_bodies.proofs.Signed.{Signature, signed_by, entry_signed, all_signed, IsBodyOf, AreBodies}
 
 -- ---- the term at a place

@@ -4,18 +4,18 @@ use Rattle.std.specs.List.{slice_get, flat_map}
 use Rattle.std.proofs.lemmas.Option.{slice_get_within}
 use Rattle.std.proofs.lemmas.Grind.{flat_map-append}
 use Rattle.fort_base.specs.declared.refusal.Place.{Place}
-use Rattle.fort_token.specs.declared.token.Tokens.{Tokens}
-use Rattle.fort_token.specs.declared.reserved.Reserved.TheVariants as reserved
+use Rattle.fort_lex_token.specs.declared.token.Tokens.{Tokens}
+use Rattle.fort_lex_token.specs.declared.reserved.Reserved.TheVariants as reserved
 use Rattle.fort_tree.specs.declared.declarations.Component.{Component}
 use Rattle.fort_tree.specs.declared.grouped.Groups.{Groups}
 use Rattle.fort_tree.specs.Component.{HasTree, export_tokens, export_obeys}
 use Rattle.fort_tree.specs.Declarations.{said_declared}
 use Rattle.fort_tree.specs.Said.{entries_tokens, entries_obey}
 use Rattle.fort_tree.specs.Tokens.{word}
-use Rattle.fort_builtin.specs.Declarations.{declarations}
-use Rattle.fort_field.specs.Own.{types_of}
-use Rattle.fort_set.specs.declared.member.Member.{Member}
-use Rattle.fort_set.specs.declared.member.MemberSet.{MemberSet}
+use Rattle.fort_types_builtin.specs.Declarations.{declarations}
+use Rattle.fort_member_fields.specs.Own.{types_of}
+use Rattle.fort_types_sets.specs.declared.member.Member.{Member}
+use Rattle.fort_types_sets.specs.declared.member.MemberSet.{MemberSet}
 use Rattle.fort_member.specs.declared.entries.Entry.{Entry}
 use Rattle.fort_member.specs.BuiltIn.{built_in_entry}
 use Rattle.fort_member.specs.Declarations.{declared_entries, entries_of}
@@ -23,16 +23,16 @@ use Rattle.fort_member.specs.Sets.{keys_of, set_of}
 use Rattle.fort_member.proofs.Numbered.{all_item}
 use Rattle.fort_member.proofs.SetLaws.{get_mapped}
 use Rattle.fort_member.proofs.WellMadeLaws.{comes_from}
-use Rattle.fort_forms.specs.FormsOf.{tables_of, forms_of}
-use Rattle.fort_typed.specs.Envs.{none, binds}
-use Rattle.fort_typed.specs.Typing.{Has}
-use Rattle.fort_typed.specs.Sound.{opening, numbered}
-use Rattle.fort_typed_form.specs.declared.component.TypedBody.{TypedBody}
+use Rattle.fort_form_walk.specs.FormsOf.{tables_of, forms_of}
+use Rattle.fort_sound_typed.specs.Envs.{none, binds}
+use Rattle.fort_sound_typed.specs.Typing.{Has}
+use Rattle.fort_sound_typed.specs.Sound.{opening, numbered}
+use Rattle.fort_form_typed.specs.declared.component.TypedBody.{TypedBody}
 use Rattle.fort_typing_rules.specs.Components.{typed_body}
-use Rattle.fort_translation.specs.Bodies.{body_made, same_place}
-use Rattle.fort_matched.specs.Component.{token_place, StandApart}
-use Rattle.fort_matched.proofs.Places.{both, once_times, standing, standing_append}
-use Rattle.fort_matched.proofs.Counted.{all_counted, entry_counted, counts, none_built_in, component_stands}
+use Rattle.fort_elab_meaning.specs.Bodies.{body_made, same_place}
+use Rattle.fort_elab_law_matched.specs.Component.{token_place, StandApart}
+use Rattle.fort_elab_law_matched.proofs.Places.{both, once_times, standing, standing_append}
+use Rattle.fort_elab_law_matched.proofs.Counted.{all_counted, entry_counted, counts, none_built_in, component_stands}
 use Rattle.fort_sound_bodies.specs.Members.{IsFitBody, MembersHaveBodies}
 use Rattle.fort_sound_bodies.proofs.Bodies.{bodies_have_types}
 use Rattle.fort_sound_bodies.proofs.Signed.{Signature, entry_signed, all_signed, AreBodies, none_signed, component_has}

@@ -8,14 +8,14 @@ use Rattle.fort_base.specs.declared.ty.Ty.{Ty}
 use Rattle.fort_base.specs.declared.ty.Ty.TheVariants.{Named}
 use Rattle.fort_scope.specs.declared.binding.Binding.{Binding}
 use Rattle.fort_form.specs.declared.form.Parameter.{Parameter}
-use Rattle.fort_known.specs.Known.{Knows, within}
-use Rattle.fort_known.specs.Names.{bound}
-use Rattle.fort_typed.specs.Envs.{Env, fixed, none, binds}
-use Rattle.fort_typed.specs.Sound.{numbered}
+use Rattle.fort_typing_known.specs.Known.{Knows, within}
+use Rattle.fort_typing_known.specs.Names.{bound}
+use Rattle.fort_sound_typed.specs.Envs.{Env, fixed, none, binds}
+use Rattle.fort_sound_typed.specs.Sound.{numbered}
 use Rattle.fort_typing_rules.specs.Types.{parameter_type}
 use Rattle.fort_typing_rules.specs.Typing as rule
-use Rattle.fort_translation.specs.Making.{number_of}
-use Rattle.fort_translation.specs.Bodies.{position, parameter_names}
+use Rattle.fort_elab_meaning.specs.Making.{number_of}
+use Rattle.fort_elab_meaning.specs.Bodies.{position, parameter_names}
 use Rattle.fort_sound_forms.specs.Forms.{sort, Agrees}
 use Rattle.fort_sound_forms.proofs.Names.{either, bound_behind, either_none, same_name, not_bound}
 use Rattle.fort_sound_bodies.specs.Bodies.{Takes}

@@ -15,9 +15,9 @@ use Rattle.fort_tree.specs.declared.declarations.Parameters.{Parameters}
 use Rattle.fort_tree.specs.Declarations.{self_count, next_self_count, selves}
 use Rattle.fort_hier.specs.Tops.{is_self, has_self, is_functional}
 use Rattle.fort_member.specs.Declarations.{parameter_types, next_parameter_type, method_parameter_type, next_method_parameter_type, method_types, self_among, self_position}
-use Rattle.fort_formed.specs.Forming.{parameters, next_parameter}
+use Rattle.fort_form_meaning.specs.Forming.{parameters, next_parameter}
 use Rattle.fort_typing_rules.specs.Types.{parameter_type}
-use Rattle.fort_forms.specs.FormsOf.{Tables, source, named_parameter, next_named_parameter, named_parameters}
+use Rattle.fort_form_walk.specs.FormsOf.{Tables, source, named_parameter, next_named_parameter, named_parameters}
 use Rattle.fort_sound_bodies.specs.Bodies.{inserted, Takes}
 
 module _ (n : Tables) where

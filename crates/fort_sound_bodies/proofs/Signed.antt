@@ -26,15 +26,15 @@ use Rattle.fort_tree.specs.Said.{Said, SaidEntry, elsewhere, maybe_obeys, is_the
 use Rattle.fort_tree.specs.Declarations.{name_fits, selves, selves_fit, method_parameter_count, body_obeys, said_method, said_method_parameters, said_trait_member, said_trait_entry, said_object_member, said_object_entry, said_object_parameters, said_declaration, said_declared}
 use Rattle.fort_hier.specs.Names.{spelling}
 use Rattle.fort_hier.specs.Numbers.{number_of}
-use Rattle.fort_set.specs.declared.member.MemberKind.{MemberKind}
-use Rattle.fort_set.specs.declared.member.MemberKind.TheVariants as a_kind
-use Rattle.fort_builtin.specs.declared.table.BuiltInDeclaration.{BuiltInDeclaration}
+use Rattle.fort_types_sets.specs.declared.member.MemberKind.{MemberKind}
+use Rattle.fort_types_sets.specs.declared.member.MemberKind.TheVariants as a_kind
+use Rattle.fort_types_builtin.specs.declared.table.BuiltInDeclaration.{BuiltInDeclaration}
 use Rattle.fort_member.specs.declared.entries.Entry.{Entry}
 use Rattle.fort_member.specs.BuiltIn.{built_in_entry}
 use Rattle.fort_member.specs.Declarations.{function_place, function_entry, method_kind, method_parameters, method_entry, type_id, trait_member_entry, trait_entry, object_member_entry, object_entry, constructor_entry, entries_at, declared_entries}
 use Rattle.fort_typing_rules.specs.Types.{parameter_type}
-use Rattle.fort_forms.specs.FormsOf.{Tables, source, owner, function_body, method_bodies, trait_member_body, trait_body, object_member_body, object_body, bodies, declared_bodies}
-use Rattle.fort_matched.proofs.Places.{both}
+use Rattle.fort_form_walk.specs.FormsOf.{Tables, source, owner, function_body, method_bodies, trait_member_body, trait_body, object_member_body, object_body, bodies, declared_bodies}
+use Rattle.fort_elab_law_matched.proofs.Places.{both}
 use Rattle.fort_sound_bodies.specs.Bodies.{Takes}
 use Rattle.fort_sound_bodies.proofs.Receivers.{function_takes, method_takes}
 

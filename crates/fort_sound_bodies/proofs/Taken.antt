@@ -3,10 +3,10 @@ use Rattle.std.proofs.Common.{◌≡◌, ◌≤◌, ◌<◌, ℕ, zero, suc, ◌
 use Rattle.std.specs.Prelude.{slice_get, nat_le}
 use Rattle.std.proofs.lemmas.Bool.{ne_eqb, leb-true, leb-false}
 use Rattle.fort_base.specs.declared.ty.Ty.{Ty}
-use Rattle.fort_typed.specs.Envs.{Sort, fixed, none, binds}
-use Rattle.fort_typed.specs.Sound.{numbered}
-use Rattle.fort_typed.proofs.Bind.{alike, apart, tells, bind_at, bind_other}
-use Rattle.fort_translation.specs.Bodies.{position}
+use Rattle.fort_sound_typed.specs.Envs.{Sort, fixed, none, binds}
+use Rattle.fort_sound_typed.specs.Sound.{numbered}
+use Rattle.fort_sound_typed.proofs.Bind.{alike, apart, tells, bind_at, bind_other}
+use Rattle.fort_elab_meaning.specs.Bodies.{position}
 use Rattle.fort_sound_bodies.specs.Bodies.{inserted}
 
 -- the n-th parameter is the variable behind the first number

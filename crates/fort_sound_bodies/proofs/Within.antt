@@ -4,11 +4,11 @@ use Rattle.fort_base.specs.declared.ids.SetId.{SetId}
 use Rattle.fort_base.specs.declared.ids.TypeId.{TypeId}
 use Rattle.fort_base.specs.declared.ty.Ty.{Ty}
 use Rattle.fort_core.specs.declared.program.Program.{Program}
-use Rattle.fort_known.specs.Known.{Knows, within}
-use Rattle.fort_known.specs.Sets.{set_of}
+use Rattle.fort_typing_known.specs.Known.{Knows, within}
+use Rattle.fort_typing_known.specs.Sets.{set_of}
 use Rattle.fort_typing_rules.specs.Calls.{Calls, plain, widening}
-use Rattle.fort_typing_laws.specs.Deciding.{IsAccepted}
-use Rattle.fort_translation.specs.Parts.{Given}
+use Rattle.fort_typing_law_rules.specs.Deciding.{IsAccepted}
+use Rattle.fort_elab_meaning.specs.Parts.{Given}
 use Rattle.fort_sound_forms.specs.Suits.{Suits}
 
 -- a call has the same there

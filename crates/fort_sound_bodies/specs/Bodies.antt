@@ -5,18 +5,18 @@ use Rattle.fort_base.specs.declared.ids.TypeId.{TypeId}
 use Rattle.fort_base.specs.declared.ty.Ty.{Ty}
 use Rattle.fort_base.specs.declared.ty.Ty.TheVariants.{Named}
 use Rattle.fort_form.specs.declared.component.BodyForm.{BodyForm}
-use Rattle.fort_typed_form.specs.declared.typed_form.TypedForm.{TypedForm}
+use Rattle.fort_form_typed.specs.declared.typed_form.TypedForm.{TypedForm}
 use Rattle.fort_core.specs.declared.program.Program.{Program}
-use Rattle.fort_typed.specs.Envs.{none, binds}
-use Rattle.fort_typed.specs.Typing as typed
-use Rattle.fort_typed.specs.Sound.{opening, numbered}
-use Rattle.fort_known.specs.Known.{Knows}
+use Rattle.fort_sound_typed.specs.Envs.{none, binds}
+use Rattle.fort_sound_typed.specs.Typing as typed
+use Rattle.fort_sound_typed.specs.Sound.{opening, numbered}
+use Rattle.fort_typing_known.specs.Known.{Knows}
 use Rattle.fort_typing_rules.specs.Types.{parameter_type}
 use Rattle.fort_typing_rules.specs.Components.{HasBody, typed_body}
-use Rattle.fort_typing_laws.specs.Deciding.{IsAccepted}
-use Rattle.fort_typing_exact.specs.Ready.{IsBodyReady}
-use Rattle.fort_translation.specs.Parts.{Given}
-use Rattle.fort_translation.specs.Bodies.{body_made}
+use Rattle.fort_typing_law_rules.specs.Deciding.{IsAccepted}
+use Rattle.fort_typing_law_exact.specs.Ready.{IsBodyReady}
+use Rattle.fort_elab_meaning.specs.Parts.{Given}
+use Rattle.fort_elab_meaning.specs.Bodies.{body_made}
 use Rattle.fort_sound_forms.specs.Figures.{HasFigures}
 use Rattle.fort_sound_forms.specs.Suits.{Suits}
 

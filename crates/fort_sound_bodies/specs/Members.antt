@@ -3,31 +3,31 @@
 use Rattle.std.specs.Prelude.{◌≡◌, ℕ, slice_get, Some}
 use Rattle.std.specs.List.{AllByRecursion}
 use Rattle.fort_base.specs.declared.refusal.Place.{Place}
-use Rattle.fort_token.specs.declared.token.Tokens.{Tokens}
+use Rattle.fort_lex_token.specs.declared.token.Tokens.{Tokens}
 use Rattle.fort_tree.specs.declared.declarations.Component.{Component}
 use Rattle.fort_tree.specs.declared.grouped.Groups.{Groups}
 use Rattle.fort_tree.specs.Component.{HasTree}
-use Rattle.fort_set.specs.declared.member.Member.{Member}
-use Rattle.fort_set.specs.declared.member.MemberKind.TheVariants as a_kind
-use Rattle.fort_set.specs.declared.member.MemberSet.{MemberSet}
-use Rattle.fort_set.specs.declared.member.Members.{Members}
-use Rattle.fort_set.specs.Rules.{StandsAt}
+use Rattle.fort_types_sets.specs.declared.member.Member.{Member}
+use Rattle.fort_types_sets.specs.declared.member.MemberKind.TheVariants as a_kind
+use Rattle.fort_types_sets.specs.declared.member.MemberSet.{MemberSet}
+use Rattle.fort_types_sets.specs.declared.member.Members.{Members}
+use Rattle.fort_types_sets.specs.Rules.{StandsAt}
 use Rattle.fort_member.specs.Answers.{AreMembers}
 use Rattle.fort_form.specs.declared.component.BodyForm.{BodyForm}
-use Rattle.fort_forms.specs.FormsOf.{forms_of}
-use Rattle.fort_typed_form.specs.declared.component.Typed.{Typed}
+use Rattle.fort_form_walk.specs.FormsOf.{forms_of}
+use Rattle.fort_form_typed.specs.declared.component.Typed.{Typed}
 use Rattle.fort_core.specs.declared.program.Program.{Program}
 use Rattle.fort_core.specs.declared.term.Term.{Term}
-use Rattle.fort_typed.specs.Envs.{none, binds}
-use Rattle.fort_typed.specs.Typing.{Has}
-use Rattle.fort_typed.specs.Sound.{opening, numbered}
-use Rattle.fort_known.specs.Known.{Knows}
+use Rattle.fort_sound_typed.specs.Envs.{none, binds}
+use Rattle.fort_sound_typed.specs.Typing.{Has}
+use Rattle.fort_sound_typed.specs.Sound.{opening, numbered}
+use Rattle.fort_typing_known.specs.Known.{Knows}
 use Rattle.fort_typing_rules.specs.Components.{HasTypes}
-use Rattle.fort_typing_laws.specs.Deciding.{IsAccepted}
-use Rattle.fort_typing_exact.specs.Ready.{IsBodyReady}
-use Rattle.fort_translation.specs.Parts.{Given}
-use Rattle.fort_translation.specs.Bodies.{bodies, body_at}
-use Rattle.fort_matched.specs.Component.{StandApart}
+use Rattle.fort_typing_law_rules.specs.Deciding.{IsAccepted}
+use Rattle.fort_typing_law_exact.specs.Ready.{IsBodyReady}
+use Rattle.fort_elab_meaning.specs.Parts.{Given}
+use Rattle.fort_elab_meaning.specs.Bodies.{bodies, body_at}
+use Rattle.fort_elab_law_matched.specs.Component.{StandApart}
 use Rattle.fort_sound_forms.specs.Figures.{HasFigures}
 use Rattle.fort_sound_forms.specs.Suits.{Suits}
 

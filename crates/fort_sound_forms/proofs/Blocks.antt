@@ -5,22 +5,22 @@ use Rattle.fort_base.specs.declared.ty.Ty.{Ty}
 use Rattle.fort_scope.specs.declared.binding.Binding.{Binding}
 use Rattle.fort_form.specs.declared.form.Generator.{Generator, out-Generator}
 use Rattle.fort_form.specs.declared.form.Item.{Item}
-use Rattle.fort_typed_form.specs.declared.typed_form.TypedForm.{TypedForm, out-TypedForm, the_lemmas}
-use Rattle.fort_typed_form.specs.declared.typed_form.TypedForm.TheVariants as a_typed
-use Rattle.fort_typed_form.specs.declared.typed_form.TypedForm.TheOpen.{TypedForm-F}
+use Rattle.fort_form_typed.specs.declared.typed_form.TypedForm.{TypedForm, out-TypedForm, the_lemmas}
+use Rattle.fort_form_typed.specs.declared.typed_form.TypedForm.TheVariants as a_typed
+use Rattle.fort_form_typed.specs.declared.typed_form.TypedForm.TheOpen.{TypedForm-F}
 use Rattle.fort_core.specs.declared.program.Program.{Program}
 use Rattle.fort_core.specs.declared.term.Term.{Then}
-use Rattle.fort_known.specs.Known.{Knows}
-use Rattle.fort_known.specs.Names.{bound}
-use Rattle.fort_typed.specs.Typing.{unit_type, ItemsOf}
-use Rattle.fort_typed.specs.Sound.{opening}
+use Rattle.fort_typing_known.specs.Known.{Knows}
+use Rattle.fort_typing_known.specs.Names.{bound}
+use Rattle.fort_sound_typed.specs.Typing.{unit_type, ItemsOf}
+use Rattle.fort_sound_typed.specs.Sound.{opening}
 use Rattle.fort_typing_rules.specs.Types.{unit, type_of}
 use Rattle.fort_typing_rules.specs.Calls.{Calls}
 use Rattle.fort_typing_rules.specs.Typing as rule
-use Rattle.fort_translation.specs.Making.{Maker, two}
-use Rattle.fort_translation.specs.Parts.{Given, Part, Role, expression, local, locals, variable, top, field, element}
-use Rattle.fort_translation.specs.Items.{binding, bindings, before, block, loops}
-use Rattle.fort_translation.specs.Translated.{role_at, part_at, translated, part}
+use Rattle.fort_elab_meaning.specs.Making.{Maker, two}
+use Rattle.fort_elab_meaning.specs.Parts.{Given, Part, Role, expression, local, locals, variable, top, field, element}
+use Rattle.fort_elab_meaning.specs.Items.{binding, bindings, before, block, loops}
+use Rattle.fort_elab_meaning.specs.Translated.{role_at, part_at, translated, part}
 use Rattle.fort_sound_forms.proofs.Built.{has-Then}
 use Rattle.fort_sound_forms.proofs.Makers.{Good, good_two}
 use Rattle.fort_sound_forms.proofs.Plain.{level, part_is, role_is, Target, Plain}

@@ -18,9 +18,9 @@ use Rattle.fort_core.specs.declared.value.Closure.{Closure}
 use Rattle.fort_core.specs.declared.value.Value.{Value}
 use Rattle.fort_machine.specs.Types.{domain_of}
 use Rattle.fort_machine.specs.Parts.{terms_in, values_in, in_clauses}
-use Rattle.fort_typed.specs.Envs.{Sig, Env, fixed, cell, bind, binds, Distinct, Fresh, fixed_all, Part, plain, bound, plains}
-use Rattle.fort_typed.specs.Typing.{Below, is_same, unit_type, small_type, truth_type, thrown_type, Makes, FieldOf, SlotHas, ItemsOf, clauses, last_parts, Called, Fits, Has, HasParts, parts0, parts1, HasVs, vs0}
-use Rattle.fort_typed.proofs.Rules.{has_at, never, one_part, two_parts, three_parts}
+use Rattle.fort_sound_typed.specs.Envs.{Sig, Env, fixed, cell, bind, binds, Distinct, Fresh, fixed_all, Part, plain, bound, plains}
+use Rattle.fort_sound_typed.specs.Typing.{Below, is_same, unit_type, small_type, truth_type, thrown_type, Makes, FieldOf, SlotHas, ItemsOf, clauses, last_parts, Called, Fits, Has, HasParts, parts0, parts1, HasVs, vs0}
+use Rattle.fort_sound_typed.proofs.Rules.{has_at, never, one_part, two_parts, three_parts}
 
 module _ (p : Program) (S : Sig) where
   put : {G : Env} {t : Term} {T : Ty} {l : Term-F Term Value Closure} → out-Term t ≡ l

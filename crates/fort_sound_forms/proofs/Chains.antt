@@ -8,27 +8,27 @@ use Rattle.fort_ops.specs.declared.op.Op.{Op}
 use Rattle.fort_ops.specs.declared.op.Op.TheVariants as an_op
 use Rattle.fort_scope.specs.declared.binding.Binding.{Binding}
 use Rattle.fort_form.specs.declared.form.Reduction.TheVariants as a_reduction
-use Rattle.fort_typed_form.specs.declared.typed_form.Chosen.{Chosen}
-use Rattle.fort_typed_form.specs.declared.typed_form.TypedForm.{TypedForm}
+use Rattle.fort_form_typed.specs.declared.typed_form.Chosen.{Chosen}
+use Rattle.fort_form_typed.specs.declared.typed_form.TypedForm.{TypedForm}
 use Rattle.fort_core.specs.declared.program.Program.{Program}
 use Rattle.fort_core.specs.declared.term.Term.{Term, Variable}
-use Rattle.fort_known.specs.Known.{Knows}
-use Rattle.fort_known.specs.Sets.{operator_set}
-use Rattle.fort_typed.specs.Envs.{Env, fixed, bind}
-use Rattle.fort_typed.specs.Typing.{Below, Called, Has}
-use Rattle.fort_typed.specs.Sound.{opening}
-use Rattle.fort_typed.proofs.Bind.{bind_at}
-use Rattle.fort_typed.proofs.Rules.{two_parts, sub}
+use Rattle.fort_typing_known.specs.Known.{Knows}
+use Rattle.fort_typing_known.specs.Sets.{operator_set}
+use Rattle.fort_sound_typed.specs.Envs.{Env, fixed, bind}
+use Rattle.fort_sound_typed.specs.Typing.{Below, Called, Has}
+use Rattle.fort_sound_typed.specs.Sound.{opening}
+use Rattle.fort_sound_typed.proofs.Bind.{bind_at}
+use Rattle.fort_sound_typed.proofs.Rules.{two_parts, sub}
 use Rattle.fort_typing_rules.specs.Types.{boolean, type_of, types_of}
 use Rattle.fort_typing_rules.specs.Calls.{Calls}
 use Rattle.fort_typing_rules.specs.Elements.{chosen}
 use Rattle.fort_typing_rules.specs.Typing as rule
-use Rattle.fort_typing_laws.specs.Deciding.{AreTypes, IsAccepted}
-use Rattle.fort_typing_laws.proofs.Typed.{call-type}
-use Rattle.fort_translation.specs.declared.counter.Counter.{Counter}
-use Rattle.fort_translation.specs.Making.{Scope}
-use Rattle.fort_translation.specs.Parts.{Given, Part, maker_of}
-use Rattle.fort_translation.specs.Calls.{operation, operated, comparisons, joined, sides, chain}
+use Rattle.fort_typing_law_rules.specs.Deciding.{AreTypes, IsAccepted}
+use Rattle.fort_typing_law_rules.proofs.Typed.{call-type}
+use Rattle.fort_elab_meaning.specs.declared.counter.Counter.{Counter}
+use Rattle.fort_elab_meaning.specs.Making.{Scope}
+use Rattle.fort_elab_meaning.specs.Parts.{Given, Part, maker_of}
+use Rattle.fort_elab_meaning.specs.Calls.{operation, operated, comparisons, joined, sides, chain}
 use Rattle.fort_sound_forms.specs.Forms.{Agrees}
 use Rattle.fort_sound_forms.specs.Suits.{Suits}
 use Rattle.fort_sound_forms.proofs.Names.{kept}

@@ -6,24 +6,24 @@ use Rattle.fort_base.specs.declared.ids.SetId.{SetId}
 use Rattle.fort_base.specs.declared.refusal.Place.{Place}
 use Rattle.fort_base.specs.declared.ty.Ty.{Ty}
 use Rattle.fort_scope.specs.declared.binding.Binding.{Binding}
-use Rattle.fort_typed_form.specs.declared.typed_form.Chosen.{Chosen}
+use Rattle.fort_form_typed.specs.declared.typed_form.Chosen.{Chosen}
 use Rattle.fort_core.specs.declared.program.Program.{Program}
 use Rattle.fort_core.specs.declared.term.Term.{Term, Variable, If}
 use Rattle.fort_machine.specs.Parts.{in_clauses}
-use Rattle.fort_known.specs.Known.{Knows}
-use Rattle.fort_typed.specs.Envs.{Env, fixed, bind}
-use Rattle.fort_typed.specs.Typing.{Below, truth_type, clauses as case_parts, Has, HasParts, parts0, parts1}
-use Rattle.fort_typed.specs.Sound.{opening}
-use Rattle.fort_typed.proofs.Rules.{never, sub}
+use Rattle.fort_typing_known.specs.Known.{Knows}
+use Rattle.fort_sound_typed.specs.Envs.{Env, fixed, bind}
+use Rattle.fort_sound_typed.specs.Typing.{Below, truth_type, clauses as case_parts, Has, HasParts, parts0, parts1}
+use Rattle.fort_sound_typed.specs.Sound.{opening}
+use Rattle.fort_sound_typed.proofs.Rules.{never, sub}
 use Rattle.fort_typing_rules.specs.Typing as rule
 use Rattle.fort_typing_rules.specs.Elements.{chosen}
-use Rattle.fort_typing_laws.specs.Deciding.{IsAccepted}
-use Rattle.fort_translation.specs.declared.counter.Counter.{Counter}
-use Rattle.fort_translation.specs.Making.{Scope, Maker, Several, with_name, after, one, in_turn}
-use Rattle.fort_translation.specs.Parts.{Given, Part, maker_of}
-use Rattle.fort_translation.specs.Values.{no_match}
-use Rattle.fort_translation.specs.Calls.{operated}
-use Rattle.fort_translation.specs.Choices.{or_else, branches, clauses, cases, with_types, typecase, catching, trying}
+use Rattle.fort_typing_law_rules.specs.Deciding.{IsAccepted}
+use Rattle.fort_elab_meaning.specs.declared.counter.Counter.{Counter}
+use Rattle.fort_elab_meaning.specs.Making.{Scope, Maker, Several, with_name, after, one, in_turn}
+use Rattle.fort_elab_meaning.specs.Parts.{Given, Part, maker_of}
+use Rattle.fort_elab_meaning.specs.Values.{no_match}
+use Rattle.fort_elab_meaning.specs.Calls.{operated}
+use Rattle.fort_elab_meaning.specs.Choices.{or_else, branches, clauses, cases, with_types, typecase, catching, trying}
 use Rattle.fort_sound_forms.specs.Forms.{Agrees}
 use Rattle.fort_sound_forms.specs.Suits.{Suits}
 use Rattle.fort_sound_forms.proofs.Names.{later, fresh_next, clause_next}
@@ -31,7 +31,7 @@ use Rattle.fort_sound_forms.proofs.Built.{has-Variable, has-If, has-Typecase, ha
 use Rattle.fort_sound_forms.proofs.Makers.{Got, Good, good_still, good_three, got_one, got_letting}
 use Rattle.fort_sound_forms.proofs.Facts.{tr, IsCall, has_operated}
 use Rattle.fort_sound_forms.proofs.Values.{has_no_match}
-use Rattle.fort_typed.proofs.Bind.{bind_at}
+use Rattle.fort_sound_typed.proofs.Bind.{bind_at}
 
 module _ (k : Knows) (p : Program) where
   abbrev pub AllGood : List Binding → Ty → List Part → Type 0

@@ -10,24 +10,24 @@ use Rattle.fort_ops.specs.declared.op.Op.TheVariants as an_op
 use Rattle.fort_scope.specs.declared.binding.Binding.{Binding}
 use Rattle.fort_form.specs.declared.form.Parameter.{Parameter}
 use Rattle.fort_form.specs.declared.form.Reduction.{Reduction}
-use Rattle.fort_typed_form.specs.declared.typed_form.Chosen.{Chosen}
-use Rattle.fort_typed_form.specs.declared.typed_form.TypedForm.{TypedForm, out-TypedForm, the_lemmas}
-use Rattle.fort_typed_form.specs.declared.typed_form.TypedForm.TheVariants as a_typed
-use Rattle.fort_typed_form.specs.declared.typed_form.TypedForm.TheOpen.{TypedForm-F}
+use Rattle.fort_form_typed.specs.declared.typed_form.Chosen.{Chosen}
+use Rattle.fort_form_typed.specs.declared.typed_form.TypedForm.{TypedForm, out-TypedForm, the_lemmas}
+use Rattle.fort_form_typed.specs.declared.typed_form.TypedForm.TheVariants as a_typed
+use Rattle.fort_form_typed.specs.declared.typed_form.TypedForm.TheOpen.{TypedForm-F}
 use Rattle.fort_core.specs.declared.program.Program.{Program}
-use Rattle.fort_known.specs.Known.{Knows}
-use Rattle.fort_known.specs.Names.{bound}
-use Rattle.fort_known.specs.Sets.{operator_set}
-use Rattle.fort_typed.specs.Typing.{Below, unit_type, ItemsOf}
-use Rattle.fort_typed.proofs.Order.{itself}
+use Rattle.fort_typing_known.specs.Known.{Knows}
+use Rattle.fort_typing_known.specs.Names.{bound}
+use Rattle.fort_typing_known.specs.Sets.{operator_set}
+use Rattle.fort_sound_typed.specs.Typing.{Below, unit_type, ItemsOf}
+use Rattle.fort_sound_typed.proofs.Order.{itself}
 use Rattle.fort_typing_rules.specs.Types.{boolean, unit, IsWidest, tuple_of, parameter_type, type_of, types_of}
 use Rattle.fort_typing_rules.specs.Typing as rule
-use Rattle.fort_typing_laws.specs.Deciding.{AreTypes, IsAccepted}
-use Rattle.fort_typing_laws.proofs.Types.{all_item}
-use Rattle.fort_translation.specs.Parts.{Given}
-use Rattle.fort_translation.specs.Values.{neutral}
-use Rattle.fort_translation.specs.Items.{block, parameter, fn, loops}
-use Rattle.fort_translation.specs.Translated.{translated, part}
+use Rattle.fort_typing_law_rules.specs.Deciding.{AreTypes, IsAccepted}
+use Rattle.fort_typing_law_rules.proofs.Types.{all_item}
+use Rattle.fort_elab_meaning.specs.Parts.{Given}
+use Rattle.fort_elab_meaning.specs.Values.{neutral}
+use Rattle.fort_elab_meaning.specs.Items.{block, parameter, fn, loops}
+use Rattle.fort_elab_meaning.specs.Translated.{translated, part}
 use Rattle.fort_sound_forms.specs.Suits.{Suits}
 use Rattle.fort_sound_forms.proofs.Makers.{Good}
 use Rattle.fort_sound_forms.proofs.Facts.{tr, told}

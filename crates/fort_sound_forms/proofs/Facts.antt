@@ -6,29 +6,29 @@ use Rattle.fort_base.specs.declared.ids.TypeId.{TypeId}
 use Rattle.fort_base.specs.declared.ty.Ty.{Ty, out-Ty, roll-Ty, roll-out-Ty}
 use Rattle.fort_base.specs.declared.ty.Ty.TheVariants.{Named, Array, Arrow, Tuple, rolls-Named, rolls-Array, rolls-Arrow, rolls-Tuple}
 use Rattle.fort_base.specs.declared.ty.Ty.TheOpen.{Ty-F}
-use Rattle.fort_set.specs.declared.member.Member.{Member}
-use Rattle.fort_set.specs.declared.member.MemberSet.{MemberSet}
-use Rattle.fort_set.specs.Applicable.{Along, IsApplicable}
-use Rattle.fort_set.specs.Rules.{StandsAt}
-use Rattle.fort_set.specs.Best.{IsMostSpecific}
-use Rattle.fort_call.specs.Widening.{AreWidened}
+use Rattle.fort_types_sets.specs.declared.member.Member.{Member}
+use Rattle.fort_types_sets.specs.declared.member.MemberSet.{MemberSet}
+use Rattle.fort_types_sets.specs.Applicable.{Along, IsApplicable}
+use Rattle.fort_types_sets.specs.Rules.{StandsAt}
+use Rattle.fort_types_sets.specs.Best.{IsMostSpecific}
+use Rattle.fort_typing_rules.specs.Widening.{AreWidened}
 use Rattle.fort_core.specs.declared.program.Program.{Program}
 use Rattle.fort_core.specs.declared.term.Term.{Term}
 use Rattle.fort_machine.specs.Types.{below, all_below}
-use Rattle.fort_known.specs.Known.{Knows}
-use Rattle.fort_typed.specs.Envs.{Env, plains}
-use Rattle.fort_typed.specs.Typing.{Below, is_told, Called, Has, HasParts, parts0, parts1}
-use Rattle.fort_typed.specs.Sound.{opening}
-use Rattle.fort_typed.proofs.Computed.{through}
-use Rattle.fort_typed.proofs.Order.{transitive}
-use Rattle.fort_typed.proofs.Rules.{Trans, never, one_part, two_parts}
+use Rattle.fort_typing_known.specs.Known.{Knows}
+use Rattle.fort_sound_typed.specs.Envs.{Env, plains}
+use Rattle.fort_sound_typed.specs.Typing.{Below, is_told, Called, Has, HasParts, parts0, parts1}
+use Rattle.fort_sound_typed.specs.Sound.{opening}
+use Rattle.fort_sound_typed.proofs.Computed.{through}
+use Rattle.fort_sound_typed.proofs.Order.{transitive}
+use Rattle.fort_sound_typed.proofs.Rules.{Trans, never, one_part, two_parts}
 use Rattle.fort_typing_rules.specs.Types.{zz32, zz64, IsBelow}
 use Rattle.fort_typing_rules.specs.Calls.{ArePositions, set_at, to_zz64, Calls, plain, widening}
 use Rattle.fort_typing_rules.specs.Elements.{chosen}
-use Rattle.fort_typing_laws.specs.Deciding.{IsType, AreTypes, IsAccepted}
-use Rattle.fort_typing_laws.proofs.Types.{built_in_type}
-use Rattle.fort_translation.specs.Parts.{Given}
-use Rattle.fort_translation.specs.Calls.{argument, widened, call, operation, operated}
+use Rattle.fort_typing_law_rules.specs.Deciding.{IsType, AreTypes, IsAccepted}
+use Rattle.fort_typing_law_rules.proofs.Types.{built_in_type}
+use Rattle.fort_elab_meaning.specs.Parts.{Given}
+use Rattle.fort_elab_meaning.specs.Calls.{argument, widened, call, operation, operated}
 use Rattle.fort_sound_forms.specs.Suits.{Suits}
 use Rattle.fort_sound_forms.proofs.Built.{has-Call, has-Operator}
 

@@ -9,7 +9,7 @@ use Rattle.fort_form.specs.declared.form.Branch.{Branch}
 use Rattle.fort_form.specs.declared.form.Generator.{Generator, out-Generator}
 use Rattle.fort_form.specs.declared.form.TypeBranch.{TypeBranch, out-TypeBranch}
 use Rattle.fort_typing_rules.specs.Typing.{test_of, value_of}
-use Rattle.fort_typing_laws.proofs.Types.{all_left, all_right}
+use Rattle.fort_typing_law_rules.proofs.Types.{all_left, all_right}
 use Rattle.fort_sound_forms.specs.Figures.{Figure, IsRight, together, if_there, figures_form, figures_part, figures_arm, figures_source, figures_case, figures, figures_item, figures_branch, figures_generator, figures_clause, HasFigures}
 
 branch-is : (b : Branch) → figures_branch b ≡ figures (test_of b) ++ figures (value_of b)

@@ -4,14 +4,14 @@ use Rattle.fort_base.specs.declared.ty.Ty.{Ty}
 use Rattle.fort_scope.specs.declared.binding.Binding.{Binding}
 use Rattle.fort_core.specs.declared.program.Program.{Program}
 use Rattle.fort_core.specs.declared.term.Term.{Term}
-use Rattle.fort_known.specs.Known.{Knows}
-use Rattle.fort_known.specs.Names.{bound}
-use Rattle.fort_typed.specs.Envs.{Env, fixed, bind, Fresh, plains}
-use Rattle.fort_typed.specs.Typing.{Below, Has, HasParts, parts0, parts1}
-use Rattle.fort_typed.specs.Sound.{opening}
-use Rattle.fort_typed.proofs.Rules.{Trans, never, sub}
-use Rattle.fort_translation.specs.declared.counter.Counter.{Counter}
-use Rattle.fort_translation.specs.Making.{Scope, Made, Several, Maker, with_name, after, still, one, two, three, in_turn, many, naming, letting}
+use Rattle.fort_typing_known.specs.Known.{Knows}
+use Rattle.fort_typing_known.specs.Names.{bound}
+use Rattle.fort_sound_typed.specs.Envs.{Env, fixed, bind, Fresh, plains}
+use Rattle.fort_sound_typed.specs.Typing.{Below, Has, HasParts, parts0, parts1}
+use Rattle.fort_sound_typed.specs.Sound.{opening}
+use Rattle.fort_sound_typed.proofs.Rules.{Trans, never, sub}
+use Rattle.fort_elab_meaning.specs.declared.counter.Counter.{Counter}
+use Rattle.fort_elab_meaning.specs.Making.{Scope, Made, Several, Maker, with_name, after, still, one, two, three, in_turn, many, naming, letting}
 use Rattle.fort_sound_forms.specs.Forms.{sort, Agrees}
 use Rattle.fort_sound_forms.proofs.Names.{later, fresh_next, unnamed_next, named_next}
 use Rattle.fort_sound_forms.proofs.Built.{has-Let}

@@ -7,16 +7,16 @@ use Rattle.fort_base.specs.declared.ids.NameId.{NameId}
 use Rattle.fort_base.specs.declared.refusal.Place.{Place}
 use Rattle.fort_base.specs.declared.ty.Ty.{Ty}
 use Rattle.fort_scope.specs.declared.binding.Binding.{Binding}
-use Rattle.fort_known.specs.Known.{Knows}
-use Rattle.fort_known.specs.Names.{bound, is_some_binding, is_some_field, own_field, variable, is_type, shows, is_visible}
-use Rattle.fort_known.specs.Sets.{spelled, any_set}
-use Rattle.fort_typed.specs.Envs.{Sort, fixed, Env, none, bind, binds, Distinct, Fresh, fixed_all}
-use Rattle.fort_typed.proofs.Bind.{bind_at, bind_other}
-use Rattle.fort_typed.proofs.Held.{binds_swap}
+use Rattle.fort_typing_known.specs.Known.{Knows}
+use Rattle.fort_typing_known.specs.Names.{bound, is_some_binding, is_some_field, own_field, variable, is_type, shows, is_visible}
+use Rattle.fort_typing_known.specs.Sets.{spelled, any_set}
+use Rattle.fort_sound_typed.specs.Envs.{Sort, fixed, Env, none, bind, binds, Distinct, Fresh, fixed_all}
+use Rattle.fort_sound_typed.proofs.Bind.{bind_at, bind_other}
+use Rattle.fort_sound_typed.proofs.Held.{binds_swap}
 use Rattle.fort_typing_rules.specs.Typing as rule
-use Rattle.fort_translation.specs.Making.{Scope, number_of, with_name}
-use Rattle.fort_translation.specs.Items.{typed_variables, with_names}
-use Rattle.fort_translation.specs.Choices.{catching}
+use Rattle.fort_elab_meaning.specs.Making.{Scope, number_of, with_name}
+use Rattle.fort_elab_meaning.specs.Items.{typed_variables, with_names}
+use Rattle.fort_elab_meaning.specs.Choices.{catching}
 use Rattle.fort_sound_forms.specs.Forms.{sort, Agrees}
 
 -- ---- the binding of a name

@@ -5,19 +5,19 @@ use Rattle.fort_base.specs.declared.ids.NameId.{NameId}
 use Rattle.fort_base.specs.declared.ids.TypeId.{TypeId}
 use Rattle.fort_base.specs.declared.ty.Ty.{Ty, Array}
 use Rattle.fort_base.specs.declared.ty.Ty.TheVariants.{Named}
-use Rattle.fort_set.specs.declared.field.Field.{Field}
+use Rattle.fort_types_sets.specs.declared.field.Field.{Field}
 use Rattle.fort_scope.specs.declared.binding.Binding.{Binding}
-use Rattle.fort_typed_form.specs.declared.typed_form.TypedForm.{TypedForm, out-TypedForm, map-TypedForm, fold_out-TypedForm}
-use Rattle.fort_typed_form.specs.declared.typed_form.TypedForm.TheOpen.{TypedForm-F}
+use Rattle.fort_form_typed.specs.declared.typed_form.TypedForm.{TypedForm, out-TypedForm, map-TypedForm, fold_out-TypedForm}
+use Rattle.fort_form_typed.specs.declared.typed_form.TypedForm.TheOpen.{TypedForm-F}
 use Rattle.fort_core.specs.declared.program.Program.{Program}
-use Rattle.fort_known.specs.Known.{Knows}
-use Rattle.fort_known.specs.Names.{bound, field_of}
-use Rattle.fort_typed.specs.Typing.{Below, small_type}
-use Rattle.fort_typed.specs.Sound.{opening}
+use Rattle.fort_typing_known.specs.Known.{Knows}
+use Rattle.fort_typing_known.specs.Names.{bound, field_of}
+use Rattle.fort_sound_typed.specs.Typing.{Below, small_type}
+use Rattle.fort_sound_typed.specs.Sound.{opening}
 use Rattle.fort_typing_rules.specs.Types.{type_at, type_of, types_of}
-use Rattle.fort_translation.specs.Parts.{Given, Part, maker_of}
-use Rattle.fort_translation.specs.Translated.{made_at, role_at, part_at, part, translated}
-use Rattle.fort_translation.specs.Translated as translation
+use Rattle.fort_elab_meaning.specs.Parts.{Given, Part, maker_of}
+use Rattle.fort_elab_meaning.specs.Translated.{made_at, role_at, part_at, part, translated}
+use Rattle.fort_elab_meaning.specs.Translated as translation
 use Rattle.fort_sound_forms.proofs.Makers.{Good, EachGood}
 
 module _ (k : Knows) (g : Given) (p : Program) where

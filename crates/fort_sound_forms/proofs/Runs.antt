@@ -7,28 +7,28 @@ use Rattle.fort_base.specs.declared.ids.NameId.{NameId}
 use Rattle.fort_base.specs.declared.refusal.Place.{Place}
 use Rattle.fort_base.specs.declared.ty.Ty.{Ty, Array, out-Ty}
 use Rattle.fort_base.specs.declared.ty.Ty.TheOpen.{Ty-F}
-use Rattle.fort_set.specs.declared.field.Field.{Field}
+use Rattle.fort_types_sets.specs.declared.field.Field.{Field}
 use Rattle.fort_juxt.specs.declared.elements.Grouping.{Grouping}
 use Rattle.fort_scope.specs.declared.binding.Binding.{Binding}
-use Rattle.fort_typed_form.specs.declared.typed_form.TypedForm.{TypedForm, out-TypedForm}
-use Rattle.fort_typed_form.specs.declared.typed_form.TypedForm.TheOpen.{TypedForm-F}
+use Rattle.fort_form_typed.specs.declared.typed_form.TypedForm.{TypedForm, out-TypedForm}
+use Rattle.fort_form_typed.specs.declared.typed_form.TypedForm.TheOpen.{TypedForm-F}
 use Rattle.fort_core.specs.declared.program.Program.{Program}
-use Rattle.fort_known.specs.Known.{Knows}
-use Rattle.fort_known.specs.Names.{field_at}
-use Rattle.fort_known.specs.Sets.{spelled, function_set, method_set}
-use Rattle.fort_typed.specs.Typing.{Below}
+use Rattle.fort_typing_known.specs.Known.{Knows}
+use Rattle.fort_typing_known.specs.Names.{field_at}
+use Rattle.fort_typing_known.specs.Sets.{spelled, function_set, method_set}
+use Rattle.fort_sound_typed.specs.Typing.{Below}
 use Rattle.fort_typing_rules.specs.declared.part.Part.{Part}
 use Rattle.fort_typing_rules.specs.declared.part.Meaning.{Meaning}
 use Rattle.fort_typing_rules.specs.declared.part.Meaning.TheVariants as a_meaning
 use Rattle.fort_typing_rules.specs.Types.{zz32, is_nothing, array_at, type_of, types_of}
 use Rattle.fort_typing_rules.specs.Calls.{Calls}
 use Rattle.fort_typing_rules.specs.Elements as element
-use Rattle.fort_typing_laws.specs.Deciding.{IsAccepted}
-use Rattle.fort_typing_laws.specs.Typed.{IsTyped, MeansTyped}
-use Rattle.fort_typing_laws.proofs.Types.{all_left, all_right, all_join, all_item}
-use Rattle.fort_typing_laws.proofs.Typed.{PartTyped, PartsTyped, arguments-typed, value-typed, all-types, part-typed, rewritten-typed, grouped-typed}
-use Rattle.fort_translation.specs.Parts.{Given, maker_of}
-use Rattle.fort_translation.specs.Translated.{part}
+use Rattle.fort_typing_law_rules.specs.Deciding.{IsAccepted}
+use Rattle.fort_typing_law_rules.specs.Typed.{IsTyped, MeansTyped}
+use Rattle.fort_typing_law_rules.proofs.Types.{all_left, all_right, all_join, all_item}
+use Rattle.fort_typing_law_rules.proofs.Typed.{PartTyped, PartsTyped, arguments-typed, value-typed, all-types, part-typed, rewritten-typed, grouped-typed}
+use Rattle.fort_elab_meaning.specs.Parts.{Given, maker_of}
+use Rattle.fort_elab_meaning.specs.Translated.{part}
 use Rattle.fort_sound_forms.specs.Suits.{Suits}
 use Rattle.fort_sound_forms.proofs.Makers.{EachGood}
 use Rattle.fort_sound_forms.proofs.Facts.{array_is, arrow_is, named_is, told, call_is}

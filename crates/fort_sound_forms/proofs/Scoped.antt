@@ -17,20 +17,20 @@ use Rattle.fort_core.specs.declared.program.Program.{Program}
 use Rattle.fort_core.specs.declared.term.Term.{Term, Let, Mutable, For, Reduce}
 use Rattle.fort_core.specs.declared.value.Closure.{Closure}
 use Rattle.fort_machine.specs.Types.{domain_of}
-use Rattle.fort_known.specs.Known.{Knows}
-use Rattle.fort_known.specs.Names.{bound}
-use Rattle.fort_typed.specs.Envs.{Env, binds, Distinct, Fresh, fixed_all}
-use Rattle.fort_typed.specs.Typing.{Below, is_same, unit_type, ItemsOf, Called, Has, vs0}
-use Rattle.fort_typed.specs.Sound.{opening}
-use Rattle.fort_typed.proofs.Rules.{Trans}
-use Rattle.fort_typed.proofs.Made.{function_has}
-use Rattle.fort_typed.proofs.Order.{itself}
-use Rattle.fort_builtin.specs.declared.types.TheConstants.{RANGE}
+use Rattle.fort_typing_known.specs.Known.{Knows}
+use Rattle.fort_typing_known.specs.Names.{bound}
+use Rattle.fort_sound_typed.specs.Envs.{Env, binds, Distinct, Fresh, fixed_all}
+use Rattle.fort_sound_typed.specs.Typing.{Below, is_same, unit_type, ItemsOf, Called, Has, vs0}
+use Rattle.fort_sound_typed.specs.Sound.{opening}
+use Rattle.fort_sound_typed.proofs.Rules.{Trans}
+use Rattle.fort_sound_typed.proofs.Made.{function_has}
+use Rattle.fort_sound_typed.proofs.Order.{itself}
+use Rattle.fort_types_builtin.specs.declared.types.TheConstants.{RANGE}
 use Rattle.fort_typing_rules.specs.Types.{zz32, given_at, given, tuple_of, parameter_type}
 use Rattle.fort_typing_rules.specs.Typing as rule
-use Rattle.fort_translation.specs.Making.{Maker, after, naming}
-use Rattle.fort_translation.specs.Parts.{Given}
-use Rattle.fort_translation.specs.Items.{typed_variables, with_names, binding, bindings, parameter, within_function, fn, order_of, reduction}
+use Rattle.fort_elab_meaning.specs.Making.{Maker, after, naming}
+use Rattle.fort_elab_meaning.specs.Parts.{Given}
+use Rattle.fort_elab_meaning.specs.Items.{typed_variables, with_names, binding, bindings, parameter, within_function, fn, order_of, reduction}
 use Rattle.fort_sound_forms.specs.Suits.{Suits}
 use Rattle.fort_sound_forms.proofs.Names.{AllFixed, all_distinct, all_fresh, names_next}
 use Rattle.fort_sound_forms.proofs.Built.{has-Let, has-Mutable, has-For, has-Reduce}

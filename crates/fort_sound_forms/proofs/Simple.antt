@@ -6,32 +6,32 @@ use Rattle.fort_base.specs.declared.ids.SetId.{SetId}
 use Rattle.fort_base.specs.declared.ids.TypeId.{TypeId}
 use Rattle.fort_base.specs.declared.ty.Ty.{Ty, Array, Arrow}
 use Rattle.fort_base.specs.declared.ty.Ty.TheVariants as a_type
-use Rattle.fort_set.specs.declared.field.Field.{Field}
+use Rattle.fort_types_sets.specs.declared.field.Field.{Field}
 use Rattle.fort_scope.specs.declared.binding.Binding.{Binding}
-use Rattle.fort_typed_form.specs.declared.typed_form.TypedForm.{TypedForm, out-TypedForm, the_lemmas}
-use Rattle.fort_typed_form.specs.declared.typed_form.TypedForm.TheVariants as a_typed
-use Rattle.fort_typed_form.specs.declared.typed_form.TypedForm.TheOpen.{TypedForm-F}
-use Rattle.fort_builtin.specs.Objects.{location}
+use Rattle.fort_form_typed.specs.declared.typed_form.TypedForm.{TypedForm, out-TypedForm, the_lemmas}
+use Rattle.fort_form_typed.specs.declared.typed_form.TypedForm.TheVariants as a_typed
+use Rattle.fort_form_typed.specs.declared.typed_form.TypedForm.TheOpen.{TypedForm-F}
+use Rattle.fort_types_builtin.specs.Objects.{location}
 use Rattle.fort_core.specs.declared.form.Mode.TheVariants as mode
 use Rattle.fort_core.specs.declared.form.Slot.TheVariants as slot
 use Rattle.fort_core.specs.declared.program.Program.{Program}
 use Rattle.fort_core.specs.declared.term.Term.{Term, Throw, Apply, Fill, ReadField, ReadElement, Size, While, Also, Atomic}
 use Rattle.fort_machine.specs.Ends.{group}
-use Rattle.fort_known.specs.Known.{Knows}
-use Rattle.fort_known.specs.Names.{bound, single}
-use Rattle.fort_typed.specs.Envs.{Env}
-use Rattle.fort_typed.specs.Typing.{Below, is_same, Has}
-use Rattle.fort_typed.specs.Sound.{opening}
-use Rattle.fort_typed.proofs.Made.{group_has}
-use Rattle.fort_typed.proofs.Order.{itself}
+use Rattle.fort_typing_known.specs.Known.{Knows}
+use Rattle.fort_typing_known.specs.Names.{bound, single}
+use Rattle.fort_sound_typed.specs.Envs.{Env}
+use Rattle.fort_sound_typed.specs.Typing.{Below, is_same, Has}
+use Rattle.fort_sound_typed.specs.Sound.{opening}
+use Rattle.fort_sound_typed.proofs.Made.{group_has}
+use Rattle.fort_sound_typed.proofs.Order.{itself}
 use Rattle.fort_typing_rules.specs.Types.{zz32, string, boolean, exception, unit, number_type, type_of, types_of}
 use Rattle.fort_typing_rules.specs.Elements.{chosen}
-use Rattle.fort_typing_laws.specs.Deciding.{IsAccepted}
-use Rattle.fort_translation.specs.Making.{number_of}
-use Rattle.fort_translation.specs.Parts.{Given, maker_of}
-use Rattle.fort_translation.specs.Calls.{call, operation}
-use Rattle.fort_translation.specs.Targets.{variable_term}
-use Rattle.fort_translation.specs.Translated.{translated, part}
+use Rattle.fort_typing_law_rules.specs.Deciding.{IsAccepted}
+use Rattle.fort_elab_meaning.specs.Making.{number_of}
+use Rattle.fort_elab_meaning.specs.Parts.{Given, maker_of}
+use Rattle.fort_elab_meaning.specs.Calls.{call, operation}
+use Rattle.fort_elab_meaning.specs.Targets.{variable_term}
+use Rattle.fort_elab_meaning.specs.Translated.{translated, part}
 use Rattle.fort_sound_forms.specs.Forms.{sort}
 use Rattle.fort_sound_forms.specs.Suits.{Suits}
 use Rattle.fort_sound_forms.proofs.Built.{has-Throw, has-Variable, has-Apply, has-Fill, has-Read, has-ReadField, has-ReadElement, has-Size, has-While, has-Also, has-Atomic}

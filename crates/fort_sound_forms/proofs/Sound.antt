@@ -16,15 +16,15 @@ use Rattle.fort_form.specs.declared.form.Branch.{Branch}
 use Rattle.fort_form.specs.declared.form.Generator.{Generator, out-Generator}
 use Rattle.fort_form.specs.declared.form.TypeBranch.{TypeBranch}
 use Rattle.fort_form.specs.declared.form.Reduction.{Reduction}
-use Rattle.fort_typed_form.specs.declared.typed_form.Chosen.{Chosen}
-use Rattle.fort_typed_form.specs.declared.typed_form.TypedForm.{TypedForm, out-TypedForm, the_lemmas}
-use Rattle.fort_typed_form.specs.declared.typed_form.TypedForm.TheVariants as a_typed
-use Rattle.fort_typed_form.specs.declared.typed_form.TypedForm.TheOpen.{TypedForm-F}
+use Rattle.fort_form_typed.specs.declared.typed_form.Chosen.{Chosen}
+use Rattle.fort_form_typed.specs.declared.typed_form.TypedForm.{TypedForm, out-TypedForm, the_lemmas}
+use Rattle.fort_form_typed.specs.declared.typed_form.TypedForm.TheVariants as a_typed
+use Rattle.fort_form_typed.specs.declared.typed_form.TypedForm.TheOpen.{TypedForm-F}
 use Rattle.fort_core.specs.declared.program.Program.{Program}
-use Rattle.fort_known.specs.Known.{Knows}
-use Rattle.fort_known.specs.Names.{a_binding, a_field, a_variable, a_single}
-use Rattle.fort_known.specs.Sets.{operator_set}
-use Rattle.fort_typed.specs.Typing.{Below, is_same}
+use Rattle.fort_typing_known.specs.Known.{Knows}
+use Rattle.fort_typing_known.specs.Names.{a_binding, a_field, a_variable, a_single}
+use Rattle.fort_typing_known.specs.Sets.{operator_set}
+use Rattle.fort_sound_typed.specs.Typing.{Below, is_same}
 use Rattle.fort_typing_rules.specs.declared.part.Part.{Part}
 use Rattle.fort_typing_rules.specs.declared.part.Meaning.{Meaning}
 use Rattle.fort_typing_rules.specs.Types.{boolean, exception, unit, type_of, types_of}
@@ -32,14 +32,14 @@ use Rattle.fort_typing_rules.specs.Calls.{Calls}
 use Rattle.fort_typing_rules.specs.Elements as elements
 use Rattle.fort_typing_rules.specs.Typing as rule
 use Rattle.fort_typing_rules.specs.Typing.{is_target}
-use Rattle.fort_typing_laws.specs.Deciding.{IsType, AreTypes, IsAccepted}
-use Rattle.fort_typing_laws.specs.Written.{IsWritten, AreBound}
-use Rattle.fort_typing_laws.proofs.Types.{all_join}
-use Rattle.fort_typing_laws.proofs.Written.{AllWritten, BranchWritten, GeneratorWritten, ClauseWritten, MayBeWritten, ItemWritten, of-parts, of-item, tests-of, values-of}
-use Rattle.fort_typing_laws.proofs.Typed.{typed-of, typed-as, typed-each, sources-bound, typed-clauses, typed-cases, typed-else, typed-parts, all-types, call-type, one-bound, binds-bound, clause-bound, parameters-bound, named-bound, given-typed}
-use Rattle.fort_translation.specs.Parts.{Given}
-use Rattle.fort_translation.specs.Items.{block}
-use Rattle.fort_translation.specs.Translated.{translated, part}
+use Rattle.fort_typing_law_rules.specs.Deciding.{IsType, AreTypes, IsAccepted}
+use Rattle.fort_typing_law_rules.specs.Written.{IsWritten, AreBound}
+use Rattle.fort_typing_law_rules.proofs.Types.{all_join}
+use Rattle.fort_typing_law_rules.proofs.Written.{AllWritten, BranchWritten, GeneratorWritten, ClauseWritten, MayBeWritten, ItemWritten, of-parts, of-item, tests-of, values-of}
+use Rattle.fort_typing_law_rules.proofs.Typed.{typed-of, typed-as, typed-each, sources-bound, typed-clauses, typed-cases, typed-else, typed-parts, all-types, call-type, one-bound, binds-bound, clause-bound, parameters-bound, named-bound, given-typed}
+use Rattle.fort_elab_meaning.specs.Parts.{Given}
+use Rattle.fort_elab_meaning.specs.Items.{block}
+use Rattle.fort_elab_meaning.specs.Translated.{translated, part}
 use Rattle.fort_sound_forms.specs.Figures.{HasFigures}
 use Rattle.fort_sound_forms.specs.Suits.{Suits}
 use Rattle.fort_sound_forms.specs.Forms.{FormsHaveTypes}

@@ -3,11 +3,11 @@ use Rattle.std.proofs.Common.{◌≡◌, suc, Bool, true, false, cond, List, [],
 use Rattle.std.specs.Prelude.{nat_eq, slice_get}
 use Rattle.fort_base.specs.declared.ids.NameId.{NameId}
 use Rattle.fort_base.specs.declared.ids.TypeId.{TypeId}
-use Rattle.fort_set.specs.declared.field.Field.{Field}
+use Rattle.fort_types_sets.specs.declared.field.Field.{Field}
 use Rattle.fort_scope.specs.declared.binding.Binding.{Binding}
-use Rattle.fort_known.specs.Known.{Knows}
-use Rattle.fort_known.specs.Names.{Standing, a_binding, a_field, a_variable, a_single, functions, nothing, bound, field_in, number_in, field_of, variable, single, standing_single, standing_top, standing_field, standing_within, standing_bound, standing}
-use Rattle.fort_known.specs.Sets.{is_function}
+use Rattle.fort_typing_known.specs.Known.{Knows}
+use Rattle.fort_typing_known.specs.Names.{Standing, a_binding, a_field, a_variable, a_single, functions, nothing, bound, field_in, number_in, field_of, variable, single, standing_single, standing_top, standing_field, standing_within, standing_bound, standing}
+use Rattle.fort_typing_known.specs.Sets.{is_function}
 
 module _ (k : Knows) (bs : List Binding) (name : NameId) where
   abbrev pub Says : Standing → Type 0

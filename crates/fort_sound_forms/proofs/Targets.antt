@@ -5,31 +5,31 @@ use Rattle.fort_base.specs.declared.ids.SetId.{SetId}
 use Rattle.fort_base.specs.declared.ids.TypeId.{TypeId}
 use Rattle.fort_base.specs.declared.ty.Ty.{Ty, out-Ty}
 use Rattle.fort_base.specs.declared.ty.Ty.TheVariants as a_type
-use Rattle.fort_set.specs.declared.field.Field.{Field}
+use Rattle.fort_types_sets.specs.declared.field.Field.{Field}
 use Rattle.fort_scope.specs.declared.binding.Binding.{Binding}
-use Rattle.fort_typed_form.specs.declared.typed_form.TypedForm.{TypedForm, out-TypedForm, the_lemmas}
-use Rattle.fort_typed_form.specs.declared.typed_form.TypedForm.TheVariants as a_typed
-use Rattle.fort_typed_form.specs.declared.typed_form.TypedForm.TheOpen.{TypedForm-F}
-use Rattle.fort_builtin.specs.Objects.{location}
+use Rattle.fort_form_typed.specs.declared.typed_form.TypedForm.{TypedForm, out-TypedForm, the_lemmas}
+use Rattle.fort_form_typed.specs.declared.typed_form.TypedForm.TheVariants as a_typed
+use Rattle.fort_form_typed.specs.declared.typed_form.TypedForm.TheOpen.{TypedForm-F}
+use Rattle.fort_types_builtin.specs.Objects.{location}
 use Rattle.fort_core.specs.declared.form.Slot.TheVariants as slot
 use Rattle.fort_core.specs.declared.program.Program.{Program}
 use Rattle.fort_core.specs.declared.term.Term.{Term, Variable, Read, Write, ReadField, WriteField, ReadElement, WriteElement}
-use Rattle.fort_known.specs.Known.{Knows}
-use Rattle.fort_known.specs.Names.{field_of, field_at}
-use Rattle.fort_typed.specs.Envs.{Env, fixed, cell, bind}
-use Rattle.fort_typed.specs.Typing.{Below, unit_type, Makes, FieldOf, Has}
-use Rattle.fort_typed.specs.Sound.{opening}
-use Rattle.fort_typed.proofs.Bind.{bind_at}
-use Rattle.fort_typed.proofs.Rules.{sub}
+use Rattle.fort_typing_known.specs.Known.{Knows}
+use Rattle.fort_typing_known.specs.Names.{field_of, field_at}
+use Rattle.fort_sound_typed.specs.Envs.{Env, fixed, cell, bind}
+use Rattle.fort_sound_typed.specs.Typing.{Below, unit_type, Makes, FieldOf, Has}
+use Rattle.fort_sound_typed.specs.Sound.{opening}
+use Rattle.fort_sound_typed.proofs.Bind.{bind_at}
+use Rattle.fort_sound_typed.proofs.Rules.{sub}
 use Rattle.fort_typing_rules.specs.Types.{unit, type_at, type_of}
 use Rattle.fort_typing_rules.specs.Elements.{chosen}
 use Rattle.fort_typing_rules.specs.Typing.{is_mutable, takes_at}
-use Rattle.fort_typing_laws.specs.Deciding.{IsAccepted}
-use Rattle.fort_translation.specs.Making.{Maker, number_of, one, letting}
-use Rattle.fort_translation.specs.Parts.{Given}
-use Rattle.fort_translation.specs.Calls.{operated}
-use Rattle.fort_translation.specs.Targets.{assigned, raised, updated}
-use Rattle.fort_translation.specs.Translated.{role_at, translated, part}
+use Rattle.fort_typing_law_rules.specs.Deciding.{IsAccepted}
+use Rattle.fort_elab_meaning.specs.Making.{Maker, number_of, one, letting}
+use Rattle.fort_elab_meaning.specs.Parts.{Given}
+use Rattle.fort_elab_meaning.specs.Calls.{operated}
+use Rattle.fort_elab_meaning.specs.Targets.{assigned, raised, updated}
+use Rattle.fort_elab_meaning.specs.Translated.{role_at, translated, part}
 use Rattle.fort_sound_forms.specs.Forms.{sort}
 use Rattle.fort_sound_forms.specs.Suits.{Suits}
 use Rattle.fort_sound_forms.proofs.Names.{kept}

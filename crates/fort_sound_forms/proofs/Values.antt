@@ -5,23 +5,23 @@ use Rattle.std.specs.Int.{w32, w64}
 use Rattle.std.proofs.lemmas.Bool.{leb-true, lt-ltb}
 use Rattle.fort_base.specs.declared.ty.Ty.{Ty}
 use Rattle.fort_base.specs.declared.ty.Ty.TheVariants.{outs-Named}
-use Rattle.fort_builtin.specs.declared.types.TheConstants.{MATCH_FAILURE, EMPTY_REDUCTION}
+use Rattle.fort_types_builtin.specs.declared.types.TheConstants.{MATCH_FAILURE, EMPTY_REDUCTION}
 use Rattle.fort_form.specs.declared.form.Reduction.{Reduction}
 use Rattle.fort_form.specs.declared.form.Reduction.TheVariants as a_reduction
 use Rattle.fort_core.specs.declared.program.Program.{Program}
 use Rattle.fort_core.specs.declared.term.Term as term
 use Rattle.fort_core.specs.declared.value.Value.{Value, Small, Large, Truth, Text}
 use Rattle.fort_core.specs.declared.value.Value.TheVariants.{outs-Small, outs-Large, outs-Truth, outs-Text, outs-Tuple}
-use Rattle.fort_known.specs.Known.{Knows}
-use Rattle.fort_typed.specs.Envs.{Env}
-use Rattle.fort_typed.specs.Typing.{is_same, unit_type, IsNumber, Has, parts0, HasV, vs0}
-use Rattle.fort_typed.specs.Sound.{opening}
-use Rattle.fort_typed.proofs.Order.{itself}
-use Rattle.fort_typed.proofs.Rules.{has_v_at, has_value, has_thrown}
+use Rattle.fort_typing_known.specs.Known.{Knows}
+use Rattle.fort_sound_typed.specs.Envs.{Env}
+use Rattle.fort_sound_typed.specs.Typing.{is_same, unit_type, IsNumber, Has, parts0, HasV, vs0}
+use Rattle.fort_sound_typed.specs.Sound.{opening}
+use Rattle.fort_sound_typed.proofs.Order.{itself}
+use Rattle.fort_sound_typed.proofs.Rules.{has_v_at, has_value, has_thrown}
 use Rattle.fort_typing_rules.specs.Types.{zz32, zz64, string, boolean, number_type}
 use Rattle.fort_typing_rules.specs.Typing as rule
-use Rattle.fort_translation.specs.Parts.{Given}
-use Rattle.fort_translation.specs.Values.{unit_term, number, single, no_match, no_item, is_large_at, number_as, neutral}
+use Rattle.fort_elab_meaning.specs.Parts.{Given}
+use Rattle.fort_elab_meaning.specs.Values.{unit_term, number, single, no_match, no_item, is_large_at, number_as, neutral}
 use Rattle.fort_sound_forms.specs.Suits.{Suits}
 
 small_within : (n : ℕ) → n ≤ 2147483647 → IsNumber w32 (pos n)

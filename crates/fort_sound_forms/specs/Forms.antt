@@ -7,22 +7,22 @@ use Rattle.fort_base.specs.declared.ty.Ty.{Ty}
 use Rattle.fort_base.specs.declared.ty.Ty.TheVariants.{Named}
 use Rattle.fort_scope.specs.declared.binding.Binding.{Binding}
 use Rattle.fort_form.specs.declared.form.Form.{Form}
-use Rattle.fort_typed_form.specs.declared.typed_form.TypedForm.{TypedForm}
+use Rattle.fort_form_typed.specs.declared.typed_form.TypedForm.{TypedForm}
 use Rattle.fort_core.specs.declared.program.Program.{Program}
-use Rattle.fort_typed.specs.Envs.{Sort, fixed, cell, Env}
-use Rattle.fort_typed.specs.Typing as typed
-use Rattle.fort_typed.specs.Sound.{opening}
-use Rattle.fort_known.specs.Known.{Knows}
-use Rattle.fort_known.specs.Names.{bound}
+use Rattle.fort_sound_typed.specs.Envs.{Sort, fixed, cell, Env}
+use Rattle.fort_sound_typed.specs.Typing as typed
+use Rattle.fort_sound_typed.specs.Sound.{opening}
+use Rattle.fort_typing_known.specs.Known.{Knows}
+use Rattle.fort_typing_known.specs.Names.{bound}
 use Rattle.fort_typing_rules.specs.Types.{type_of}
 use Rattle.fort_typing_rules.specs.Calls.{Calls}
 use Rattle.fort_typing_rules.specs.Typing.{Has}
-use Rattle.fort_typing_laws.specs.Deciding.{IsAccepted}
-use Rattle.fort_typing_laws.specs.Written.{IsWritten, AreBound}
-use Rattle.fort_translation.specs.declared.counter.Counter.{Counter}
-use Rattle.fort_translation.specs.Making.{Scope, number_of}
-use Rattle.fort_translation.specs.Parts.{Given}
-use Rattle.fort_translation.specs.Translated.{translated}
+use Rattle.fort_typing_law_rules.specs.Deciding.{IsAccepted}
+use Rattle.fort_typing_law_rules.specs.Written.{IsWritten, AreBound}
+use Rattle.fort_elab_meaning.specs.declared.counter.Counter.{Counter}
+use Rattle.fort_elab_meaning.specs.Making.{Scope, number_of}
+use Rattle.fort_elab_meaning.specs.Parts.{Given}
+use Rattle.fort_elab_meaning.specs.Translated.{translated}
 use Rattle.fort_sound_forms.specs.Figures.{HasFigures}
 use Rattle.fort_sound_forms.specs.Suits.{Suits}
 

@@ -6,29 +6,29 @@ use Rattle.fort_base.specs.declared.ids.SetId.{SetId}
 use Rattle.fort_base.specs.declared.ids.TypeId.{TypeId}
 use Rattle.fort_base.specs.declared.ty.Ty.{Ty}
 use Rattle.fort_base.specs.declared.ty.Ty.TheVariants.{Named}
-use Rattle.fort_set.specs.declared.field.Field.{Field}
-use Rattle.fort_set.specs.declared.member.Member.{Member}
-use Rattle.fort_set.specs.declared.member.MemberSet.{MemberSet}
-use Rattle.fort_set.specs.Rules.{StandsAt}
+use Rattle.fort_types_sets.specs.declared.field.Field.{Field}
+use Rattle.fort_types_sets.specs.declared.member.Member.{Member}
+use Rattle.fort_types_sets.specs.declared.member.MemberSet.{MemberSet}
+use Rattle.fort_types_sets.specs.Rules.{StandsAt}
 use Rattle.fort_form.specs.declared.form.Reduction.{Reduction}
 use Rattle.fort_core.specs.declared.program.CoreDecl.{CoreDecl}
 use Rattle.fort_core.specs.declared.program.CoreSet.{CoreSet}
 use Rattle.fort_core.specs.declared.program.CoreShape.{CoreShape}
 use Rattle.fort_core.specs.declared.program.Program.{Program}
 use Rattle.fort_machine.specs.Types.{below}
-use Rattle.fort_typed.specs.Typing.{small_type, truth_type, thrown_type, ShapeOf, Makes, FieldOf, HasV, Called}
-use Rattle.fort_typed.specs.Signatures.{large_type, text_type, range_type}
-use Rattle.fort_typed.specs.Sound.{RowsThrough, opening}
-use Rattle.fort_builtin.specs.declared.types.TheConstants.{MATCH_FAILURE, EMPTY_REDUCTION, RANGE}
-use Rattle.fort_known.specs.Known.{Knows}
-use Rattle.fort_known.specs.Names.{field_of, single}
-use Rattle.fort_known.specs.Sets.{operator_set}
+use Rattle.fort_sound_typed.specs.Typing.{small_type, truth_type, thrown_type, ShapeOf, Makes, FieldOf, HasV, Called}
+use Rattle.fort_sound_typed.specs.Signatures.{large_type, text_type, range_type}
+use Rattle.fort_sound_typed.specs.Sound.{RowsThrough, opening}
+use Rattle.fort_types_builtin.specs.declared.types.TheConstants.{MATCH_FAILURE, EMPTY_REDUCTION, RANGE}
+use Rattle.fort_typing_known.specs.Known.{Knows}
+use Rattle.fort_typing_known.specs.Names.{field_of, single}
+use Rattle.fort_typing_known.specs.Sets.{operator_set}
 use Rattle.fort_typing_rules.specs.Types.{zz32, zz64, string, boolean, exception, IsBelow}
 use Rattle.fort_typing_rules.specs.Calls.{set_at}
 use Rattle.fort_typing_rules.specs.Typing as rule
-use Rattle.fort_typing_laws.specs.Deciding.{IsType}
-use Rattle.fort_translation.specs.Parts.{Given}
-use Rattle.fort_translation.specs.Values as translation
+use Rattle.fort_typing_law_rules.specs.Deciding.{IsType}
+use Rattle.fort_elab_meaning.specs.Parts.{Given}
+use Rattle.fort_elab_meaning.specs.Values as translation
 
 -- A declaration of a component's set stands in the program's set of the same number, with its
 -- parameters and its result.

@@ -3,23 +3,23 @@ use Rattle.std.proofs.Common.{◌≡◌, ℕ, List, Option, Some, None, refl, sy
 use Rattle.std.specs.Prelude.{option_map, option_and_then, length}
 use Rattle.std.specs.List.{slice_get}
 use Rattle.fort_base.specs.declared.refusal.Place.{Place}
-use Rattle.fort_builtin.specs.Declarations.{primitives_of}
+use Rattle.fort_types_builtin.specs.Declarations.{primitives_of}
 use Rattle.fort_core.specs.declared.primitive.Primitive.{Primitive}
 use Rattle.fort_core.specs.declared.program.CoreBody.TheVariants as body
 use Rattle.fort_core.specs.declared.program.Program.{Program}
 use Rattle.fort_core.specs.declared.term.Term.{Term}
 use Rattle.fort_hier.specs.declared.accepted.Hierarchy.{Hierarchy}
-use Rattle.fort_set.specs.declared.member.Member.{Member}
-use Rattle.fort_set.specs.declared.member.MemberKind.{MemberKind}
-use Rattle.fort_set.specs.declared.member.MemberKind.TheVariants as a_kind
-use Rattle.fort_set.specs.declared.member.MemberSet.{MemberSet}
-use Rattle.fort_set.specs.declared.member.Members.{Members}
-use Rattle.fort_typed_form.specs.declared.component.Typed.{Typed}
-use Rattle.fort_typed.specs.Envs.{none, binds}
-use Rattle.fort_typed.specs.Typing.{Has}
-use Rattle.fort_typed.specs.Sound.{opening, numbered}
-use Rattle.fort_translation.specs.Bodies.{body_at}
-use Rattle.fort_translation.specs.Programs.{core_body, IsProgramOf}
+use Rattle.fort_types_sets.specs.declared.member.Member.{Member}
+use Rattle.fort_types_sets.specs.declared.member.MemberKind.{MemberKind}
+use Rattle.fort_types_sets.specs.declared.member.MemberKind.TheVariants as a_kind
+use Rattle.fort_types_sets.specs.declared.member.MemberSet.{MemberSet}
+use Rattle.fort_types_sets.specs.declared.member.Members.{Members}
+use Rattle.fort_form_typed.specs.declared.component.Typed.{Typed}
+use Rattle.fort_sound_typed.specs.Envs.{none, binds}
+use Rattle.fort_sound_typed.specs.Typing.{Has}
+use Rattle.fort_sound_typed.specs.Sound.{opening, numbered}
+use Rattle.fort_elab_meaning.specs.Bodies.{body_at}
+use Rattle.fort_elab_meaning.specs.Programs.{core_body, IsProgramOf}
 use Rattle.fort_sound_program.specs.Laws.{BodiesHave, MembersHave}
 use Rattle.fort_sound_program.proofs.Declared.{table, member_of}
 use Rattle.fort_sound_program.proofs.Flat.{some_of}

@@ -7,14 +7,14 @@ use Rattle.std.specs.Str.{bytes_eq}
 use Rattle.std.specs.Cmp.Lexicographic.{bytes_decides}
 use Rattle.fort_base.specs.declared.ty.Ty.{Ty}
 use Rattle.fort_tree.specs.declared.declarations.Component.{Component}
-use Rattle.fort_builtin.specs.declared.table.BuiltInDeclaration.{BuiltInDeclaration}
-use Rattle.fort_builtin.specs.Declarations.{declarations}
-use Rattle.fort_set.specs.declared.member.Member.{Member}
-use Rattle.fort_set.specs.declared.member.MemberSet.{MemberSet}
-use Rattle.fort_set.specs.declared.member.Members.{Members}
-use Rattle.fort_set.specs.Rules.{StandsAt}
-use Rattle.fort_field.specs.Own.{types_of}
-use Rattle.fort_field.proofs.Items.{get_left}
+use Rattle.fort_types_builtin.specs.declared.table.BuiltInDeclaration.{BuiltInDeclaration}
+use Rattle.fort_types_builtin.specs.Declarations.{declarations}
+use Rattle.fort_types_sets.specs.declared.member.Member.{Member}
+use Rattle.fort_types_sets.specs.declared.member.MemberSet.{MemberSet}
+use Rattle.fort_types_sets.specs.declared.member.Members.{Members}
+use Rattle.fort_types_sets.specs.Rules.{StandsAt}
+use Rattle.fort_member_fields.specs.Own.{types_of}
+use Rattle.fort_member_fields.proofs.Items.{get_left}
 use Rattle.fort_member.specs.declared.entries.Entry.{Entry}
 use Rattle.fort_member.specs.Answers.{AreMembers}
 use Rattle.fort_member.specs.BuiltIn.{built_in_entry, built_in_entries}
@@ -22,7 +22,7 @@ use Rattle.fort_member.specs.Declarations.{declared_entries, entries_of}
 use Rattle.fort_member.specs.Sets.{Key, key_of, belongs, member_of, keys_of, set_of, sets_of}
 use Rattle.fort_member.proofs.SetLaws.{key_same, get_mapped, get_of_mapped}
 use Rattle.fort_member.proofs.WellMadeLaws.{comes_from, width_is}
-use Rattle.fort_known.specs.Sets.{width_of, is_set_of, first_set}
+use Rattle.fort_typing_known.specs.Sets.{width_of, is_set_of, first_set}
 use Rattle.fort_typing_rules.specs.Types.{zz32, zz64, boolean}
 use Rattle.fort_sound_program.proofs.Entries.{filtered, has_key}
 use Rattle.std.specs.List.{flat_map}

@@ -8,17 +8,17 @@ use Rattle.fort_types.specs.declared.hierarchy.DeclaredType.{DeclaredType}
 use Rattle.fort_types.specs.declared.hierarchy.TypeKind.TheVariants as a_kind
 use Rattle.fort_types.specs.Hierarchy.{Path, stop, along, Leaf}
 use Rattle.fort_tree.specs.declared.declarations.Component.{Component}
-use Rattle.fort_builtin.specs.declared.types.TheConstants.{TYPE_COUNT}
-use Rattle.fort_builtin.specs.Types.{built_in_declared}
-use Rattle.fort_builtin.proofs.PlainTypes.{plain_at, built_in_count}
+use Rattle.fort_types_builtin.specs.declared.types.TheConstants.{TYPE_COUNT}
+use Rattle.fort_types_builtin.specs.Types.{built_in_declared}
+use Rattle.fort_types_builtin.proofs.PlainTypes.{plain_at, built_in_count}
 use Rattle.fort_hier.specs.Heads.{heads_of}
 use Rattle.fort_hier.specs.Hierarchies.{declares}
 use Rattle.fort_hier.specs.Numbers.{all_types, declared_by}
 use Rattle.fort_hier.proofs.NamesWalk.{as_long}
-use Rattle.fort_set.specs.declared.field.Field.{Field}
-use Rattle.fort_field.proofs.Items.{get_left, one}
-use Rattle.fort_field.specs.Inherited.{Declares, Has, declared, inherited}
-use Rattle.fort_field.specs.Own.{own_fields, declared_own, types_of}
+use Rattle.fort_types_sets.specs.declared.field.Field.{Field}
+use Rattle.fort_member_fields.proofs.Items.{get_left, one}
+use Rattle.fort_member_fields.specs.Inherited.{Declares, Has, declared, inherited}
+use Rattle.fort_member_fields.specs.Own.{own_fields, declared_own, types_of}
 use Rattle.fort_sound_program.proofs.Placed.{either_side}
 
 pub there : {X : Type 0} (xs : List X) (i : ℕ) → i < length xs → (x : X) × (slice_get xs i ≡ Some x)

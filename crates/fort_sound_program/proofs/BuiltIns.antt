@@ -19,26 +19,26 @@ use Rattle.fort_core.specs.declared.program.Program.{Program}
 use Rattle.fort_core.specs.declared.value.Value.{Value, Object as ObjectValue}
 use Rattle.fort_machine.specs.Acts.{single, object_of}
 use Rattle.fort_machine.specs.Forms.{place_of}
-use Rattle.fort_token.specs.declared.token.Tokens.{Tokens}
+use Rattle.fort_lex_token.specs.declared.token.Tokens.{Tokens}
 use Rattle.fort_tree.specs.declared.declarations.Component.{Component}
 use Rattle.fort_tree.specs.declared.grouped.Groups.{Groups}
-use Rattle.fort_builtin.specs.declared.types.TheConstants.{BUILT_IN, TYPE_COUNT, OBJECT, EXCEPTION}
-use Rattle.fort_builtin.specs.Objects.{location, kind_at, shape_at, place_behind, shapes_of, shapes_from}
-use Rattle.fort_builtin.specs.Types.{BuiltInType, types, declared_by_row, above_of}
-use Rattle.fort_builtin.proofs.PlainTypes.{plain_at}
+use Rattle.fort_types_builtin.specs.declared.types.TheConstants.{BUILT_IN, TYPE_COUNT, OBJECT, EXCEPTION}
+use Rattle.fort_types_builtin.specs.Objects.{location, kind_at, shape_at, place_behind, shapes_of, shapes_from}
+use Rattle.fort_types_builtin.specs.Types.{BuiltInType, types, declared_by_row, above_of}
+use Rattle.fort_types_builtin.proofs.PlainTypes.{plain_at}
 use Rattle.fort_hier.specs.declared.accepted.Hierarchy.{Hierarchy}
 use Rattle.fort_hier.specs.Hierarchies.{declares}
-use Rattle.fort_set.specs.declared.member.Members.{Members}
-use Rattle.fort_field.proofs.Items.{get_left, one}
+use Rattle.fort_types_sets.specs.declared.member.Members.{Members}
+use Rattle.fort_member_fields.proofs.Items.{get_left, one}
 use Rattle.fort_member.proofs.Numbered.{named_numbered}
-use Rattle.fort_typed_form.specs.declared.component.Typed.{Typed}
-use Rattle.fort_typed.specs.Typing.{Below, ShapeOf, Makes, FieldOf, HasV, thrown_type}
-use Rattle.fort_typed.specs.Sound.{opening, IsFailure, Under}
-use Rattle.fort_typed.specs.Goes.{IsBuiltIn}
-use Rattle.fort_typed.proofs.Computed.{through}
-use Rattle.fort_typed.proofs.Order.{transitive}
-use Rattle.fort_typed.proofs.Rules.{sub_v}
-use Rattle.fort_translation.specs.Shapes.{own_shapes, shapes}
+use Rattle.fort_form_typed.specs.declared.component.Typed.{Typed}
+use Rattle.fort_sound_typed.specs.Typing.{Below, ShapeOf, Makes, FieldOf, HasV, thrown_type}
+use Rattle.fort_sound_typed.specs.Sound.{opening, IsFailure, Under}
+use Rattle.fort_sound_typed.specs.Goes.{IsBuiltIn}
+use Rattle.fort_sound_typed.proofs.Computed.{through}
+use Rattle.fort_sound_typed.proofs.Order.{transitive}
+use Rattle.fort_sound_typed.proofs.Rules.{sub_v}
+use Rattle.fort_elab_meaning.specs.Shapes.{own_shapes, shapes}
 use Rattle.fort_sound_program.specs.Checked.{Checked}
 use Rattle.fort_sound_program.proofs.BuiltInTypes.{stays, counted, built_in_at}
 use Rattle.fort_sound_program.proofs.Order.{type_number, below, path, only_itself, rows_through}

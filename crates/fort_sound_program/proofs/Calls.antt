@@ -13,22 +13,22 @@ use Rattle.fort_core.specs.declared.program.CoreDecl.{CoreDecl}
 use Rattle.fort_core.specs.declared.program.CoreSet.{CoreSet}
 use Rattle.fort_core.specs.declared.program.Program.{Program}
 use Rattle.fort_machine.specs.Types.{all_below}
-use Rattle.fort_token.specs.declared.token.Tokens.{Tokens}
+use Rattle.fort_lex_token.specs.declared.token.Tokens.{Tokens}
 use Rattle.fort_tree.specs.declared.declarations.Component.{Component}
 use Rattle.fort_tree.specs.declared.grouped.Groups.{Groups}
 use Rattle.fort_hier.specs.declared.accepted.Hierarchy.{Hierarchy}
 use Rattle.fort_hier.specs.Hierarchies.{declares}
-use Rattle.fort_set.specs.declared.member.Member.{Member}
-use Rattle.fort_set.specs.declared.member.MemberSet.{MemberSet}
-use Rattle.fort_set.specs.declared.member.Members.{Members}
-use Rattle.fort_set.specs.Rules.{StandsAt}
-use Rattle.fort_field.proofs.Items.{of_get, one}
+use Rattle.fort_types_sets.specs.declared.member.Member.{Member}
+use Rattle.fort_types_sets.specs.declared.member.MemberSet.{MemberSet}
+use Rattle.fort_types_sets.specs.declared.member.Members.{Members}
+use Rattle.fort_types_sets.specs.Rules.{StandsAt}
+use Rattle.fort_member_fields.proofs.Items.{of_get, one}
 use Rattle.fort_member.proofs.Numbered.{named_numbered}
-use Rattle.fort_typed_form.specs.declared.component.Typed.{Typed}
-use Rattle.fort_known.specs.Sets.{is_set_of, first_set}
+use Rattle.fort_form_typed.specs.declared.component.Typed.{Typed}
+use Rattle.fort_typing_known.specs.Sets.{is_set_of, first_set}
 use Rattle.fort_typing_rules.specs.Types.{zz32, zz64, boolean}
-use Rattle.fort_typed.specs.Typing.{Called}
-use Rattle.fort_translation.specs.Programs.{core_sets, function_set}
+use Rattle.fort_sound_typed.specs.Typing.{Called}
+use Rattle.fort_elab_meaning.specs.Programs.{core_sets, function_set}
 use Rattle.fort_sound_program.specs.Checked.{Checked}
 use Rattle.fort_sound_program.proofs.BuiltInSets.{BuiltIn, widening, built_in_first}
 use Rattle.fort_sound_program.proofs.BuiltInTypes.{counted}

@@ -8,28 +8,28 @@ use Rattle.std.proofs.lemmas.Int.{ints}
 use Rattle.fort_base.specs.declared.ids.TypeId.{TypeId}
 use Rattle.fort_base.specs.declared.ty.Ty.{Ty}
 use Rattle.fort_base.specs.declared.ty.Ty.TheVariants.{Named}
-use Rattle.fort_builtin.specs.declared.types.TheConstants.{BUILT_IN}
+use Rattle.fort_types_builtin.specs.declared.types.TheConstants.{BUILT_IN}
 use Rattle.fort_core.specs.declared.program.BuiltIn.{BuiltIn}
 use Rattle.fort_core.specs.declared.program.Program.{Program}
 use Rattle.fort_core.specs.declared.value.Value.{Small, Large, Truth, Text}
 use Rattle.fort_core.specs.declared.value.Value.TheVariants.{outs-Small, outs-Large, outs-Truth, outs-Text, outs-Tuple}
 use Rattle.fort_machine.specs.Acts.{unit}
 use Rattle.fort_form.specs.declared.form.Form.{Form}
-use Rattle.fort_typed_form.specs.declared.typed_form.Chosen.{Chosen}
-use Rattle.fort_typed_form.specs.declared.typed_form.TypedForm.{TypedForm, out-TypedForm}
-use Rattle.fort_typed_form.specs.declared.typed_form.TypedForm.TheVariants as a_typed
-use Rattle.fort_typed_form.specs.declared.typed_form.TypedForm.TheVariants.{outs-Number, outs-Text as outs-TypedText, outs-Truth as outs-TypedTruth, outs-Tuple as outs-TypedTuple, outs-Operation}
+use Rattle.fort_form_typed.specs.declared.typed_form.Chosen.{Chosen}
+use Rattle.fort_form_typed.specs.declared.typed_form.TypedForm.{TypedForm, out-TypedForm}
+use Rattle.fort_form_typed.specs.declared.typed_form.TypedForm.TheVariants as a_typed
+use Rattle.fort_form_typed.specs.declared.typed_form.TypedForm.TheVariants.{outs-Number, outs-Text as outs-TypedText, outs-Truth as outs-TypedTruth, outs-Tuple as outs-TypedTuple, outs-Operation}
 use Rattle.fort_types.specs.Types.{IsNumbered}
 use Rattle.fort_member.proofs.Numbered.{named_numbered, tuple_numbered}
-use Rattle.fort_known.specs.Known.{Knows}
+use Rattle.fort_typing_known.specs.Known.{Knows}
 use Rattle.fort_typing_rules.specs.Types.{zz32, zz64, string, boolean, number_type, type_at, type_of}
 use Rattle.fort_typing_rules.specs.Components.{IsConstant, number, negative, words, truth, nothing}
-use Rattle.fort_typed.specs.Envs.{Sig}
-use Rattle.fort_typed.specs.Typing.{is_same, unit_type, small_type, truth_type, IsNumber, HasV, parts0, vs0}
-use Rattle.fort_typed.specs.Signatures.{large_type, text_type}
-use Rattle.fort_typed.proofs.Rules.{has_v_at}
-use Rattle.fort_translation.specs.Values.{constant_at, constant, negative_of, negative_at}
-use Rattle.fort_translation.specs.Values as translation
+use Rattle.fort_sound_typed.specs.Envs.{Sig}
+use Rattle.fort_sound_typed.specs.Typing.{is_same, unit_type, small_type, truth_type, IsNumber, HasV, parts0, vs0}
+use Rattle.fort_sound_typed.specs.Signatures.{large_type, text_type}
+use Rattle.fort_sound_typed.proofs.Rules.{has_v_at}
+use Rattle.fort_elab_meaning.specs.Values.{constant_at, constant, negative_of, negative_at}
+use Rattle.fort_elab_meaning.specs.Values as translation
 use Rattle.fort_sound_program.specs.Checked.{FitsFile}
 
 -- ---- numbers

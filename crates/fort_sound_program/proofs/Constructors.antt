@@ -27,27 +27,27 @@ use Rattle.fort_tree.specs.declared.declarations.ObjectMember.TheVariants as obj
 use Rattle.fort_tree.specs.declared.declarations.ObjectParameters.{ObjectParameters}
 use Rattle.fort_tree.specs.declared.declarations.TraitMember.{TraitMember}
 use Rattle.fort_tree.specs.declared.declarations.TraitMember.TheVariants as trait_member
-use Rattle.fort_builtin.specs.declared.table.BuiltInDeclaration.{BuiltInDeclaration}
-use Rattle.fort_builtin.specs.Declarations.{declarations, primitives_of}
+use Rattle.fort_types_builtin.specs.declared.table.BuiltInDeclaration.{BuiltInDeclaration}
+use Rattle.fort_types_builtin.specs.Declarations.{declarations, primitives_of}
 use Rattle.fort_hier.specs.Names.{spelling}
 use Rattle.fort_hier.specs.Numbers.{number_of}
-use Rattle.fort_set.specs.declared.member.Member.{Member}
-use Rattle.fort_set.specs.declared.member.MemberKind.{MemberKind}
-use Rattle.fort_set.specs.declared.member.MemberKind.TheVariants as a_kind
-use Rattle.fort_set.specs.declared.member.MemberSet.{MemberSet}
-use Rattle.fort_field.specs.Own.{types_of}
+use Rattle.fort_types_sets.specs.declared.member.Member.{Member}
+use Rattle.fort_types_sets.specs.declared.member.MemberKind.{MemberKind}
+use Rattle.fort_types_sets.specs.declared.member.MemberKind.TheVariants as a_kind
+use Rattle.fort_types_sets.specs.declared.member.MemberSet.{MemberSet}
+use Rattle.fort_member_fields.specs.Own.{types_of}
 use Rattle.fort_member.specs.declared.entries.Entry.{Entry}
 use Rattle.fort_member.specs.BuiltIn.{built_in_entry, built_in_entries}
 use Rattle.fort_member.specs.Declarations.{method_kind, trait_member_entry, trait_entry, object_member_entry, object_entry, constructor_entry, entries_at, declared_entries, entries_of}
 use Rattle.fort_member.proofs.Numbered.{all_items}
 use Rattle.fort_member.proofs.SetLaws.{get_mapped}
-use Rattle.fort_typed.specs.Envs.{Sig}
-use Rattle.fort_typed.specs.Typing.{is_same, Makes, HasV, HasVs, vs0, vs1}
-use Rattle.fort_typed.specs.Sound.{opening, NewFits}
-use Rattle.fort_matched.proofs.Shapes.{get_behind}
-use Rattle.fort_matched.proofs.Types.{types_in, all_weaker}
-use Rattle.fort_translation.specs.Bodies.{body_at}
-use Rattle.fort_translation.specs.Programs.{core_body}
+use Rattle.fort_sound_typed.specs.Envs.{Sig}
+use Rattle.fort_sound_typed.specs.Typing.{is_same, Makes, HasV, HasVs, vs0, vs1}
+use Rattle.fort_sound_typed.specs.Sound.{opening, NewFits}
+use Rattle.fort_elab_law_matched.proofs.Shapes.{get_behind}
+use Rattle.fort_elab_law_matched.proofs.Types.{types_in, all_weaker}
+use Rattle.fort_elab_meaning.specs.Bodies.{body_at}
+use Rattle.fort_elab_meaning.specs.Programs.{core_body}
 use Rattle.fort_sound_program.proofs.Flat.{some_of, from_flat, only, in_types}
 use Rattle.fort_sound_program.proofs.Order.{type_number}
 use Rattle.fort_sound_program.proofs.Placed.{either_side}

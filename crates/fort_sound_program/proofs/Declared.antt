@@ -5,7 +5,7 @@ use Rattle.std.specs.List.{slice_get, Contains}
 use Rattle.fort_base.specs.declared.ids.DeclId.{DeclId}
 use Rattle.fort_base.specs.declared.ids.SetId.{SetId}
 use Rattle.fort_base.specs.declared.refusal.Place.{Place}
-use Rattle.fort_builtin.specs.Declarations.{primitives_of}
+use Rattle.fort_types_builtin.specs.Declarations.{primitives_of}
 use Rattle.fort_core.specs.declared.primitive.Primitive.{Primitive}
 use Rattle.fort_core.specs.declared.program.CoreBody.TheVariants as body
 use Rattle.fort_core.specs.declared.program.CoreDecl.{CoreDecl}
@@ -13,18 +13,18 @@ use Rattle.fort_core.specs.declared.program.CoreSet.{CoreSet}
 use Rattle.fort_core.specs.declared.program.Program.{Program}
 use Rattle.fort_core.specs.declared.term.Term.{Term}
 use Rattle.fort_hier.specs.declared.accepted.Hierarchy.{Hierarchy}
-use Rattle.fort_set.specs.declared.member.Member.{Member}
-use Rattle.fort_set.specs.declared.member.MemberKind.{MemberKind}
-use Rattle.fort_set.specs.declared.member.MemberKind.TheVariants as a_kind
-use Rattle.fort_set.specs.declared.member.MemberSet.{MemberSet}
-use Rattle.fort_set.specs.declared.member.Members.{Members}
-use Rattle.fort_set.specs.Rules.{StandsAt}
-use Rattle.fort_field.proofs.Items.{get_of}
+use Rattle.fort_types_sets.specs.declared.member.Member.{Member}
+use Rattle.fort_types_sets.specs.declared.member.MemberKind.{MemberKind}
+use Rattle.fort_types_sets.specs.declared.member.MemberKind.TheVariants as a_kind
+use Rattle.fort_types_sets.specs.declared.member.MemberSet.{MemberSet}
+use Rattle.fort_types_sets.specs.declared.member.Members.{Members}
+use Rattle.fort_types_sets.specs.Rules.{StandsAt}
+use Rattle.fort_member_fields.proofs.Items.{get_of}
 use Rattle.fort_member.proofs.SetLaws.{get_mapped, get_of_mapped}
-use Rattle.fort_typed_form.specs.declared.component.Typed.{Typed}
-use Rattle.fort_translation.specs.Bodies.{bodies, body_at}
-use Rattle.fort_translation.specs.Programs.{given, core_body, numbers, IsProgramOf}
-use Rattle.fort_defined.specs.Sets.{IsMade, ComesFrom}
+use Rattle.fort_form_typed.specs.declared.component.Typed.{Typed}
+use Rattle.fort_elab_meaning.specs.Bodies.{bodies, body_at}
+use Rattle.fort_elab_meaning.specs.Programs.{given, core_body, numbers, IsProgramOf}
+use Rattle.fort_sound_defined.specs.Sets.{IsMade, ComesFrom}
 use Rattle.fort_sound_program.proofs.Placed.{nothing_plus, number_at, numbered_at, Became, became, Placed, placed, Origin, origin}
 
 -- ---- only an abstract member is an abstract declaration

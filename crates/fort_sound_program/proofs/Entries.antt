@@ -3,10 +3,10 @@ use Rattle.std.proofs.Common.{◌≡◌, ℕ, zero, suc, Bool, true, false, not,
 use Rattle.std.specs.Prelude.{filter}
 use Rattle.std.specs.List.{slice_get, list_any, AllByRecursion}
 use Rattle.fort_tree.specs.declared.declarations.Component.{Component}
-use Rattle.fort_set.specs.declared.member.Member.{Member}
-use Rattle.fort_set.specs.declared.member.MemberSet.{MemberSet}
-use Rattle.fort_set.specs.declared.member.Members.{Members}
-use Rattle.fort_set.specs.Rules.{StandsAt}
+use Rattle.fort_types_sets.specs.declared.member.Member.{Member}
+use Rattle.fort_types_sets.specs.declared.member.MemberSet.{MemberSet}
+use Rattle.fort_types_sets.specs.declared.member.Members.{Members}
+use Rattle.fort_types_sets.specs.Rules.{StandsAt}
 use Rattle.fort_member.specs.declared.entries.Entry.{Entry}
 use Rattle.fort_member.specs.Answers.{AreMembers}
 use Rattle.fort_member.specs.Declarations.{entries_of}

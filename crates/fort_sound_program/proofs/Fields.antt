@@ -9,9 +9,9 @@ use Rattle.fort_types.specs.declared.hierarchy.TypeKind.TheVariants as a_kind
 use Rattle.fort_types.specs.Hierarchy.{DeclaredTypes, Path, stop, along, Trait, Leaf}
 use Rattle.fort_core.specs.declared.program.CoreField.{CoreField}
 use Rattle.fort_machine.specs.Forms.{place_of}
-use Rattle.fort_set.specs.declared.field.Field.{Field}
-use Rattle.fort_field.specs.Inherited.{Declares, Has, declared, inherited, IsListed, of_leaf, of_trait}
-use Rattle.fort_typed.proofs.Bind.{alike, apart, tells, self_same}
+use Rattle.fort_types_sets.specs.declared.field.Field.{Field}
+use Rattle.fort_member_fields.specs.Inherited.{Declares, Has, declared, inherited, IsListed, of_leaf, of_trait}
+use Rattle.fort_sound_typed.proofs.Bind.{alike, apart, tells, self_same}
 
 -- ---- the place of a field
 

@@ -14,24 +14,24 @@ use Rattle.fort_core.specs.declared.program.CoreShape.{CoreShape}
 use Rattle.fort_core.specs.declared.program.Program.{Program}
 use Rattle.fort_machine.specs.Forms.{place_of}
 use Rattle.fort_tree.specs.declared.declarations.Component.{Component}
-use Rattle.fort_type_names.specs.TypeNames.{type_names}
-use Rattle.fort_builtin.specs.declared.types.TheConstants.{TYPE_COUNT}
-use Rattle.fort_builtin.specs.Types.{types}
+use Rattle.fort_tree_type_names.specs.TypeNames.{type_names}
+use Rattle.fort_types_builtin.specs.declared.types.TheConstants.{TYPE_COUNT}
+use Rattle.fort_types_builtin.specs.Types.{types}
 use Rattle.fort_hier.specs.declared.accepted.Hierarchy.{Hierarchy}
 use Rattle.fort_hier.specs.Heads.{heads_of, head_place}
 use Rattle.fort_hier.specs.Hierarchies.{declares, places_of, IsHierarchy}
 use Rattle.fort_hier.proofs.NamesWalk.{as_long}
-use Rattle.fort_set.specs.declared.field.Field.{Field}
-use Rattle.fort_set.specs.declared.member.Members.{Members}
-use Rattle.fort_field.specs.Inherited.{Declares, Has}
-use Rattle.fort_field.specs.Own.{own_fields}
-use Rattle.fort_field.specs.Rules.{IsMissing, IsWider, LacksField, not_below}
-use Rattle.fort_field.proofs.Items.{of_get, get_of, one}
+use Rattle.fort_types_sets.specs.declared.field.Field.{Field}
+use Rattle.fort_types_sets.specs.declared.member.Members.{Members}
+use Rattle.fort_member_fields.specs.Inherited.{Declares, Has}
+use Rattle.fort_member_fields.specs.Own.{own_fields}
+use Rattle.fort_member_fields.specs.Rules.{IsMissing, IsWider, LacksField, not_below}
+use Rattle.fort_member_fields.proofs.Items.{of_get, get_of, one}
 use Rattle.fort_member.specs.Answers.{AreMembers}
 use Rattle.fort_member.proofs.SetLaws.{get_mapped, get_of_mapped}
-use Rattle.fort_typed.specs.Typing.{Below, is_same, is_told, ShapeOf, Makes, FieldOf}
-use Rattle.fort_typed.specs.Sound.{Under}
-use Rattle.fort_translation.specs.Shapes.{Initial, core_field, shapes}
+use Rattle.fort_sound_typed.specs.Typing.{Below, is_same, is_told, ShapeOf, Makes, FieldOf}
+use Rattle.fort_sound_typed.specs.Sound.{Under}
+use Rattle.fort_elab_meaning.specs.Shapes.{Initial, core_field, shapes}
 use Rattle.fort_sound_program.proofs.Order.{type_number, sound, computed, path}
 use Rattle.fort_sound_program.proofs.Shapes.{rows_long, Told, built_in, own, told, made_leaf}
 use Rattle.fort_sound_program.proofs.BuiltInTypes.{there, counted, stays}

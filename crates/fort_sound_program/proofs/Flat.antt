@@ -5,7 +5,7 @@ use Rattle.fort_tree.specs.declared.declarations.Declaration.{Declaration}
 use Rattle.fort_tree.specs.declared.declarations.Declaration.TheVariants as declaration
 use Rattle.fort_tree.specs.declared.declarations.Declared.{Declared}
 use Rattle.fort_tree.specs.declared.declarations.Object.{Object}
-use Rattle.fort_matched.proofs.Types.{type_of, types_in}
+use Rattle.fort_elab_law_matched.proofs.Types.{type_of, types_in}
 use Rattle.fort_sound_program.proofs.Placed.{either_side}
 
 pub some_of : {X : Type 0} {x y : X} → Some x ≡ Some y → x ≡ y

@@ -18,34 +18,34 @@ use Rattle.fort_tree.specs.declared.declarations.Object.{Object}
 use Rattle.fort_tree.specs.declared.declarations.ObjectMember.{ObjectMember}
 use Rattle.fort_tree.specs.declared.declarations.ObjectMember.TheVariants as object_member
 use Rattle.fort_tree.specs.declared.grouped.Groups.{Groups}
-use Rattle.fort_type_names.specs.TypeNames.{type_names}
-use Rattle.fort_builtin.specs.declared.types.TheConstants.{BUILT_IN, TYPE_COUNT}
+use Rattle.fort_tree_type_names.specs.TypeNames.{type_names}
+use Rattle.fort_types_builtin.specs.declared.types.TheConstants.{BUILT_IN, TYPE_COUNT}
 use Rattle.fort_hier.specs.declared.accepted.Hierarchy.{Hierarchy}
 use Rattle.fort_hier.specs.Hierarchies.{IsHierarchy, declares}
 use Rattle.fort_hier.specs.Names.{spelling}
 use Rattle.fort_hier.specs.Numbers.{number_of}
-use Rattle.fort_set.specs.declared.field.Field.{Field}
-use Rattle.fort_set.specs.declared.member.Members.{Members}
-use Rattle.fort_field.specs.Own.{variable_field, parameter_fields, object_field, object_member_field, variables_at, declared_variables, types_of, variables_of}
-use Rattle.fort_field.proofs.Items.{one}
+use Rattle.fort_types_sets.specs.declared.field.Field.{Field}
+use Rattle.fort_types_sets.specs.declared.member.Members.{Members}
+use Rattle.fort_member_fields.specs.Own.{variable_field, parameter_fields, object_field, object_member_field, variables_at, declared_variables, types_of, variables_of}
+use Rattle.fort_member_fields.proofs.Items.{one}
 use Rattle.fort_member.specs.Answers.{AreMembers}
-use Rattle.fort_fit.specs.Fit.{known_of}
+use Rattle.fort_typing_law_ready.specs.Fit.{known_of}
 use Rattle.fort_form.specs.declared.component.InitialForm.{InitialForm}
-use Rattle.fort_forms.specs.FormsOf.{Tables, tables_of, forms_of, owner, initials, declared_initials, entry_initial, member_initial}
-use Rattle.fort_forms.specs.FormsOf as forming
-use Rattle.fort_typed_form.specs.declared.component.Typed.{Typed}
-use Rattle.fort_typed_form.specs.declared.typed_form.TypedForm.{TypedForm}
+use Rattle.fort_form_walk.specs.FormsOf.{Tables, tables_of, forms_of, owner, initials, declared_initials, entry_initial, member_initial}
+use Rattle.fort_form_walk.specs.FormsOf as forming
+use Rattle.fort_form_typed.specs.declared.component.Typed.{Typed}
+use Rattle.fort_form_typed.specs.declared.typed_form.TypedForm.{TypedForm}
 use Rattle.fort_typing_rules.specs.Components.{HasTypes, HasInitial, initial}
-use Rattle.fort_typed.specs.Envs.{Sig}
-use Rattle.fort_typed.specs.Typing.{HasV}
-use Rattle.fort_typed.proofs.Computed.{through}
-use Rattle.fort_typed.proofs.Order.{transitive}
-use Rattle.fort_typed.proofs.Rules.{sub_v}
-use Rattle.fort_translation.specs.Shapes.{Initial, same_owner}
-use Rattle.fort_translation.specs.Shapes as shaping
-use Rattle.fort_translation.specs.Values.{constant}
-use Rattle.fort_matched.proofs.Shapes.{own, own_once, get_behind}
-use Rattle.fort_matched.proofs.Types.{types_in, type_number as number_at}
+use Rattle.fort_sound_typed.specs.Envs.{Sig}
+use Rattle.fort_sound_typed.specs.Typing.{HasV}
+use Rattle.fort_sound_typed.proofs.Computed.{through}
+use Rattle.fort_sound_typed.proofs.Order.{transitive}
+use Rattle.fort_sound_typed.proofs.Rules.{sub_v}
+use Rattle.fort_elab_meaning.specs.Shapes.{Initial, same_owner}
+use Rattle.fort_elab_meaning.specs.Shapes as shaping
+use Rattle.fort_elab_meaning.specs.Values.{constant}
+use Rattle.fort_elab_law_matched.proofs.Shapes.{own, own_once, get_behind}
+use Rattle.fort_elab_law_matched.proofs.Types.{types_in, type_number as number_at}
 use Rattle.fort_sound_program.specs.Checked.{FitsFile}
 use Rattle.fort_sound_program.proofs.Order.{type_number, below, rows_through}
 use Rattle.fort_sound_program.proofs.BuiltInTypes.{counted, there}

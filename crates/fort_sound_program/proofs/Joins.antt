@@ -7,19 +7,19 @@ use Rattle.fort_types.specs.Types.{IsNumbered}
 use Rattle.fort_core.specs.declared.program.Program.{Program}
 use Rattle.fort_form.specs.declared.form.Reduction.{Reduction}
 use Rattle.fort_form.specs.declared.form.Reduction.TheVariants as a_reduction
-use Rattle.fort_token.specs.declared.token.Tokens.{Tokens}
+use Rattle.fort_lex_token.specs.declared.token.Tokens.{Tokens}
 use Rattle.fort_tree.specs.declared.declarations.Component.{Component}
 use Rattle.fort_tree.specs.declared.grouped.Groups.{Groups}
 use Rattle.fort_hier.specs.declared.accepted.Hierarchy.{Hierarchy}
 use Rattle.fort_hier.specs.Hierarchies.{declares}
-use Rattle.fort_set.specs.declared.member.Members.{Members}
-use Rattle.fort_known.specs.Known.{Knows, within}
-use Rattle.fort_known.specs.Sets.{set_of, operator_set}
-use Rattle.fort_fit.specs.Fit.{known_of}
+use Rattle.fort_types_sets.specs.declared.member.Members.{Members}
+use Rattle.fort_typing_known.specs.Known.{Knows, within}
+use Rattle.fort_typing_known.specs.Sets.{set_of, operator_set}
+use Rattle.fort_typing_law_ready.specs.Fit.{known_of}
 use Rattle.fort_typing_rules.specs.Types.{zz32, zz64, boolean}
 use Rattle.fort_typing_rules.specs.Typing as rule
-use Rattle.fort_typed_form.specs.declared.component.Typed.{Typed}
-use Rattle.fort_typed.specs.Typing.{Called}
+use Rattle.fort_form_typed.specs.declared.component.Typed.{Typed}
+use Rattle.fort_sound_typed.specs.Typing.{Called}
 use Rattle.fort_sound_program.specs.Checked.{Checked}
 use Rattle.fort_sound_program.proofs.BuiltInSets.{BuiltIn, plus_small, plus_large, times_small, times_large, max_small, max_large, min_small, min_large, and_truth, or_truth}
 use Rattle.fort_sound_program.proofs.Calls.{called_built_in, small_numbered, large_numbered, truth_numbered}

@@ -10,19 +10,19 @@ use Rattle.fort_types.specs.declared.hierarchy.TypeKind.TheVariants as a_kind
 use Rattle.fort_core.specs.declared.program.CoreField.{CoreField}
 use Rattle.fort_core.specs.declared.program.CoreKind.TheVariants as kind
 use Rattle.fort_core.specs.declared.program.CoreShape.{CoreShape}
-use Rattle.fort_builtin.specs.declared.objects.TheConstants.{OBJECT_COUNT}
-use Rattle.fort_builtin.specs.declared.types.TheConstants.{TYPE_COUNT}
-use Rattle.fort_builtin.specs.Objects.{location, shape_at, place_behind, shapes_of, shapes_from}
-use Rattle.fort_builtin.specs.Types.{BuiltInType, types}
+use Rattle.fort_types_builtin.specs.declared.objects.TheConstants.{OBJECT_COUNT}
+use Rattle.fort_types_builtin.specs.declared.types.TheConstants.{TYPE_COUNT}
+use Rattle.fort_types_builtin.specs.Objects.{location, shape_at, place_behind, shapes_of, shapes_from}
+use Rattle.fort_types_builtin.specs.Types.{BuiltInType, types}
 use Rattle.fort_hier.proofs.NamesWalk.{as_long}
-use Rattle.fort_set.specs.declared.field.Field.{Field}
-use Rattle.fort_set.specs.declared.member.MemberSet.{MemberSet}
-use Rattle.fort_set.specs.declared.member.Members.{Members}
-use Rattle.fort_field.proofs.Items.{get_left}
-use Rattle.fort_matched.proofs.Shapes.{get_behind}
-use Rattle.fort_typed.specs.Sound.{typed_at}
-use Rattle.fort_typed.proofs.Bind.{Tells, alike, apart, tells, self_same}
-use Rattle.fort_translation.specs.Shapes.{Initial, has_constructor, kind_of, core_field, places_of, shape_of, own_shapes, shapes, variable_types, field_types, types_at, types_by}
+use Rattle.fort_types_sets.specs.declared.field.Field.{Field}
+use Rattle.fort_types_sets.specs.declared.member.MemberSet.{MemberSet}
+use Rattle.fort_types_sets.specs.declared.member.Members.{Members}
+use Rattle.fort_member_fields.proofs.Items.{get_left}
+use Rattle.fort_elab_law_matched.proofs.Shapes.{get_behind}
+use Rattle.fort_sound_typed.specs.Sound.{typed_at}
+use Rattle.fort_sound_typed.proofs.Bind.{Tells, alike, apart, tells, self_same}
+use Rattle.fort_elab_meaning.specs.Shapes.{Initial, has_constructor, kind_of, core_field, places_of, shape_of, own_shapes, shapes, variable_types, field_types, types_at, types_by}
 use Rattle.fort_sound_program.proofs.Order.{type_number}
 
 -- ---- locations one after another

@@ -14,34 +14,34 @@ use Rattle.fort_tree.specs.declared.declarations.Declaration.TheVariants as decl
 use Rattle.fort_tree.specs.declared.declarations.Object.{Object}
 use Rattle.fort_tree.specs.declared.declarations.ObjectParameters.{ObjectParameters}
 use Rattle.fort_tree.specs.declared.grouped.Groups.{Groups}
-use Rattle.fort_builtin.specs.declared.types.TheConstants.{TYPE_COUNT}
-use Rattle.fort_builtin.specs.Types.{built_in_declared}
-use Rattle.fort_builtin.proofs.PlainTypes.{built_in_count}
+use Rattle.fort_types_builtin.specs.declared.types.TheConstants.{TYPE_COUNT}
+use Rattle.fort_types_builtin.specs.Types.{built_in_declared}
+use Rattle.fort_types_builtin.proofs.PlainTypes.{built_in_count}
 use Rattle.fort_hier.specs.declared.heads.TypeHead.{TypeHead}
 use Rattle.fort_hier.specs.Heads.{heads_of}
 use Rattle.fort_hier.specs.Hierarchies.{declares}
 use Rattle.fort_hier.specs.Names.{spelling}
 use Rattle.fort_hier.specs.Numbers.{number_of, all_types, declared_by}
-use Rattle.fort_set.specs.declared.field.Field.{Field}
-use Rattle.fort_set.specs.declared.member.Member.{Member}
-use Rattle.fort_set.specs.declared.member.MemberKind.TheVariants as a_member
-use Rattle.fort_set.specs.declared.member.Members.{Members}
-use Rattle.fort_set.specs.Leaves.{leaf_kind, is_leaf}
-use Rattle.fort_field.specs.Own.{object_field, types_of}
-use Rattle.fort_field.proofs.Items.{one}
+use Rattle.fort_types_sets.specs.declared.field.Field.{Field}
+use Rattle.fort_types_sets.specs.declared.member.Member.{Member}
+use Rattle.fort_types_sets.specs.declared.member.MemberKind.TheVariants as a_member
+use Rattle.fort_types_sets.specs.declared.member.Members.{Members}
+use Rattle.fort_types_sets.specs.Leaves.{leaf_kind, is_leaf}
+use Rattle.fort_member_fields.specs.Own.{object_field, types_of}
+use Rattle.fort_member_fields.proofs.Items.{one}
 use Rattle.fort_member.specs.declared.entries.Entry.{Entry}
 use Rattle.fort_member.specs.Answers.{AreMembers}
 use Rattle.fort_member.specs.BuiltIn.{built_in_entries}
 use Rattle.fort_member.specs.Declarations.{object_types, constructor_entry, object_entry, entries_at, declared_entries, entries_of}
 use Rattle.fort_member.proofs.Numbered.{all_item}
 use Rattle.fort_member.proofs.SetLaws.{get_mapped, get_of_mapped}
-use Rattle.fort_forms.specs.FormsOf.{tables_of}
-use Rattle.fort_typed_form.specs.declared.component.Typed.{Typed}
-use Rattle.fort_translation.specs.Shapes.{constructs_by, has_constructor, initial}
-use Rattle.fort_matched.proofs.Initials.{has_initial, an_initial, of_all, of_members, fields_of, some_in_all, all_have}
-use Rattle.fort_matched.proofs.Typed.{typed_keyed}
-use Rattle.fort_matched.proofs.Types.{types_in, kind_of_type, kind_of_head, kinds_are}
-use Rattle.fort_matched.proofs.Shapes.{get_behind}
+use Rattle.fort_form_walk.specs.FormsOf.{tables_of}
+use Rattle.fort_form_typed.specs.declared.component.Typed.{Typed}
+use Rattle.fort_elab_meaning.specs.Shapes.{constructs_by, has_constructor, initial}
+use Rattle.fort_elab_law_matched.proofs.Initials.{has_initial, an_initial, of_all, of_members, fields_of, some_in_all, all_have}
+use Rattle.fort_elab_law_matched.proofs.Typed.{typed_keyed}
+use Rattle.fort_elab_law_matched.proofs.Types.{types_in, kind_of_type, kind_of_head, kinds_are}
+use Rattle.fort_elab_law_matched.proofs.Shapes.{get_behind}
 use Rattle.fort_sound_program.proofs.BuiltInTypes.{there, counted}
 use Rattle.fort_sound_program.proofs.Entries.{some_member}
 use Rattle.fort_sound_program.proofs.Flat.{of_types}

@@ -12,12 +12,12 @@ use Rattle.fort_core.specs.declared.program.Program.{Program}
 use Rattle.fort_core.specs.declared.value.Value.{Value}
 use Rattle.fort_machine.specs.Acts.{unit}
 use Rattle.fort_machine.specs.Journals.{value_in}
-use Rattle.fort_set.specs.declared.field.Field.{Field}
-use Rattle.fort_typed.specs.Envs.{Sig}
-use Rattle.fort_typed.specs.Typing.{unit_type, HasV}
-use Rattle.fort_typed.specs.Sound.{typed_at}
-use Rattle.fort_typed.proofs.Bind.{Tells, alike, apart, tells}
-use Rattle.fort_translation.specs.Shapes.{Initial, initial, variables_from, variable_types, fields_from, field_types, held_at, types_at, held_by, types_by}
+use Rattle.fort_types_sets.specs.declared.field.Field.{Field}
+use Rattle.fort_sound_typed.specs.Envs.{Sig}
+use Rattle.fort_sound_typed.specs.Typing.{unit_type, HasV}
+use Rattle.fort_sound_typed.specs.Sound.{typed_at}
+use Rattle.fort_sound_typed.proofs.Bind.{Tells, alike, apart, tells}
+use Rattle.fort_elab_meaning.specs.Shapes.{Initial, initial, variables_from, variable_types, fields_from, field_types, held_at, types_at, held_by, types_by}
 
 module _ (p : Program) (S : Sig) where
   -- values and types of the same locations

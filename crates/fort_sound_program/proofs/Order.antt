@@ -10,15 +10,15 @@ use Rattle.fort_types.specs.Types.{IsNumbered}
 use Rattle.fort_types.specs.Types as types
 use Rattle.fort_types.specs.Relation.{relation}
 use Rattle.fort_tree.specs.declared.declarations.Component.{Component}
-use Rattle.fort_type_names.specs.TypeNames.{type_names}
+use Rattle.fort_tree_type_names.specs.TypeNames.{type_names}
 use Rattle.fort_hier.specs.declared.accepted.Hierarchy.{Hierarchy}
 use Rattle.fort_hier.specs.Hierarchies.{declares, IsHierarchy}
 use Rattle.fort_hier.proofs.AcceptedLaws.{accepted_sound}
-use Rattle.fort_typed.specs.Typing.{Below, is_told}
-use Rattle.fort_typed.specs.Sound.{RowsThrough}
-use Rattle.fort_typed.proofs.Computed.{turns}
-use Rattle.fort_typed.proofs.OneSided.{relation_from_one}
-use Rattle.fort_typed.proofs.Rows.{inside, rows_of_hierarchy}
+use Rattle.fort_sound_typed.specs.Typing.{Below, is_told}
+use Rattle.fort_sound_typed.specs.Sound.{RowsThrough}
+use Rattle.fort_sound_typed.proofs.Computed.{turns}
+use Rattle.fort_sound_typed.proofs.OneSided.{relation_from_one}
+use Rattle.fort_sound_typed.proofs.Rows.{inside, rows_of_hierarchy}
 
 abbrev pub type_number : ℕ → TypeId
 type_number n = record { 0 = n }

@@ -19,14 +19,14 @@ use Rattle.fort_tree.specs.declared.declarations.ObjectParameters.{ObjectParamet
 use Rattle.fort_tree.specs.declared.declarations.Parameters.{Parameters}
 use Rattle.fort_tree.specs.declared.declarations.TraitMember.{TraitMember}
 use Rattle.fort_tree.specs.declared.declarations.TraitMember.TheVariants as trait_member
-use Rattle.fort_builtin.specs.declared.table.Simple.{Simple}
-use Rattle.fort_builtin.specs.declared.table.Simple.TheVariants as simple
-use Rattle.fort_builtin.specs.declared.table.TheConstants.{DECLARATIONS}
-use Rattle.fort_builtin.specs.Declarations.{ty_of, declared_by, declarations}
+use Rattle.fort_types_builtin.specs.declared.table.Simple.{Simple}
+use Rattle.fort_types_builtin.specs.declared.table.Simple.TheVariants as simple
+use Rattle.fort_types_builtin.specs.declared.table.TheConstants.{DECLARATIONS}
+use Rattle.fort_types_builtin.specs.Declarations.{ty_of, declared_by, declarations}
 use Rattle.fort_hier.specs.Names.{Spelling, spelling}
 use Rattle.fort_hier.specs.Numbers.{number_of}
 use Rattle.fort_hier.specs.Tops.{is_functional}
-use Rattle.fort_field.specs.Own.{types_of}
+use Rattle.fort_member_fields.specs.Own.{types_of}
 use Rattle.fort_member.specs.declared.entries.Entry.{Entry}
 use Rattle.fort_member.specs.BuiltIn.{built_in_entry, built_in_entries}
 use Rattle.fort_member.specs.Declarations.{parameter_types, next_parameter_type, method_parameter_type, next_method_parameter_type, method_types, type_id, trait_member_entry, trait_entry, object_member_entry, object_entry, next_object_parameter_type, object_types, constructor_entry, entries_at, declared_entries, entries_of}

@@ -9,12 +9,12 @@ use Rattle.fort_core.specs.declared.program.CoreBody.{CoreBody}
 use Rattle.fort_core.specs.declared.program.CoreDecl.{CoreDecl}
 use Rattle.fort_core.specs.declared.program.CoreSet.{CoreSet}
 use Rattle.fort_core.specs.declared.term.Term.{Term}
-use Rattle.fort_set.specs.declared.member.Member.{Member}
-use Rattle.fort_set.specs.declared.member.MemberSet.{MemberSet}
-use Rattle.fort_set.specs.Rules.{StandsAt}
-use Rattle.fort_field.proofs.Items.{get_left}
-use Rattle.fort_matched.proofs.Shapes.{get_behind}
-use Rattle.fort_translation.specs.Programs.{core_body, core_declaration, declarations_from, declarations_of_set, numbers, core_sets}
+use Rattle.fort_types_sets.specs.declared.member.Member.{Member}
+use Rattle.fort_types_sets.specs.declared.member.MemberSet.{MemberSet}
+use Rattle.fort_types_sets.specs.Rules.{StandsAt}
+use Rattle.fort_member_fields.proofs.Items.{get_left}
+use Rattle.fort_elab_law_matched.proofs.Shapes.{get_behind}
+use Rattle.fort_elab_meaning.specs.Programs.{core_body, core_declaration, declarations_from, declarations_of_set, numbers, core_sets}
 
 -- ---- items of lists
 

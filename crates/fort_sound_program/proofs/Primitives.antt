@@ -9,21 +9,21 @@ use Rattle.fort_core.specs.declared.program.CoreBody.TheVariants as body
 use Rattle.fort_core.specs.declared.program.CoreDecl.{CoreDecl}
 use Rattle.fort_core.specs.declared.program.Program.{Program}
 use Rattle.fort_core.specs.declared.term.Term.{Term}
-use Rattle.fort_builtin.specs.declared.table.BuiltInDeclaration.{BuiltInDeclaration}
-use Rattle.fort_builtin.specs.declared.types.TheConstants.{BUILT_IN}
-use Rattle.fort_builtin.specs.Declarations.{declarations, has, declarations_of, primitive_of, primitives_of}
-use Rattle.fort_set.specs.declared.member.Member.{Member}
-use Rattle.fort_set.specs.declared.member.MemberKind.{MemberKind}
-use Rattle.fort_set.specs.declared.member.MemberKind.TheVariants as a_kind
-use Rattle.fort_set.specs.declared.member.MemberSet.{MemberSet}
-use Rattle.fort_set.specs.Rules.{StandsAt}
+use Rattle.fort_types_builtin.specs.declared.table.BuiltInDeclaration.{BuiltInDeclaration}
+use Rattle.fort_types_builtin.specs.declared.types.TheConstants.{BUILT_IN}
+use Rattle.fort_types_builtin.specs.Declarations.{declarations, has, declarations_of, primitive_of, primitives_of}
+use Rattle.fort_types_sets.specs.declared.member.Member.{Member}
+use Rattle.fort_types_sets.specs.declared.member.MemberKind.{MemberKind}
+use Rattle.fort_types_sets.specs.declared.member.MemberKind.TheVariants as a_kind
+use Rattle.fort_types_sets.specs.declared.member.MemberSet.{MemberSet}
+use Rattle.fort_types_sets.specs.Rules.{StandsAt}
 use Rattle.fort_member.specs.BuiltIn.{built_in_member}
 use Rattle.fort_member.specs.Laws.{built_in_of, HasBuiltInFirst}
 use Rattle.fort_member.proofs.Numbered.{all_item}
 use Rattle.fort_member.proofs.SetLaws.{get_mapped, get_of_mapped}
-use Rattle.fort_typed.specs.Signatures.{parameters_of, result_of}
-use Rattle.fort_translation.specs.Bodies.{body_at}
-use Rattle.fort_translation.specs.Programs.{core_body}
+use Rattle.fort_sound_typed.specs.Signatures.{parameters_of, result_of}
+use Rattle.fort_elab_meaning.specs.Bodies.{body_at}
+use Rattle.fort_elab_meaning.specs.Programs.{core_body}
 use Rattle.fort_sound_program.proofs.Placed.{either_side, Became}
 
 -- the program with the numbers of the built-in types

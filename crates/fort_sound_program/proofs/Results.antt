@@ -10,11 +10,11 @@ use Rattle.fort_types.specs.Types.{Below, Solid, IsNumbered, no_name, name, in_p
 use Rattle.fort_types.proofs.Antisymmetry.{same, same_lists}
 use Rattle.fort_types.proofs.BelowTwo.{never_below_two, below_named}
 use Rattle.fort_types.proofs.Orders.{itself}
-use Rattle.fort_set.specs.declared.member.Member.{Member}
-use Rattle.fort_set.specs.declared.member.MemberSet.{MemberSet}
-use Rattle.fort_set.specs.Applicable.{IsMoreSpecific}
-use Rattle.fort_set.specs.Pairs.{Passes, aside, ordered, reversed, met, NeverMeet, apart, strangers, AreStrangers}
-use Rattle.fort_set.specs.Rules.{StandsAt, HasNamed, IsWellMade, KeepsRules}
+use Rattle.fort_types_sets.specs.declared.member.Member.{Member}
+use Rattle.fort_types_sets.specs.declared.member.MemberSet.{MemberSet}
+use Rattle.fort_types_sets.specs.Applicable.{IsMoreSpecific}
+use Rattle.fort_types_sets.specs.Pairs.{Passes, aside, ordered, reversed, met, NeverMeet, apart, strangers, AreStrangers}
+use Rattle.fort_types_sets.specs.Rules.{StandsAt, HasNamed, IsWellMade, KeepsRules}
 use Rattle.fort_member.proofs.Numbered.{all_item}
 
 pub name_within : (n : ℕ) {t : Ty} → IsNumbered n t → (i : TypeId) → out-Ty t ≡ Ty-F.Named i

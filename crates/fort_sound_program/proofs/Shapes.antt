@@ -8,26 +8,26 @@ use Rattle.fort_types.specs.Hierarchy.{Leaf}
 use Rattle.fort_core.specs.declared.program.CoreKind.TheVariants as kind
 use Rattle.fort_core.specs.declared.program.CoreShape.{CoreShape}
 use Rattle.fort_tree.specs.declared.declarations.Component.{Component}
-use Rattle.fort_builtin.specs.declared.objects.TheConstants.{OBJECT_COUNT}
-use Rattle.fort_builtin.specs.declared.types.TheConstants.{TYPE_COUNT}
-use Rattle.fort_builtin.specs.Objects.{kind_at, shape_at, place_behind, shapes_of, shapes_from}
-use Rattle.fort_builtin.specs.Types.{BuiltInType, types, built_in_declared, declared_by_row}
-use Rattle.fort_builtin.proofs.Lists.{get_dropped}
-use Rattle.fort_builtin.proofs.PlainTypes.{built_in_count}
+use Rattle.fort_types_builtin.specs.declared.objects.TheConstants.{OBJECT_COUNT}
+use Rattle.fort_types_builtin.specs.declared.types.TheConstants.{TYPE_COUNT}
+use Rattle.fort_types_builtin.specs.Objects.{kind_at, shape_at, place_behind, shapes_of, shapes_from}
+use Rattle.fort_types_builtin.specs.Types.{BuiltInType, types, built_in_declared, declared_by_row}
+use Rattle.fort_types_builtin.proofs.Lists.{get_dropped}
+use Rattle.fort_types_builtin.proofs.PlainTypes.{built_in_count}
 use Rattle.fort_hier.specs.Heads.{heads_of}
 use Rattle.fort_hier.specs.Hierarchies.{declares}
 use Rattle.fort_hier.specs.Numbers.{all_types, declared_by}
 use Rattle.fort_hier.proofs.NamesWalk.{as_long}
-use Rattle.fort_set.specs.declared.field.Field.{Field}
-use Rattle.fort_set.specs.declared.member.MemberSet.{MemberSet}
-use Rattle.fort_set.specs.declared.member.Members.{Members}
-use Rattle.fort_set.specs.Leaves.{leaf_kind, is_leaf}
-use Rattle.fort_field.proofs.Items.{get_left}
+use Rattle.fort_types_sets.specs.declared.field.Field.{Field}
+use Rattle.fort_types_sets.specs.declared.member.MemberSet.{MemberSet}
+use Rattle.fort_types_sets.specs.declared.member.Members.{Members}
+use Rattle.fort_types_sets.specs.Leaves.{leaf_kind, is_leaf}
+use Rattle.fort_member_fields.proofs.Items.{get_left}
 use Rattle.fort_member.specs.Answers.{AreMembers}
 use Rattle.fort_member.proofs.SetLaws.{get_mapped, get_of_mapped}
-use Rattle.fort_typed.specs.Typing.{Makes}
-use Rattle.fort_matched.proofs.Shapes.{get_behind}
-use Rattle.fort_translation.specs.Shapes.{Initial, has_constructor, kind_of, places_of, shape_of, own_shapes, shapes}
+use Rattle.fort_sound_typed.specs.Typing.{Makes}
+use Rattle.fort_elab_law_matched.proofs.Shapes.{get_behind}
+use Rattle.fort_elab_meaning.specs.Shapes.{Initial, has_constructor, kind_of, places_of, shape_of, own_shapes, shapes}
 use Rattle.fort_sound_program.proofs.Order.{type_number}
 use Rattle.fort_sound_program.proofs.Placed.{either_side, nothing_plus}
 

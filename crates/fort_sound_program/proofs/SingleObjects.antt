@@ -13,34 +13,34 @@ use Rattle.fort_core.specs.declared.program.Program.{Program}
 use Rattle.fort_core.specs.declared.value.Value.{Object as ObjectValue}
 use Rattle.fort_types.specs.declared.hierarchy.TypeKind.{TypeKind}
 use Rattle.fort_types.specs.declared.hierarchy.TypeKind.TheVariants as a_kind
-use Rattle.fort_token.specs.declared.token.Tokens.{Tokens}
+use Rattle.fort_lex_token.specs.declared.token.Tokens.{Tokens}
 use Rattle.fort_tree.specs.declared.declarations.Component.{Component}
 use Rattle.fort_tree.specs.declared.declarations.Declaration.TheVariants as declaration
 use Rattle.fort_tree.specs.declared.grouped.Groups.{Groups}
-use Rattle.fort_builtin.specs.declared.types.TheConstants.{TYPE_COUNT, MATCH_FAILURE, EMPTY_REDUCTION, EXCEPTION}
-use Rattle.fort_builtin.specs.Objects.{location, kind_at, shape_at}
-use Rattle.fort_builtin.specs.Types.{BuiltInType, types, declared_by_row}
+use Rattle.fort_types_builtin.specs.declared.types.TheConstants.{TYPE_COUNT, MATCH_FAILURE, EMPTY_REDUCTION, EXCEPTION}
+use Rattle.fort_types_builtin.specs.Objects.{location, kind_at, shape_at}
+use Rattle.fort_types_builtin.specs.Types.{BuiltInType, types, declared_by_row}
 use Rattle.fort_hier.specs.declared.accepted.Hierarchy.{Hierarchy}
 use Rattle.fort_hier.specs.Hierarchies.{declares}
 use Rattle.fort_hier.specs.Names.{Spelling, spelling}
 use Rattle.fort_hier.specs.Numbers.{number_of}
-use Rattle.fort_set.specs.declared.member.Members.{Members}
-use Rattle.fort_set.specs.Leaves.{leaf_kind, is_leaf}
-use Rattle.fort_field.specs.Own.{types_of}
-use Rattle.fort_field.proofs.Items.{one}
+use Rattle.fort_types_sets.specs.declared.member.Members.{Members}
+use Rattle.fort_types_sets.specs.Leaves.{leaf_kind, is_leaf}
+use Rattle.fort_member_fields.specs.Own.{types_of}
+use Rattle.fort_member_fields.proofs.Items.{one}
 use Rattle.fort_member.proofs.SetLaws.{get_mapped}
-use Rattle.fort_known.specs.Known.{Facts, facts_within}
-use Rattle.fort_known.specs.Names.{is_leaf_number, is_so, type_number as number_in_names, single}
-use Rattle.fort_known.specs.Sets.{has_name, any_set}
-use Rattle.fort_fit.specs.Fit.{known_of}
-use Rattle.fort_typed_form.specs.declared.component.Typed.{Typed}
-use Rattle.fort_typed.specs.Typing.{ShapeOf, HasV}
-use Rattle.fort_typed.specs.Sound.{opening}
-use Rattle.fort_translation.specs.Programs.{given}
-use Rattle.fort_translation.specs.Shapes.{has_constructor}
-use Rattle.fort_translation.specs.Values.{base_of, base_of_kind}
-use Rattle.fort_translation.specs.Values as translation
-use Rattle.fort_matched.proofs.Types.{type_number as number_at}
+use Rattle.fort_typing_known.specs.Known.{Facts, facts_within}
+use Rattle.fort_typing_known.specs.Names.{is_leaf_number, is_so, type_number as number_in_names, single}
+use Rattle.fort_typing_known.specs.Sets.{has_name, any_set}
+use Rattle.fort_typing_law_ready.specs.Fit.{known_of}
+use Rattle.fort_form_typed.specs.declared.component.Typed.{Typed}
+use Rattle.fort_sound_typed.specs.Typing.{ShapeOf, HasV}
+use Rattle.fort_sound_typed.specs.Sound.{opening}
+use Rattle.fort_elab_meaning.specs.Programs.{given}
+use Rattle.fort_elab_meaning.specs.Shapes.{has_constructor}
+use Rattle.fort_elab_meaning.specs.Values.{base_of, base_of_kind}
+use Rattle.fort_elab_meaning.specs.Values as translation
+use Rattle.fort_elab_law_matched.proofs.Types.{type_number as number_at}
 use Rattle.fort_sound_program.specs.Checked.{Checked}
 use Rattle.fort_sound_program.proofs.BuiltInSets.{and_both}
 use Rattle.fort_sound_program.proofs.BuiltInTypes.{there}

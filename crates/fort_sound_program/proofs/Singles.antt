@@ -10,12 +10,12 @@ use Rattle.fort_tree.specs.declared.declarations.Declaration.TheVariants as decl
 use Rattle.fort_tree.specs.declared.declarations.Object.{Object}
 use Rattle.fort_hier.specs.Names.{Spelling, spelling}
 use Rattle.fort_hier.specs.Numbers.{number_of}
-use Rattle.fort_set.specs.declared.member.Member.{Member}
-use Rattle.fort_set.specs.declared.member.MemberKind.{MemberKind}
-use Rattle.fort_set.specs.declared.member.MemberKind.TheVariants as a_kind
-use Rattle.fort_set.specs.declared.member.MemberSet.{MemberSet}
-use Rattle.fort_set.specs.declared.member.Members.{Members}
-use Rattle.fort_field.specs.Own.{types_of}
+use Rattle.fort_types_sets.specs.declared.member.Member.{Member}
+use Rattle.fort_types_sets.specs.declared.member.MemberKind.{MemberKind}
+use Rattle.fort_types_sets.specs.declared.member.MemberKind.TheVariants as a_kind
+use Rattle.fort_types_sets.specs.declared.member.MemberSet.{MemberSet}
+use Rattle.fort_types_sets.specs.declared.member.Members.{Members}
+use Rattle.fort_member_fields.specs.Own.{types_of}
 use Rattle.fort_member.specs.declared.entries.Entry.{Entry}
 use Rattle.fort_member.specs.Answers.{AreMembers}
 use Rattle.fort_member.specs.Declarations.{entries_of}
@@ -23,24 +23,24 @@ use Rattle.fort_member.specs.Sets.{Key, key_of, keys_of, set_of}
 use Rattle.fort_member.proofs.Numbered.{all_item}
 use Rattle.fort_member.proofs.SetLaws.{key_told, get_mapped}
 use Rattle.fort_member.proofs.WellMadeLaws.{comes_from}
-use Rattle.fort_known.specs.Sets.{has_name, any_set}
-use Rattle.fort_matched.proofs.Types.{types_in}
-use Rattle.fort_translation.specs.Shapes.{constructs_by, has_constructor}
+use Rattle.fort_typing_known.specs.Sets.{has_name, any_set}
+use Rattle.fort_elab_law_matched.proofs.Types.{types_in}
+use Rattle.fort_elab_meaning.specs.Shapes.{constructs_by, has_constructor}
 use Rattle.fort_sound_program.proofs.Order.{type_number}
-use Rattle.fort_type_names.specs.TypeNames.{type_names}
+use Rattle.fort_tree_type_names.specs.TypeNames.{type_names}
 use Rattle.fort_tree.specs.declared.declarations.Declaration.{Declaration}
 use Rattle.fort_tree.specs.declared.declarations.Declared.{Declared}
-use Rattle.fort_builtin.specs.declared.types.TheConstants.{TYPE_COUNT}
-use Rattle.fort_builtin.specs.Types.{declared_spellings}
-use Rattle.fort_builtin.proofs.PlainTypes.{declared_count}
+use Rattle.fort_types_builtin.specs.declared.types.TheConstants.{TYPE_COUNT}
+use Rattle.fort_types_builtin.specs.Types.{declared_spellings}
+use Rattle.fort_types_builtin.proofs.PlainTypes.{declared_count}
 use Rattle.fort_hier.specs.declared.accepted.Hierarchy.{Hierarchy}
 use Rattle.fort_hier.specs.declared.heads.TypeHead.{TypeHead}
 use Rattle.fort_hier.specs.Heads.{head_of, heads_from, heads_of}
 use Rattle.fort_hier.specs.Hierarchies.{IsHierarchy}
 use Rattle.fort_hier.specs.Numbers.{head_spelling}
-use Rattle.fort_known.specs.Names.{type_number as number_in_names}
-use Rattle.fort_matched.proofs.Types.{type_of, type_number as number_at}
-use Rattle.fort_matched.proofs.Shapes.{get_behind}
+use Rattle.fort_typing_known.specs.Names.{type_number as number_in_names}
+use Rattle.fort_elab_law_matched.proofs.Types.{type_of, type_number as number_at}
+use Rattle.fort_elab_law_matched.proofs.Shapes.{get_behind}
 use Rattle.fort_member.proofs.SetLaws.{get_of_mapped}
 use Rattle.fort_sound_program.proofs.Constructors.{OfObject, IsConstructor, all_constructors}
 

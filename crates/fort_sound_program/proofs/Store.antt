@@ -16,38 +16,38 @@ use Rattle.fort_core.specs.declared.value.Value.{Value, Object as ObjectValue}
 use Rattle.fort_core.specs.declared.value.Value.TheVariants.{outs-Object}
 use Rattle.fort_machine.specs.Acts.{unit}
 use Rattle.fort_machine.specs.Journals.{opening_store}
-use Rattle.fort_token.specs.declared.token.Tokens.{Tokens}
+use Rattle.fort_lex_token.specs.declared.token.Tokens.{Tokens}
 use Rattle.fort_tree.specs.declared.declarations.Component.{Component}
 use Rattle.fort_tree.specs.declared.declarations.Declaration.{Declaration}
 use Rattle.fort_tree.specs.declared.declarations.Declaration.TheVariants as declaration
 use Rattle.fort_tree.specs.declared.declarations.Declared.{Declared}
 use Rattle.fort_tree.specs.declared.declarations.Object.{Object}
 use Rattle.fort_tree.specs.declared.grouped.Groups.{Groups}
-use Rattle.fort_builtin.specs.declared.types.TheConstants.{TYPE_COUNT}
-use Rattle.fort_builtin.specs.Objects.{location}
+use Rattle.fort_types_builtin.specs.declared.types.TheConstants.{TYPE_COUNT}
+use Rattle.fort_types_builtin.specs.Objects.{location}
 use Rattle.fort_hier.specs.declared.accepted.Hierarchy.{Hierarchy}
 use Rattle.fort_hier.specs.Names.{spelling}
 use Rattle.fort_hier.specs.Numbers.{number_of}
-use Rattle.fort_set.specs.declared.field.Field.{Field}
-use Rattle.fort_set.specs.declared.member.MemberSet.{MemberSet}
-use Rattle.fort_set.specs.declared.member.Members.{Members}
-use Rattle.fort_field.specs.Own.{parameter_fields, object_field, declared_variables, variables_at, variable_field, types_of, variables_of}
-use Rattle.fort_field.proofs.Items.{one}
+use Rattle.fort_types_sets.specs.declared.field.Field.{Field}
+use Rattle.fort_types_sets.specs.declared.member.MemberSet.{MemberSet}
+use Rattle.fort_types_sets.specs.declared.member.Members.{Members}
+use Rattle.fort_member_fields.specs.Own.{parameter_fields, object_field, declared_variables, variables_at, variable_field, types_of, variables_of}
+use Rattle.fort_member_fields.proofs.Items.{one}
 use Rattle.fort_member.proofs.SetLaws.{get_mapped, get_of_mapped}
 use Rattle.fort_form.specs.declared.component.InitialForm.{InitialForm}
-use Rattle.fort_forms.specs.FormsOf.{tables_of, forms_of, declared_initials, initials}
-use Rattle.fort_forms.specs.FormsOf as forming
-use Rattle.fort_fit.specs.Fit.{known_of}
-use Rattle.fort_typed_form.specs.declared.component.Typed.{Typed}
-use Rattle.fort_typed.specs.Envs.{Sig}
-use Rattle.fort_typed.specs.Typing.{is_same, ShapeOf, Makes, ObjectFits, HasV, parts0, vs0}
-use Rattle.fort_typed.specs.Sound.{opening, StoreOk}
-use Rattle.fort_typed.proofs.Rules.{has_v_at}
-use Rattle.fort_translation.specs.Shapes.{initial, has_constructor, kind_of, core_field, variables_from, variable_types, types_at, held_by, types_by}
-use Rattle.fort_matched.proofs.Initials.{is_of, an_initial, of_all}
-use Rattle.fort_matched.proofs.Shapes.{own, has_own, get_behind}
-use Rattle.fort_matched.proofs.Typed.{typed_keyed, form_keyed, initials_same}
-use Rattle.fort_matched.proofs.Types.{types_in, type_number as number_at}
+use Rattle.fort_form_walk.specs.FormsOf.{tables_of, forms_of, declared_initials, initials}
+use Rattle.fort_form_walk.specs.FormsOf as forming
+use Rattle.fort_typing_law_ready.specs.Fit.{known_of}
+use Rattle.fort_form_typed.specs.declared.component.Typed.{Typed}
+use Rattle.fort_sound_typed.specs.Envs.{Sig}
+use Rattle.fort_sound_typed.specs.Typing.{is_same, ShapeOf, Makes, ObjectFits, HasV, parts0, vs0}
+use Rattle.fort_sound_typed.specs.Sound.{opening, StoreOk}
+use Rattle.fort_sound_typed.proofs.Rules.{has_v_at}
+use Rattle.fort_elab_meaning.specs.Shapes.{initial, has_constructor, kind_of, core_field, variables_from, variable_types, types_at, held_by, types_by}
+use Rattle.fort_elab_law_matched.proofs.Initials.{is_of, an_initial, of_all}
+use Rattle.fort_elab_law_matched.proofs.Shapes.{own, has_own, get_behind}
+use Rattle.fort_elab_law_matched.proofs.Typed.{typed_keyed, form_keyed, initials_same}
+use Rattle.fort_elab_law_matched.proofs.Types.{types_in, type_number as number_at}
 use Rattle.fort_sound_program.specs.Checked.{Checked}
 use Rattle.fort_sound_program.proofs.Constants.{has_unit}
 use Rattle.fort_sound_program.proofs.Entries.{any_at}

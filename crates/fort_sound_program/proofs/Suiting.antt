@@ -9,7 +9,7 @@ use Rattle.fort_base.specs.declared.ids.TypeId.{TypeId}
 use Rattle.fort_core.specs.declared.program.CoreShape.{CoreShape}
 use Rattle.fort_core.specs.declared.program.Program.{Program}
 use Rattle.fort_machine.specs.Forms.{place_of}
-use Rattle.fort_token.specs.declared.token.Tokens.{Tokens}
+use Rattle.fort_lex_token.specs.declared.token.Tokens.{Tokens}
 use Rattle.fort_types.specs.declared.hierarchy.DeclaredType.{DeclaredType}
 use Rattle.fort_types.specs.declared.hierarchy.TypeKind.{TypeKind}
 use Rattle.fort_types.specs.declared.hierarchy.TypeKind.TheVariants as a_kind
@@ -20,30 +20,30 @@ use Rattle.fort_tree.specs.declared.declarations.Declaration.TheVariants as decl
 use Rattle.fort_tree.specs.declared.declarations.TraitMember.{TraitMember}
 use Rattle.fort_tree.specs.declared.declarations.TraitMember.TheVariants as trait_member
 use Rattle.fort_tree.specs.declared.grouped.Groups.{Groups}
-use Rattle.fort_builtin.specs.declared.types.TheConstants.{TYPE_COUNT}
-use Rattle.fort_builtin.specs.Objects.{location}
-use Rattle.fort_builtin.specs.Types.{types, built_in_declared}
-use Rattle.fort_builtin.proofs.PlainTypes.{built_in_count}
+use Rattle.fort_types_builtin.specs.declared.types.TheConstants.{TYPE_COUNT}
+use Rattle.fort_types_builtin.specs.Objects.{location}
+use Rattle.fort_types_builtin.specs.Types.{types, built_in_declared}
+use Rattle.fort_types_builtin.proofs.PlainTypes.{built_in_count}
 use Rattle.fort_hier.specs.declared.accepted.Hierarchy.{Hierarchy}
 use Rattle.fort_hier.specs.declared.heads.TypeHead.{TypeHead}
 use Rattle.fort_hier.specs.Heads.{heads_of}
 use Rattle.fort_hier.specs.Hierarchies.{declares}
 use Rattle.fort_hier.specs.Numbers.{all_types, declared_by}
-use Rattle.fort_set.specs.declared.field.Field.{Field}
-use Rattle.fort_set.specs.declared.member.Members.{Members}
-use Rattle.fort_set.specs.Leaves.{leaf_kind, is_leaf}
-use Rattle.fort_field.specs.Inherited.{Declares, Has, declared, inherited}
-use Rattle.fort_field.specs.Own.{own_fields, declared_own, types_of, trait_field, trait_member_field}
-use Rattle.fort_field.proofs.Items.{of_get, get_of, get_left, one}
+use Rattle.fort_types_sets.specs.declared.field.Field.{Field}
+use Rattle.fort_types_sets.specs.declared.member.Members.{Members}
+use Rattle.fort_types_sets.specs.Leaves.{leaf_kind, is_leaf}
+use Rattle.fort_member_fields.specs.Inherited.{Declares, Has, declared, inherited}
+use Rattle.fort_member_fields.specs.Own.{own_fields, declared_own, types_of, trait_field, trait_member_field}
+use Rattle.fort_member_fields.proofs.Items.{of_get, get_of, get_left, one}
 use Rattle.fort_member.proofs.SetLaws.{get_mapped, get_of_mapped}
-use Rattle.fort_known.specs.Names.{field_in, field_among}
-use Rattle.fort_typed_form.specs.declared.component.Typed.{Typed}
-use Rattle.fort_typed.specs.Typing.{ShapeOf, Makes, FieldOf}
-use Rattle.fort_typed.specs.Sound.{opening}
-use Rattle.fort_typed.proofs.Bind.{Tells, alike, apart, tells, self_same}
-use Rattle.fort_translation.specs.Shapes.{Initial, kind_of, core_field, variable_types, types_by}
-use Rattle.fort_matched.proofs.Shapes.{get_behind}
-use Rattle.fort_matched.proofs.Types.{types_in, own_of_type, owns_are, kind_of_type, kind_of_head, kinds_are}
+use Rattle.fort_typing_known.specs.Names.{field_in, field_among}
+use Rattle.fort_form_typed.specs.declared.component.Typed.{Typed}
+use Rattle.fort_sound_typed.specs.Typing.{ShapeOf, Makes, FieldOf}
+use Rattle.fort_sound_typed.specs.Sound.{opening}
+use Rattle.fort_sound_typed.proofs.Bind.{Tells, alike, apart, tells, self_same}
+use Rattle.fort_elab_meaning.specs.Shapes.{Initial, kind_of, core_field, variable_types, types_by}
+use Rattle.fort_elab_law_matched.proofs.Shapes.{get_behind}
+use Rattle.fort_elab_law_matched.proofs.Types.{types_in, own_of_type, owns_are, kind_of_type, kind_of_head, kinds_are}
 use Rattle.fort_sound_program.specs.Checked.{Checked}
 use Rattle.fort_sound_program.proofs.BuiltInTypes.{there, same_item, no_field}
 use Rattle.fort_sound_program.proofs.Fields.{which_kind}

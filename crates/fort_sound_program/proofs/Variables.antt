@@ -8,18 +8,18 @@ use Rattle.fort_tree.specs.declared.declarations.Component.{Component}
 use Rattle.fort_tree.specs.declared.declarations.Declaration.{Declaration}
 use Rattle.fort_tree.specs.declared.declarations.Declaration.TheVariants as declaration
 use Rattle.fort_tree.specs.declared.declarations.Declared.{Declared}
-use Rattle.fort_type_names.specs.TypeNames.{type_names}
+use Rattle.fort_tree_type_names.specs.TypeNames.{type_names}
 use Rattle.fort_hier.specs.declared.accepted.Hierarchy.{Hierarchy}
 use Rattle.fort_hier.specs.declared.tops.Top.{Top}
 use Rattle.fort_hier.specs.Hierarchies.{IsHierarchy, duplicate}
 use Rattle.fort_hier.specs.Names.{Spelling, spelling, Called, built_in, called, IsDuplicate}
 use Rattle.fort_hier.specs.Tops.{top_of, declared_top}
-use Rattle.fort_set.specs.declared.field.Field.{Field}
-use Rattle.fort_field.specs.Inherited.{EachOnce}
-use Rattle.fort_field.specs.Own.{variables_at, declared_variables, types_of, variables_of}
-use Rattle.fort_field.proofs.Items.{of_get}
+use Rattle.fort_types_sets.specs.declared.field.Field.{Field}
+use Rattle.fort_member_fields.specs.Inherited.{EachOnce}
+use Rattle.fort_member_fields.specs.Own.{variables_at, declared_variables, types_of, variables_of}
+use Rattle.fort_member_fields.proofs.Items.{of_get}
 use Rattle.fort_member.proofs.SetLaws.{get_of_mapped}
-use Rattle.fort_matched.proofs.Shapes.{get_behind}
+use Rattle.fort_elab_law_matched.proofs.Shapes.{get_behind}
 
 some_of : {X : Type 0} {x y : X} → Some x ≡ Some y → x ≡ y
 some_of e = cc

@@ -24,37 +24,37 @@ use Rattle.fort_types.specs.Types.{IsNumbered, Solid}
 use Rattle.fort_machine.specs.Calls.{IsApplicable, IsMoreSpecific}
 use Rattle.fort_machine.specs.Types.{all_below}
 use Rattle.fort_machine.specs.Written.{WrittenProgram, IsDeclared}
-use Rattle.fort_token.specs.declared.token.Tokens.{Tokens}
+use Rattle.fort_lex_token.specs.declared.token.Tokens.{Tokens}
 use Rattle.fort_tree.specs.declared.declarations.Component.{Component}
 use Rattle.fort_tree.specs.declared.declarations.Declaration.TheVariants as declaration
 use Rattle.fort_tree.specs.declared.grouped.Groups.{Groups}
-use Rattle.fort_builtin.specs.declared.types.TheConstants.{BUILT_IN, TYPE_COUNT}
-use Rattle.fort_builtin.specs.Types.{types as table_of_types}
+use Rattle.fort_types_builtin.specs.declared.types.TheConstants.{BUILT_IN, TYPE_COUNT}
+use Rattle.fort_types_builtin.specs.Types.{types as table_of_types}
 use Rattle.fort_hier.specs.declared.accepted.Hierarchy.{Hierarchy}
 use Rattle.fort_hier.specs.Hierarchies.{declares}
-use Rattle.fort_set.specs.declared.member.Member.{Member}
-use Rattle.fort_set.specs.declared.member.MemberSet.{MemberSet}
-use Rattle.fort_set.specs.declared.member.Members.{Members}
-use Rattle.fort_set.specs.Applicable as members
-use Rattle.fort_set.specs.Rules.{StandsAt, IsWellMade}
-use Rattle.fort_field.proofs.Items.{one}
+use Rattle.fort_types_sets.specs.declared.member.Member.{Member}
+use Rattle.fort_types_sets.specs.declared.member.MemberSet.{MemberSet}
+use Rattle.fort_types_sets.specs.declared.member.Members.{Members}
+use Rattle.fort_types_sets.specs.Applicable as members
+use Rattle.fort_types_sets.specs.Rules.{StandsAt, IsWellMade}
+use Rattle.fort_member_fields.proofs.Items.{one}
 use Rattle.fort_member.proofs.FirstLaws.{built_ins_first}
 use Rattle.fort_member.proofs.WellMadeLaws.{sets_well_made}
-use Rattle.fort_fit.specs.Fit.{known_of}
-use Rattle.fort_fit.proofs.AcceptedLaws.{keepers_accepted}
-use Rattle.fort_known.specs.Sets.{width_of, is_set_of, first_set, set_of}
-use Rattle.fort_typing_laws.specs.Deciding.{IsAccepted}
-use Rattle.fort_typed_form.specs.declared.component.Typed.{Typed}
-use Rattle.fort_typed.specs.Envs.{none}
-use Rattle.fort_typed.specs.Typing.{Below, is_same, unit_type, ShapeOf, Makes, Called, Has, parts0, vs0}
-use Rattle.fort_typed.specs.Sound.{opening, Under, NewFits, Sound}
-use Rattle.fort_typed.specs.Goes.{Complete}
-use Rattle.fort_typed.specs.Signatures.{parameters_of, result_of}
-use Rattle.fort_typed.proofs.OneSided.{lists}
-use Rattle.fort_typed.proofs.Rules.{has_at}
-use Rattle.fort_defined.specs.Sets.{SetsKeep, ValuesAreLeaves}
-use Rattle.fort_translation.specs.Programs.{function_set}
-use Rattle.fort_matched.proofs.Types.{type_number as number_at}
+use Rattle.fort_typing_law_ready.specs.Fit.{known_of}
+use Rattle.fort_typing_law_ready.proofs.AcceptedLaws.{keepers_accepted}
+use Rattle.fort_typing_known.specs.Sets.{width_of, is_set_of, first_set, set_of}
+use Rattle.fort_typing_law_rules.specs.Deciding.{IsAccepted}
+use Rattle.fort_form_typed.specs.declared.component.Typed.{Typed}
+use Rattle.fort_sound_typed.specs.Envs.{none}
+use Rattle.fort_sound_typed.specs.Typing.{Below, is_same, unit_type, ShapeOf, Makes, Called, Has, parts0, vs0}
+use Rattle.fort_sound_typed.specs.Sound.{opening, Under, NewFits, Sound}
+use Rattle.fort_sound_typed.specs.Goes.{Complete}
+use Rattle.fort_sound_typed.specs.Signatures.{parameters_of, result_of}
+use Rattle.fort_sound_typed.proofs.OneSided.{lists}
+use Rattle.fort_sound_typed.proofs.Rules.{has_at}
+use Rattle.fort_sound_defined.specs.Sets.{SetsKeep, ValuesAreLeaves}
+use Rattle.fort_elab_meaning.specs.Programs.{function_set}
+use Rattle.fort_elab_law_matched.proofs.Types.{type_number as number_at}
 use Rattle.fort_sound_program.specs.Checked.{Checked}
 use Rattle.fort_sound_program.specs.Laws.{BodiesHave}
 use Rattle.fort_sound_program.proofs.BuiltIns.{is_leaf, only_leaf, unmade, fieldless, unthrown, failure_single, failure_has}

@@ -3,26 +3,26 @@
 use Rattle.std.specs.Prelude.{◌≡◌, ◌≤◌, ℕ, [], ◌∷◌, slice_get, Some}
 use Rattle.fort_base.specs.declared.refusal.Place.{Place}
 use Rattle.fort_ops.specs.declared.op.Op.TheVariants as an_op
-use Rattle.fort_token.specs.declared.token.Tokens.{Tokens}
+use Rattle.fort_lex_token.specs.declared.token.Tokens.{Tokens}
 use Rattle.fort_tree.specs.declared.declarations.Component.{Component}
 use Rattle.fort_tree.specs.declared.grouped.Groups.{Groups}
 use Rattle.fort_tree.specs.Component.{HasTree}
-use Rattle.fort_type_names.specs.TypeNames.{type_names}
+use Rattle.fort_tree_type_names.specs.TypeNames.{type_names}
 use Rattle.fort_hier.specs.declared.accepted.Hierarchy.{Hierarchy}
 use Rattle.fort_hier.specs.Hierarchies.{IsHierarchy, declares}
-use Rattle.fort_set.specs.declared.member.Members.{Members}
+use Rattle.fort_types_sets.specs.declared.member.Members.{Members}
 use Rattle.fort_member.specs.Answers.{AreMembers}
 use Rattle.fort_over.specs.Answers.{KeepAllRules}
-use Rattle.fort_fit.specs.Fit.{known_of}
+use Rattle.fort_typing_law_ready.specs.Fit.{known_of}
 use Rattle.fort_form.specs.declared.component.InitialForm.{InitialForm}
 use Rattle.fort_form.specs.declared.form.Form.{Form, out-Form}
 use Rattle.fort_form.specs.declared.form.Form.TheOpen.{Form-F}
-use Rattle.fort_forms.specs.FormsOf.{forms_of}
-use Rattle.fort_typed_form.specs.declared.component.Typed.{Typed}
+use Rattle.fort_form_walk.specs.FormsOf.{forms_of}
+use Rattle.fort_form_typed.specs.declared.component.Typed.{Typed}
 use Rattle.fort_typing_rules.specs.Components.{HasTypes}
 use Rattle.fort_core.specs.declared.program.Program.{Program}
-use Rattle.fort_translation.specs.Programs.{IsProgramOf}
-use Rattle.fort_matched.specs.Component.{StandApart}
+use Rattle.fort_elab_meaning.specs.Programs.{IsProgramOf}
+use Rattle.fort_elab_law_matched.specs.Component.{StandApart}
 
 -- The number of a constant is one that a file may have: a ZZ64.
 pub record FitsFile (e : Form) : Type 0 where

@@ -3,29 +3,29 @@
 use Rattle.std.specs.Prelude.{◌≡◌, ℕ, List, slice_get, Some}
 use Rattle.fort_base.specs.declared.ids.DeclId.{DeclId}
 use Rattle.fort_base.specs.declared.refusal.Place.{Place}
-use Rattle.fort_token.specs.declared.token.Tokens.{Tokens}
+use Rattle.fort_lex_token.specs.declared.token.Tokens.{Tokens}
 use Rattle.fort_tree.specs.declared.declarations.Component.{Component}
 use Rattle.fort_tree.specs.declared.grouped.Groups.{Groups}
 use Rattle.fort_hier.specs.Hierarchies.{declares}
 use Rattle.fort_hier.specs.declared.accepted.Hierarchy.{Hierarchy}
-use Rattle.fort_set.specs.declared.member.Member.{Member}
-use Rattle.fort_set.specs.declared.member.MemberKind.TheVariants as a_kind
-use Rattle.fort_set.specs.declared.member.MemberSet.{MemberSet}
-use Rattle.fort_set.specs.declared.member.Members.{Members}
-use Rattle.fort_set.specs.Rules.{StandsAt}
-use Rattle.fort_typed_form.specs.declared.component.Typed.{Typed}
+use Rattle.fort_types_sets.specs.declared.member.Member.{Member}
+use Rattle.fort_types_sets.specs.declared.member.MemberKind.TheVariants as a_kind
+use Rattle.fort_types_sets.specs.declared.member.MemberSet.{MemberSet}
+use Rattle.fort_types_sets.specs.declared.member.Members.{Members}
+use Rattle.fort_types_sets.specs.Rules.{StandsAt}
+use Rattle.fort_form_typed.specs.declared.component.Typed.{Typed}
 use Rattle.fort_core.specs.declared.program.CoreBody.TheVariants as body
 use Rattle.fort_core.specs.declared.program.CoreDecl.{CoreDecl}
 use Rattle.fort_core.specs.declared.program.Program.{Program}
 use Rattle.fort_core.specs.declared.term.Term.{Term}
 use Rattle.fort_machine.specs.Written.{WrittenProgram}
-use Rattle.fort_typed.specs.Envs.{none, binds}
-use Rattle.fort_typed.specs.Typing.{Has}
-use Rattle.fort_typed.specs.Sound.{opening, numbered, Sound}
-use Rattle.fort_typed.specs.Goes.{Complete}
-use Rattle.fort_defined.specs.Sets.{SetsKeep, ValuesAreLeaves}
-use Rattle.fort_translation.specs.Bodies.{bodies, body_at}
-use Rattle.fort_translation.specs.Programs.{given, IsProgramOf}
+use Rattle.fort_sound_typed.specs.Envs.{none, binds}
+use Rattle.fort_sound_typed.specs.Typing.{Has}
+use Rattle.fort_sound_typed.specs.Sound.{opening, numbered, Sound}
+use Rattle.fort_sound_typed.specs.Goes.{Complete}
+use Rattle.fort_sound_defined.specs.Sets.{SetsKeep, ValuesAreLeaves}
+use Rattle.fort_elab_meaning.specs.Bodies.{bodies, body_at}
+use Rattle.fort_elab_meaning.specs.Programs.{given, IsProgramOf}
 use Rattle.fort_sound_program.specs.Checked.{Checked}
 
 -- The bodies of a program's declarations have their results' types.

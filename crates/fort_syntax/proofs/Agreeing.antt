@@ -4,15 +4,15 @@
 use Rattle.std.proofs.Common.{◌≡◌, ℕ, zero, suc, ◌<◌, Bool, true, false, if◌then◌else◌, List, [], ◌∷◌, ◌++◌, length, get_or, Option, Some, None, refl, ap, subst}
 use Rattle.std.specs.Prelude.{nat_eq}
 use Rattle.std.specs.Cmp.Lexicographic.{pointwise}
-use Rattle.fort_token.specs.declared.token.Kind.{Kind}
-use Rattle.fort_token.specs.declared.token.Kind.TheVariants as kind
-use Rattle.fort_token.specs.declared.token.Token.{Token}
+use Rattle.fort_lex_token.specs.declared.token.Kind.{Kind}
+use Rattle.fort_lex_token.specs.declared.token.Kind.TheVariants as kind
+use Rattle.fort_lex_token.specs.declared.token.Token.{Token}
 use Rattle.fort_tree.specs.declared.spot.Spot.{Spot}
 use Rattle.fort_tree.specs.declared.spot.Name.{Name}
 use Rattle.fort_tree.specs.Tokens.{Spellings, is_empty}
-use Rattle.fort_reading.specs.declared.fault.Fault.{Fault}
-use Rattle.fort_reading.specs.Parser.{Row, Outcome, Read, Failed, and_then, taken, accept_run, next_of, many_run, Parser, Eater, Locally}
-use Rattle.fort_reading.specs.Words.{spot_of, tight, name_in, name_of, is_called, called_if, called_of}
+use Rattle.fort_parse_reading.specs.declared.fault.Fault.{Fault}
+use Rattle.fort_parse_reading.specs.Parser.{Row, Outcome, Read, Failed, and_then, taken, accept_run, next_of, many_run, Parser, Eater, Locally}
+use Rattle.fort_parse_reading.specs.Words.{spot_of, tight, name_in, name_of, is_called, called_if, called_of}
 
 -- a table of names has what another has
 abbrev pub GoesOn : Spellings → Spellings → Type 0

@@ -7,15 +7,15 @@ use Rattle.fort_base.specs.declared.rules.TheConstants.{SYNTAX}
 use Rattle.fort_base.specs.declared.refusal.Place.{Place}
 use Rattle.fort_base.specs.declared.refusal.CheckFault.{CheckFault}
 use Rattle.fort_base.specs.declared.refusal.CheckFault.TheVariants as a_fault
-use Rattle.fort_token.specs.declared.token.Token.{Token}
-use Rattle.fort_token.specs.declared.token.Tokens.{Tokens}
+use Rattle.fort_lex_token.specs.declared.token.Token.{Token}
+use Rattle.fort_lex_token.specs.declared.token.Tokens.{Tokens}
 use Rattle.fort_tree.specs.declared.declarations.Component.{Component}
 use Rattle.fort_tree.specs.Component.{HasTree}
 use Rattle.fort_tree.specs.Openers.{AllShallow}
 use Rattle.fort_tree.specs.Tokens.{Spellings}
-use Rattle.fort_reading.specs.declared.fault.Fault.TheVariants as because
-use Rattle.fort_reading.specs.Parser.{Row, Outcome, Read, Failed, next_of}
-use Rattle.fort_declarations.specs.Declarations.{whole}
+use Rattle.fort_parse_reading.specs.declared.fault.Fault.TheVariants as because
+use Rattle.fort_parse_reading.specs.Parser.{Row, Outcome, Read, Failed, next_of}
+use Rattle.fort_parse_declarations.specs.Declarations.{whole}
 use Rattle.fort_syntax.specs.Answer.{HasNone, IsFault, Breaks, Syntax, Reading, Answers, last_token, fault_place}
 use Rattle.fort_syntax.proofs.Theorem.{found, has_none, fault_at}
 

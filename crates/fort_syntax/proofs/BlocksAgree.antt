@@ -1,7 +1,7 @@
 -- The productions of blocks and clauses read alike over two such tables.
 use Rattle.std.proofs.Common.{ℕ, Bool, true, false, List, [], ◌∷◌, Option, Some, None}
-use Rattle.fort_token.specs.declared.marks.Mark.TheVariants as mark
-use Rattle.fort_token.specs.declared.reserved.Reserved.TheVariants as reserved
+use Rattle.fort_lex_token.specs.declared.marks.Mark.TheVariants as mark
+use Rattle.fort_lex_token.specs.declared.reserved.Reserved.TheVariants as reserved
 use Rattle.fort_tree.specs.declared.spot.Spot.{Spot}
 use Rattle.fort_tree.specs.declared.spot.Name.{Name}
 use Rattle.fort_tree.specs.declared.types.TypeTree.{TypeTree}
@@ -14,13 +14,13 @@ use Rattle.fort_tree.specs.declared.delimited.TypeClause.{TypeClause, out-TypeCl
 use Rattle.fort_tree.specs.declared.expr.Operand.{Operand}
 use Rattle.fort_tree.specs.declared.expr.Run.{Run}
 use Rattle.fort_tree.specs.Tokens.{Spellings}
-use Rattle.fort_reading.specs.Parser.{Eater}
-use Rattle.fort_reading.specs.Words.{is_mark, is_word, sees}
-use Rattle.fort_first.specs.declared.plain.PlainNames.{PlainNames}
-use Rattle.fort_first.specs.Beginnings.{begins_case_clause, begins_item, begins_type_clause}
-use Rattle.fort_first.specs.Endings.{semicolon}
-use Rattle.fort_first.specs.Plain.{plain_name, plain_names}
-use Rattle.fort_reading.specs.Parser.{Row}
+use Rattle.fort_parse_reading.specs.Parser.{Eater}
+use Rattle.fort_parse_reading.specs.Words.{is_mark, is_word, sees}
+use Rattle.fort_parse_first.specs.declared.plain.PlainNames.{PlainNames}
+use Rattle.fort_parse_first.specs.Beginnings.{begins_case_clause, begins_item, begins_type_clause}
+use Rattle.fort_parse_first.specs.Endings.{semicolon}
+use Rattle.fort_parse_first.specs.Plain.{plain_name, plain_names}
+use Rattle.fort_parse_reading.specs.Parser.{Row}
 use Rattle.fort_parse.specs.Blocks.{is_ended, some_of, initialised, variable_from, var_item, names_from, flat_item, by_names, by_name, declared, item_from, head_item, item, block_item, block, case_clause, case_list, case_clauses, type_clause, type_clause_list, type_clauses, else_from, second_else, else_clause, also_block, also_blocks, elif, elifs, else_block, catch_from, catch, no_finally, finally, next_generator, next_generators}
 use Rattle.fort_syntax.proofs.Agreeing.{GoesOn, AllIn, Agrees, Alike, agrees_read, agrees_failed, agrees_accept, agrees_then, agrees_if, agrees_many, agrees_itself}
 use Rattle.fort_syntax.proofs.TypesAgree.{same_type_tree}

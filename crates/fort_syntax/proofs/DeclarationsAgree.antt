@@ -1,11 +1,11 @@
 -- The productions of declarations read alike over two such tables.
 use Rattle.std.proofs.Common.{ℕ, Bool, true, false, Option, Some, None}
 use Rattle.std.specs.Prelude.{codes}
-use Rattle.fort_token.specs.declared.token.Kind.{Kind}
-use Rattle.fort_token.specs.declared.token.Kind.TheVariants as kind
-use Rattle.fort_token.specs.declared.token.Token.{Token}
-use Rattle.fort_token.specs.declared.reserved.Reserved.{Reserved}
-use Rattle.fort_token.specs.declared.reserved.Reserved.TheVariants as reserved
+use Rattle.fort_lex_token.specs.declared.token.Kind.{Kind}
+use Rattle.fort_lex_token.specs.declared.token.Kind.TheVariants as kind
+use Rattle.fort_lex_token.specs.declared.token.Token.{Token}
+use Rattle.fort_lex_token.specs.declared.reserved.Reserved.{Reserved}
+use Rattle.fort_lex_token.specs.declared.reserved.Reserved.TheVariants as reserved
 use Rattle.fort_tree.specs.declared.spot.Spot.{Spot}
 use Rattle.fort_tree.specs.declared.spot.Name.{Name}
 use Rattle.fort_tree.specs.declared.declarations.Declared.{Declared}
@@ -14,10 +14,10 @@ use Rattle.fort_tree.specs.declared.declarations.ObjectEntry.{ObjectEntry}
 use Rattle.fort_tree.specs.declared.declarations.ObjectParameters.{ObjectParameters}
 use Rattle.fort_tree.specs.declared.declarations.TraitEntry.{TraitEntry}
 use Rattle.fort_tree.specs.Tokens.{Spellings}
-use Rattle.fort_first.specs.Declarations.{begins_declared, begins_object_entry, begins_trait_entry}
+use Rattle.fort_parse_first.specs.Declarations.{begins_declared, begins_object_entry, begins_trait_entry}
 use Rattle.fort_parse.specs.Blocks.{is_ended}
-use Rattle.fort_reading.specs.Parser.{Row, next_of}
-use Rattle.fort_declarations.specs.Declarations.{trait_field, trait_operator, trait_named, trait_member_at, trait_entry, trait_entries, trait_from, object_variable, object_var, object_operator, object_named, object_member_at, object_entry, object_entries, object_rest, object_from, variable_declaration, var_declaration, operator_declaration, named_declaration, word_declaration, declaration_for, declaration_by, declaration_at, declared, declarations, export_from, export}
+use Rattle.fort_parse_reading.specs.Parser.{Row, next_of}
+use Rattle.fort_parse_declarations.specs.Declarations.{trait_field, trait_operator, trait_named, trait_member_at, trait_entry, trait_entries, trait_from, object_variable, object_var, object_operator, object_named, object_member_at, object_entry, object_entries, object_rest, object_from, variable_declaration, var_declaration, operator_declaration, named_declaration, word_declaration, declaration_for, declaration_by, declaration_at, declared, declarations, export_from, export}
 use Rattle.fort_syntax.proofs.Agreeing.{GoesOn, Alike, agrees_read, agrees_failed, agrees_accept, agrees_called, agrees_then, agrees_if, agrees_many, same_called}
 use Rattle.fort_syntax.proofs.TypesAgree.{same_type_tree}
 use Rattle.fort_syntax.proofs.RunsAgree.{same_variable_at}

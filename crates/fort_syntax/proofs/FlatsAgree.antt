@@ -1,11 +1,11 @@
 -- The productions of expressions read alike over two such tables.
 use Rattle.std.proofs.Common.{ℕ, Bool, true, false, List, [], Option, Some, None}
-use Rattle.fort_token.specs.declared.token.Kind.{Kind}
-use Rattle.fort_token.specs.declared.token.Kind.TheVariants as kind
-use Rattle.fort_token.specs.declared.token.Token.{Token}
-use Rattle.fort_token.specs.declared.marks.Mark.TheVariants as mark
-use Rattle.fort_token.specs.declared.reserved.Reserved.{Reserved}
-use Rattle.fort_token.specs.declared.reserved.Reserved.TheVariants as reserved
+use Rattle.fort_lex_token.specs.declared.token.Kind.{Kind}
+use Rattle.fort_lex_token.specs.declared.token.Kind.TheVariants as kind
+use Rattle.fort_lex_token.specs.declared.token.Token.{Token}
+use Rattle.fort_lex_token.specs.declared.marks.Mark.TheVariants as mark
+use Rattle.fort_lex_token.specs.declared.reserved.Reserved.{Reserved}
+use Rattle.fort_lex_token.specs.declared.reserved.Reserved.TheVariants as reserved
 use Rattle.fort_tree.specs.declared.spot.Spot.{Spot}
 use Rattle.fort_tree.specs.declared.spot.Name.{Name}
 use Rattle.fort_tree.specs.declared.expr.AssignSign.{AssignSign}
@@ -18,10 +18,10 @@ use Rattle.fort_tree.specs.declared.expr.NextExpr.{NextExpr}
 use Rattle.fort_tree.specs.declared.expr.Operand.{Operand}
 use Rattle.fort_tree.specs.declared.expr.Run.{Run}
 use Rattle.fort_tree.specs.Tokens.{Spellings}
-use Rattle.fort_reading.specs.Parser.{Eater}
-use Rattle.fort_reading.specs.Words.{is_mark, sees}
-use Rattle.fort_first.specs.Beginnings.{begins_flat_part}
-use Rattle.fort_reading.specs.Parser.{Row, next_of}
+use Rattle.fort_parse_reading.specs.Parser.{Eater}
+use Rattle.fort_parse_reading.specs.Words.{is_mark, sees}
+use Rattle.fort_parse_first.specs.Beginnings.{begins_flat_part}
+use Rattle.fort_parse_reading.specs.Parser.{Row, next_of}
 use Rattle.fort_parse.specs.Flats.{prefixed, operand, infix_part, flat_part, flat_parts, flat, sequential, parallel, generator, reduction, big_reduction, function, word_head, head_for, head_by, head, open_assign, opened, assigned, assign, flat_more, expr_from, expr, next_expr, next_exprs, expr_list, maybe_list}
 use Rattle.fort_syntax.proofs.Agreeing.{GoesOn, Alike, agrees_read, agrees_failed, agrees_accept, agrees_then, agrees_if, agrees_many}
 use Rattle.fort_syntax.proofs.TypesAgree.{same_maybe_parameters}

@@ -1,16 +1,16 @@
 -- The productions of functions and methods read alike over two such tables.
 use Rattle.std.proofs.Common.{ℕ, Bool, true, false, ◌||◌, Option, Some}
-use Rattle.fort_token.specs.declared.marks.Mark.TheVariants as mark
+use Rattle.fort_lex_token.specs.declared.marks.Mark.TheVariants as mark
 use Rattle.fort_tree.specs.declared.spot.Spot.{Spot}
 use Rattle.fort_tree.specs.declared.declarations.FunctionName.{FunctionName}
 use Rattle.fort_tree.specs.declared.declarations.MethodParameters.{MethodParameters}
 use Rattle.fort_tree.specs.declared.declarations.NextMethodParameter.{NextMethodParameter}
 use Rattle.fort_tree.specs.declared.declarations.Parameters.{Parameters}
 use Rattle.fort_tree.specs.Tokens.{Spellings}
-use Rattle.fort_reading.specs.Words.{is_mark, sees}
-use Rattle.fort_declarations.specs.Names.{takes_one}
-use Rattle.fort_reading.specs.Parser.{Row}
-use Rattle.fort_declarations.specs.Methods.{is_self, function_rest, function_from, if_enough, no_second, operator_others, operator_parameters, operator_from, self_parameter, plain_parameter, method_parameter_at, next_method_parameter, next_method_parameters, method_list, maybe_method_list, plain_second, self_second, self_first, plain_first, operator_list, with_body, method_body, method_rest, method_from, operator_method_from}
+use Rattle.fort_parse_reading.specs.Words.{is_mark, sees}
+use Rattle.fort_parse_declarations.specs.Names.{takes_one}
+use Rattle.fort_parse_reading.specs.Parser.{Row}
+use Rattle.fort_parse_declarations.specs.Methods.{is_self, function_rest, function_from, if_enough, no_second, operator_others, operator_parameters, operator_from, self_parameter, plain_parameter, method_parameter_at, next_method_parameter, next_method_parameters, method_list, maybe_method_list, plain_second, self_second, self_first, plain_first, operator_list, with_body, method_body, method_rest, method_from, operator_method_from}
 use Rattle.fort_syntax.proofs.Agreeing.{GoesOn, Alike, agrees_read, agrees_failed, agrees_accept, agrees_then, agrees_if, agrees_many}
 use Rattle.fort_syntax.proofs.TypesAgree.{same_type_tree, same_parameter, same_next_parameter, same_maybe_parameters}
 use Rattle.fort_syntax.proofs.RunsAgree.{same_expr_at}

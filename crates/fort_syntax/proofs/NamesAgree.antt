@@ -1,15 +1,15 @@
 -- The productions of names and of parameters of objects read alike over two such tables.
 use Rattle.std.proofs.Common.{ℕ, Bool, true, Option, Some, None}
 use Rattle.std.specs.Prelude.{codes}
-use Rattle.fort_token.specs.declared.marks.Mark.TheVariants as mark
+use Rattle.fort_lex_token.specs.declared.marks.Mark.TheVariants as mark
 use Rattle.fort_tree.specs.declared.spot.Spot.{Spot}
 use Rattle.fort_tree.specs.declared.spot.Name.{Name}
 use Rattle.fort_tree.specs.declared.spot.NextName.{NextName}
 use Rattle.fort_tree.specs.declared.declarations.NextObjectParameter.{NextObjectParameter}
 use Rattle.fort_tree.specs.Tokens.{Spellings}
-use Rattle.fort_reading.specs.Words.{is_mark, sees}
-use Rattle.fort_reading.specs.Parser.{Row}
-use Rattle.fort_declarations.specs.Names.{semicolon, juxtaposition_name, operator_name, opr_name, next_name, next_names, braces, type_names, extends, excludes, comprises, object_typed, var_parameter, object_parameter, next_object_parameter, next_object_parameters, object_parameter_list, maybe_object_list, object_parens, object_parameters}
+use Rattle.fort_parse_reading.specs.Words.{is_mark, sees}
+use Rattle.fort_parse_reading.specs.Parser.{Row}
+use Rattle.fort_parse_declarations.specs.Names.{semicolon, juxtaposition_name, operator_name, opr_name, next_name, next_names, braces, type_names, extends, excludes, comprises, object_typed, var_parameter, object_parameter, next_object_parameter, next_object_parameters, object_parameter_list, maybe_object_list, object_parens, object_parameters}
 use Rattle.fort_syntax.proofs.Agreeing.{GoesOn, Alike, agrees_read, agrees_accept, agrees_called, agrees_then, agrees_if, agrees_many, same_called}
 use Rattle.fort_syntax.proofs.TypesAgree.{same_type_tree}
 

@@ -1,13 +1,13 @@
 -- The productions of atoms and runs, and those that stand on them, read alike over two such tables.
 use Rattle.std.proofs.Common.{ℕ, zero, suc, Bool, true, false, List, Option, Some, None}
 use Rattle.std.specs.Prelude.{codes}
-use Rattle.fort_token.specs.declared.token.Kind.{Kind}
-use Rattle.fort_token.specs.declared.token.Kind.TheVariants as kind
-use Rattle.fort_token.specs.declared.token.Token.{Token}
-use Rattle.fort_token.specs.declared.marks.Mark.{Mark}
-use Rattle.fort_token.specs.declared.marks.Mark.TheVariants as mark
-use Rattle.fort_token.specs.declared.reserved.Reserved.{Reserved}
-use Rattle.fort_token.specs.declared.reserved.Reserved.TheVariants as reserved
+use Rattle.fort_lex_token.specs.declared.token.Kind.{Kind}
+use Rattle.fort_lex_token.specs.declared.token.Kind.TheVariants as kind
+use Rattle.fort_lex_token.specs.declared.token.Token.{Token}
+use Rattle.fort_lex_token.specs.declared.marks.Mark.{Mark}
+use Rattle.fort_lex_token.specs.declared.marks.Mark.TheVariants as mark
+use Rattle.fort_lex_token.specs.declared.reserved.Reserved.{Reserved}
+use Rattle.fort_lex_token.specs.declared.reserved.Reserved.TheVariants as reserved
 use Rattle.fort_tree.specs.declared.spot.Spot.{Spot}
 use Rattle.fort_tree.specs.declared.spot.Name.{Name}
 use Rattle.fort_tree.specs.declared.types.TypeTree.{TypeTree}
@@ -21,11 +21,11 @@ use Rattle.fort_tree.specs.declared.delimited.TypeClause.{out-TypeClause}
 use Rattle.fort_tree.specs.declared.expr.Flat.{Flat}
 use Rattle.fort_tree.specs.declared.expr.Run.{Run}
 use Rattle.fort_tree.specs.Tokens.{Spellings}
-use Rattle.fort_reading.specs.Parser.{Eater}
+use Rattle.fort_parse_reading.specs.Parser.{Eater}
 use Rattle.fort_tree.specs.Said.{is_there}
-use Rattle.fort_first.specs.Beginnings.{begins_run_part}
+use Rattle.fort_parse_first.specs.Beginnings.{begins_run_part}
 use Rattle.fort_parse.specs.Blocks.{last_ended}
-use Rattle.fort_reading.specs.Parser.{Row, next_of}
+use Rattle.fort_parse_reading.specs.Parser.{Row, next_of}
 use Rattle.fort_parse.specs.Runs.{do_form, if_rest, if_form, while_form, for_rest, for_form, case_rest, case_form, typecase_rest, typecase_form, try_form, word_form, form_for, form_by, delimited, parens, fill_value, fill_size, array_fill, form_atom, do_atom, word_atom, mark_atom, atom_for, atom_by, atom, subscript, tight_atom, method_call, dotted, mark_postfix, postfix_for, postfix_by, postfix, run_part, run_parts, run_level, run_at, expr_at, variable_at}
 use Rattle.fort_syntax.proofs.Agreeing.{GoesOn, Alike, agrees_read, agrees_failed, agrees_accept, agrees_called, agrees_then, agrees_if, agrees_many, tight_called}
 use Rattle.fort_syntax.proofs.TypesAgree.{same_type_tree}

@@ -3,14 +3,14 @@
 use Rattle.std.proofs.Common.{◌≡◌, ℕ, suc, ◌<◌, true, nat_lt, List, [], ◌∷◌, ◌++◌, length, refl, sym, subst, arith}
 use Rattle.std.proofs.lemmas.Bool.{ltb-true}
 use Rattle.std.proofs.lemmas.List.{get_or_append_left, append_cancel_right}
-use Rattle.fort_token.specs.declared.token.Kind.{Kind}
-use Rattle.fort_token.specs.declared.token.Kind.TheVariants as kind
-use Rattle.fort_token.specs.declared.token.Token.{Token}
+use Rattle.fort_lex_token.specs.declared.token.Kind.{Kind}
+use Rattle.fort_lex_token.specs.declared.token.Kind.TheVariants as kind
+use Rattle.fort_lex_token.specs.declared.token.Token.{Token}
 use Rattle.fort_tree.specs.Tokens.{Spellings}
 use Rattle.fort_tree.specs.Component.{NumbersAreIn, number_is_in}
-use Rattle.fort_reading.specs.declared.fault.Fault.TheVariants.{Syntax}
-use Rattle.fort_reading.specs.Parser.{Row, Failed, Locally}
-use Rattle.fort_declarations.specs.Declarations.{whole}
+use Rattle.fort_parse_reading.specs.declared.fault.Fault.TheVariants.{Syntax}
+use Rattle.fort_parse_reading.specs.Parser.{Row, Failed, Locally}
+use Rattle.fort_parse_declarations.specs.Declarations.{whole}
 use Rattle.fort_syntax.proofs.Agreeing.{IsIn, AllIn}
 use Rattle.fort_syntax.proofs.WholeAgrees.{whole_fails}
 

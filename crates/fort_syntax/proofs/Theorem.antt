@@ -2,21 +2,21 @@
 -- stands no earlier than it must.
 use Rattle.std.proofs.Common.{◌≡◌, ℕ, ◌+◌, false, List, [], ◌∷◌, ◌++◌, length, Some, None, refl, sym, ap, subst, ◌∙◌, append_assoc, arith, inl, inr}
 use Rattle.std.proofs.lemmas.List.{append-nil}
-use Rattle.fort_token.specs.declared.token.Token.{Token}
-use Rattle.fort_token.specs.declared.token.Tokens.{Tokens}
+use Rattle.fort_lex_token.specs.declared.token.Token.{Token}
+use Rattle.fort_lex_token.specs.declared.token.Tokens.{Tokens}
 use Rattle.fort_tree.specs.declared.declarations.Component.{Component}
 use Rattle.fort_tree.specs.Tokens.{Spellings}
 use Rattle.fort_tree.specs.Component.{HasTree, yield}
-use Rattle.fort_reading.specs.declared.fault.Fault.TheVariants.{Syntax, TooDeep}
-use Rattle.fort_reading.specs.Parser.{Row, Outcome, Read, Failed, next_of, Locally}
-use Rattle.fort_reading.proofs.Laws.{Only, only_then, only_read, only_failed, Gets, reads, ends, gets_then}
+use Rattle.fort_parse_reading.specs.declared.fault.Fault.TheVariants.{Syntax, TooDeep}
+use Rattle.fort_parse_reading.specs.Parser.{Row, Outcome, Read, Failed, next_of, Locally}
+use Rattle.fort_parse_reading.proofs.Laws.{Only, only_then, only_read, only_failed, Gets, reads, ends, gets_then}
 use Rattle.fort_parse.proofs.AllRuns.{sound_expr_at, complete_expr_at, sound_variable_at, complete_variable_at}
-use Rattle.fort_declarations.specs.Declarations.{component, nothing_after, whole}
+use Rattle.fort_parse_declarations.specs.Declarations.{component, nothing_after, whole}
 use Rattle.fort_syntax.proofs.Stops.{all_in, stops_over}
 use Rattle.fort_syntax.specs.Answer.{HasNone, StopsAt, IsFault, AtMostOne, last_token, place_or_first, fault_place}
-use Rattle.fort_declarations.proofs.Parts.{PartLaws}
-use Rattle.fort_declarations.proofs.DeclarationsSound.{YieldsComponent, sound_component}
-use Rattle.fort_declarations.proofs.DeclarationsComplete.{complete_component}
+use Rattle.fort_parse_declarations.proofs.Parts.{PartLaws}
+use Rattle.fort_parse_declarations.proofs.DeclarationsSound.{YieldsComponent, sound_component}
+use Rattle.fort_parse_declarations.proofs.DeclarationsComplete.{complete_component}
 
 part_laws : (names : Spellings) (n : ℕ) → PartLaws names n
 part_laws names n = record {

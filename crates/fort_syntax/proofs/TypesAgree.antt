@@ -2,11 +2,11 @@
 -- from the other.
 use Rattle.std.proofs.Common.{ℕ, zero, suc, ◌<◌, Bool, true, false, length, Option, Some, None, subst}
 use Rattle.std.specs.Prelude.{codes}
-use Rattle.fort_token.specs.declared.token.Kind.{Kind}
-use Rattle.fort_token.specs.declared.token.Kind.TheVariants as kind
-use Rattle.fort_token.specs.declared.token.Token.{Token}
-use Rattle.fort_token.specs.declared.marks.Mark.{Mark}
-use Rattle.fort_token.specs.declared.marks.Mark.TheVariants as mark
+use Rattle.fort_lex_token.specs.declared.token.Kind.{Kind}
+use Rattle.fort_lex_token.specs.declared.token.Kind.TheVariants as kind
+use Rattle.fort_lex_token.specs.declared.token.Token.{Token}
+use Rattle.fort_lex_token.specs.declared.marks.Mark.{Mark}
+use Rattle.fort_lex_token.specs.declared.marks.Mark.TheVariants as mark
 use Rattle.fort_tree.specs.declared.spot.Spot.{Spot}
 use Rattle.fort_tree.specs.declared.spot.Name.{Name}
 use Rattle.fort_tree.specs.declared.declarations.NextParameter.{NextParameter}
@@ -14,9 +14,9 @@ use Rattle.fort_tree.specs.declared.types.NextType.{NextType}
 use Rattle.fort_tree.specs.declared.types.SimpleType.{SimpleType}
 use Rattle.fort_tree.specs.declared.types.TypeTree.{TypeTree}
 use Rattle.fort_tree.specs.Tokens.{Spellings}
-use Rattle.fort_reading.specs.Parser.{Eater}
-use Rattle.fort_reading.specs.Words.{is_called, is_mark, sees}
-use Rattle.fort_reading.specs.Parser.{Row, next_of}
+use Rattle.fort_parse_reading.specs.Parser.{Eater}
+use Rattle.fort_parse_reading.specs.Words.{is_called, is_mark, sees}
+use Rattle.fort_parse_reading.specs.Parser.{Row, next_of}
 use Rattle.fort_parse_types.specs.Types.{next_type, next_types, type_list, maybe_types, type_parts, array_index, array_type, named_by, named_type, mark_type, simple_for, simple_by, simple_type, arrow_from, type_level, type_tree, typed, parameter, next_parameter, next_parameters, parameters, maybe_parameters}
 use Rattle.fort_syntax.proofs.Agreeing.{GoesOn, Agrees, Alike, agrees_read, agrees_failed, agrees_accept, agrees_called, agrees_then, agrees_if, agrees_many, agrees_name, same_word, same_called}
 

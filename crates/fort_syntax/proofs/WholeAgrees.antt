@@ -3,9 +3,9 @@
 use Rattle.std.proofs.Common.{◌≡◌, ℕ, List, [], ◌∷◌, length, subst}
 use Rattle.fort_tree.specs.declared.declarations.Component.{Component}
 use Rattle.fort_tree.specs.Tokens.{Spellings}
-use Rattle.fort_reading.specs.declared.fault.Fault.{Fault}
-use Rattle.fort_reading.specs.Parser.{Row, Outcome, Read, Failed, and_then, next_of}
-use Rattle.fort_declarations.specs.Declarations.{component, nothing_after, whole}
+use Rattle.fort_parse_reading.specs.declared.fault.Fault.{Fault}
+use Rattle.fort_parse_reading.specs.Parser.{Row, Outcome, Read, Failed, and_then, next_of}
+use Rattle.fort_parse_declarations.specs.Declarations.{component, nothing_after, whole}
 use Rattle.fort_syntax.proofs.Agreeing.{GoesOn, AllIn, Agrees, agrees_accept}
 use Rattle.fort_syntax.proofs.DeclarationsAgree.{same_export, same_declarations}
 

@@ -5,10 +5,10 @@ use Rattle.fort_base.specs.declared.rules.TheConstants.{SYNTAX, TOO_DEEP, TOO_MA
 use Rattle.fort_base.specs.declared.refusal.Place.{Place}
 use Rattle.fort_base.specs.declared.refusal.CheckFault.{CheckFault}
 use Rattle.fort_base.specs.declared.refusal.CheckFault.TheVariants as a_fault
-use Rattle.fort_token.specs.declared.token.Token.{Token}
-use Rattle.fort_token.specs.declared.token.Tokens.{Tokens}
+use Rattle.fort_lex_token.specs.declared.token.Token.{Token}
+use Rattle.fort_lex_token.specs.declared.token.Tokens.{Tokens}
 use Rattle.fort_tree.specs.declared.declarations.Component.{Component}
-use Rattle.fort_declarations.specs.declared.parsed.Parsed.{Parsed}
+use Rattle.fort_parse_declarations.specs.declared.parsed.Parsed.{Parsed}
 use Rattle.fort_tree.specs.Component.{HasTree, NumbersAreIn}
 use Rattle.fort_tree.specs.Tokens.{Spellings}
 use Rattle.fort_tree.specs.Openers.{AllShallow, FirstDeep}

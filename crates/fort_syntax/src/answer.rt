@@ -1,14 +1,14 @@
 ghost use Rattle.std.specs.Prelude.{◌≡◌, Some, None, option_map};
-ghost use Rattle.fort_reading.specs.Parser.{next_of};
+ghost use Rattle.fort_parse_reading.specs.Parser.{next_of};
 ghost use Rattle.fort_syntax.specs.Answer.{Answers, Reading, fault_place, last_token, place_or_first};
 
 use fort_base::rules::{SYNTAX, TOO_DEEP, TOO_MANY};
 use fort_base::{CheckFault, Place};
-use fort_declarations::{Parsed, whole};
-use fort_limits::first_crowded;
-use fort_openers::first_deep;
-use fort_reading::{Cursor, Fault};
-use fort_token::{Token, Tokens};
+use fort_lex_token::{Token, Tokens};
+use fort_parse_declarations::{Parsed, whole};
+use fort_parse_reading::{Cursor, Fault};
+use fort_tree_limits::first_crowded;
+use fort_tree_openers::first_deep;
 use std::alloc::Global;
 
 /// How many parts may be open in one another before the stack is held to be too small for more.

@@ -6,5 +6,5 @@ mod answer;
 mod laws;
 
 pub use answer::component;
-pub use fort_declarations::Parsed;
+pub use fort_parse_declarations::Parsed;
 pub use laws::at_most_one_tree;

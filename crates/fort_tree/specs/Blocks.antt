@@ -1,9 +1,9 @@
 -- The chapter "Grammar", blocks and the forms that end with `end`: what one level of each says.
 use Rattle.std.specs.Prelude.{Bool, true, false, ◌&&◌, ◌||◌, not, List, [], ◌∷◌, ◌++◌, Option, Some, None}
-use Rattle.fort_token.specs.declared.token.Token.{Token}
-use Rattle.fort_token.specs.declared.marks.Mark.TheVariants as mark
-use Rattle.fort_token.specs.declared.reserved.Reserved.{Reserved}
-use Rattle.fort_token.specs.declared.reserved.Reserved.TheVariants as reserved
+use Rattle.fort_lex_token.specs.declared.token.Token.{Token}
+use Rattle.fort_lex_token.specs.declared.marks.Mark.TheVariants as mark
+use Rattle.fort_lex_token.specs.declared.reserved.Reserved.{Reserved}
+use Rattle.fort_lex_token.specs.declared.reserved.Reserved.TheVariants as reserved
 use Rattle.fort_tree.specs.declared.spot.Spot.{Spot}
 use Rattle.fort_tree.specs.declared.spot.NextName.{NextName}
 use Rattle.fort_tree.specs.declared.declarations.InitialSign.{InitialSign}

@@ -4,11 +4,11 @@
 use Rattle.std.specs.Prelude.{ℕ, ◌≡◌, Bool, true, ◌&&◌, IsTrue, List, [], ◌∷◌, ◌++◌, Option, Some, None, map, length, nat_lt}
 use Rattle.std.specs.List.{AllPass}
 use Rattle.fort_ops.specs.declared.op.Op.TheVariants as op
-use Rattle.fort_token.specs.declared.token.Kind.{Kind}
-use Rattle.fort_token.specs.declared.token.Kind.TheVariants as kind
-use Rattle.fort_token.specs.declared.token.Token.{Token}
-use Rattle.fort_token.specs.declared.token.Tokens.{Tokens}
-use Rattle.fort_token.specs.declared.reserved.Reserved.TheVariants as reserved
+use Rattle.fort_lex_token.specs.declared.token.Kind.{Kind}
+use Rattle.fort_lex_token.specs.declared.token.Kind.TheVariants as kind
+use Rattle.fort_lex_token.specs.declared.token.Token.{Token}
+use Rattle.fort_lex_token.specs.declared.token.Tokens.{Tokens}
+use Rattle.fort_lex_token.specs.declared.reserved.Reserved.TheVariants as reserved
 use Rattle.fort_tree.specs.declared.declarations.Component.{Component}
 use Rattle.fort_tree.specs.declared.declarations.Export.{Export}
 use Rattle.fort_tree.specs.declared.expr.Expr.{Expr}

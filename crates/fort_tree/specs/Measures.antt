@@ -1,7 +1,7 @@
 -- The chapter "Grammar", limits: what one level of each tree measures. The code counts while it
 -- walks a tree.
 use Rattle.std.specs.Prelude.{◌+◌, List, [], ◌∷◌, ◌++◌, Option, Some, None, length, map}
-use Rattle.fort_token.specs.declared.token.Token.{Token}
+use Rattle.fort_lex_token.specs.declared.token.Token.{Token}
 use Rattle.fort_tree.specs.declared.grouped.Joint.TheVariants.{Beside, Behind}
 use Rattle.fort_tree.specs.declared.grouped.Row.{Row}
 use Rattle.fort_tree.specs.declared.spot.Spot.{Spot}

@@ -7,12 +7,12 @@ use Rattle.fort_base.specs.declared.refusal.Gap.{Gap}
 use Rattle.fort_base.specs.declared.refusal.Gap.TheVariants as gap
 use Rattle.fort_ops.specs.declared.op.Op.{Op}
 use Rattle.fort_ops.specs.declared.op.Op.TheVariants as op
-use Rattle.fort_token.specs.declared.token.Kind.{Kind}
-use Rattle.fort_token.specs.declared.token.Kind.TheVariants as kind
-use Rattle.fort_token.specs.declared.token.Token.{Token}
-use Rattle.fort_token.specs.declared.marks.Mark.{Mark}
-use Rattle.fort_token.specs.declared.marks.Mark.TheVariants as mark
-use Rattle.fort_token.specs.declared.reserved.Reserved.{Reserved}
+use Rattle.fort_lex_token.specs.declared.token.Kind.{Kind}
+use Rattle.fort_lex_token.specs.declared.token.Kind.TheVariants as kind
+use Rattle.fort_lex_token.specs.declared.token.Token.{Token}
+use Rattle.fort_lex_token.specs.declared.marks.Mark.{Mark}
+use Rattle.fort_lex_token.specs.declared.marks.Mark.TheVariants as mark
+use Rattle.fort_lex_token.specs.declared.reserved.Reserved.{Reserved}
 use Rattle.fort_tree.specs.declared.spot.Spot.{Spot}
 use Rattle.fort_tree.specs.declared.spot.Name.{Name}
 use Rattle.fort_tree.specs.declared.spot.Sign.{Sign}

@@ -1,6 +1,6 @@
 -- The chapter "Grammar", types: what a type, and a list of parameters, says.
 use Rattle.std.specs.Prelude.{ℕ, ◌+◌, true, ◌&&◌, [], ◌∷◌, ◌++◌, Option, Some, None, length, map}
-use Rattle.fort_token.specs.declared.marks.Mark.TheVariants as mark
+use Rattle.fort_lex_token.specs.declared.marks.Mark.TheVariants as mark
 use Rattle.fort_tree.specs.declared.declarations.NextParameter.{NextParameter}
 use Rattle.fort_tree.specs.declared.declarations.Parameter.{Parameter}
 use Rattle.fort_tree.specs.declared.declarations.Parameters.{Parameters}

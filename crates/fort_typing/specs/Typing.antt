@@ -5,10 +5,10 @@ use Rattle.fort_base.specs.declared.refusal.CheckFault.{CheckFault}
 use Rattle.fort_base.specs.declared.refusal.CheckFault.TheVariants as a_fault
 use Rattle.fort_form.specs.declared.component.Forms.{Forms}
 use Rattle.fort_hier.specs.declared.accepted.Hierarchy.{Hierarchy}
-use Rattle.fort_set.specs.declared.member.Members.{Members}
-use Rattle.fort_known.specs.Known.{Facts}
-use Rattle.fort_known.specs.Spellings.{Spelling}
-use Rattle.fort_typing_whole.specs.Whole.{Whole, typed_whole}
+use Rattle.fort_types_sets.specs.declared.member.Members.{Members}
+use Rattle.fort_typing_known.specs.Known.{Facts}
+use Rattle.fort_typing_known.specs.Spellings.{Spelling}
+use Rattle.fort_typing_meaning.specs.Whole.{Whole, typed_whole}
 use Rattle.fort_typing.specs.declared.progress.Progress.{Progress}
 
 -- what is looked up of a component with these names, this hierarchy and these members

@@ -1,20 +1,20 @@
 //! Constants.
 ghost use Rattle.std.specs.Prelude.{◌≡◌, IfOk, [], ◌∷◌, false};
 ghost use Rattle.fort_form.specs.declared.form.Form.{out-Form};
-ghost use Rattle.fort_known.specs.Read.{facts};
+ghost use Rattle.fort_typing_known.specs.Read.{facts};
 ghost use Rattle.fort_ops.specs.declared.op.Op.TheVariants as an_op;
-ghost use Rattle.fort_known.specs.Sets.{operator_set};
+ghost use Rattle.fort_typing_known.specs.Sets.{operator_set};
 ghost use Rattle.fort_typing_rules.specs.Elements.{chosen};
 ghost use Rattle.fort_typing_rules.specs.Types.{number_type as type_of_number};
-ghost use Rattle.fort_typing_whole.specs.Constants.{constant, negative_at, no_part, operand_negative};
+ghost use Rattle.fort_typing_meaning.specs.Constants.{constant, negative_at, no_part, operand_negative};
 
 use fort_base::{List, Memory, Ty};
-use fort_builtin::{BOOLEAN, STRING, ZZ32, ZZ64};
 use fort_form::Form;
-use fort_known::{Known, operator_spelling, set_of};
+use fort_form_typed::{Chosen, TypedForm};
 use fort_ops::Op;
-use fort_parts::unit;
-use fort_typed_form::{Chosen, TypedForm};
+use fort_types_builtin::{BOOLEAN, STRING, ZZ32, ZZ64};
+use fort_typing_known::{Known, operator_spelling, set_of};
+use fort_typing_parts::unit;
 use std::alloc::Global;
 
 /// The type of a number.
@@ -76,7 +76,7 @@ fn no_part(alloc: Global, forms: &[Form]) -> Option<TypedForm>
 
 /// The constant that a form is, if it is one: a number, `-` before a number, a text, a truth
 /// value, or `()`.
-#[tactic(auto, unfolding(fort_typing_whole::specs::Constants::constant))]
+#[tactic(auto, unfolding(fort_typing_meaning::specs::Constants::constant))]
 pub fn constant(alloc: Global, known: &Known, form: &Form) -> Result<Option<TypedForm>, Memory>
     ensures { IfOk result (λ it. it ≡ constant (facts known.now) form.now) }
 {

@@ -1,20 +1,20 @@
 //! Initials and bodies.
 ghost use Rattle.std.specs.Prelude.{◌≡◌, IfOk};
-ghost use Rattle.fort_known.specs.Read.{facts};
-ghost use Rattle.fort_typing_whole.specs.Whole.{judged_body, judged_initial};
+ghost use Rattle.fort_typing_known.specs.Read.{facts};
+ghost use Rattle.fort_typing_meaning.specs.Whole.{judged_body, judged_initial};
 
 use crate::constants::constant;
 use fort_base::Memory;
 use fort_base::rules::INITIAL_NOT_CONSTANT;
 use fort_form::{BodyForm, InitialForm};
-use fort_judge::Valued;
-use fort_known::{Fault, Known};
-use fort_parts::{breaks, place_of};
+use fort_typing_known::{Fault, Known};
+use fort_typing_meaning::Valued;
+use fort_typing_parts::{breaks, place_of};
 use fort_typing_walk::{body, typed_below};
 use std::alloc::Global;
 
 /// What an initial has become, and the first broken rule so far.
-#[tactic(auto, unfolding(fort_typing_whole::specs::Whole::judged_initial))]
+#[tactic(auto, unfolding(fort_typing_meaning::specs::Whole::judged_initial))]
 pub fn judged_initial(
     alloc: Global,
     known: &Known,
@@ -34,7 +34,7 @@ pub fn judged_initial(
 }
 
 /// What a body has become, and the first broken rule so far.
-#[tactic(auto, unfolding(fort_typing_whole::specs::Whole::judged_body, fort_typing_walk::specs::Walks::body_answer))]
+#[tactic(auto, unfolding(fort_typing_meaning::specs::Whole::judged_body, fort_typing_walk::specs::Walks::body_answer))]
 pub fn judged_body(
     alloc: Global,
     known: &Known,

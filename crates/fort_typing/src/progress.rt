@@ -1,15 +1,15 @@
 //! How far the typing of a component has come.
 ghost use Rattle.std.specs.Prelude.{◌≡◌, IfOk, OnOk, None};
-ghost use Rattle.fort_known.specs.Read.{facts};
-ghost use Rattle.fort_typing_whole.specs.Whole.{begun, judged_bodies, judged_body, judged_initial, judged_initials, with_body, with_initial};
+ghost use Rattle.fort_typing_known.specs.Read.{facts};
+ghost use Rattle.fort_typing_meaning.specs.Whole.{begun, judged_bodies, judged_body, judged_initial, judged_initials, with_body, with_initial};
 ghost use Rattle.fort_typing.specs.Typing.{whole_of};
 
 use crate::declarations::{judged_body, judged_initial};
 use fort_base::{List, Memory, NameId, Ty, TypeId};
 use fort_form::{BodyForm, InitialForm, Parameter};
-use fort_judge::Valued;
-use fort_known::{Fault, Known};
-use fort_typed_form::{TypedBody, TypedForm};
+use fort_form_typed::{TypedBody, TypedForm};
+use fort_typing_known::{Fault, Known};
+use fort_typing_meaning::Valued;
 use std::alloc::Global;
 
 /// How far the typing of a component has come.
@@ -88,7 +88,7 @@ impl Progress {
     }
 
     /// All initials.
-    #[tactic(auto, unfolding(fort_typing_whole::specs::Whole::judged_initials))]
+    #[tactic(auto, unfolding(fort_typing_meaning::specs::Whole::judged_initials))]
     pub fn add_initials(
         &mut self,
         alloc: Global,
@@ -105,7 +105,7 @@ impl Progress {
     }
 
     /// All bodies.
-    #[tactic(auto, unfolding(fort_typing_whole::specs::Whole::judged_bodies))]
+    #[tactic(auto, unfolding(fort_typing_meaning::specs::Whole::judged_bodies))]
     pub fn add_bodies(
         &mut self,
         alloc: Global,

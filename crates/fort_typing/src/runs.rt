@@ -1,12 +1,12 @@
 //! The function `run`.
 ghost use Rattle.std.specs.Prelude.{◌≡◌, IfOk};
 ghost use Rattle.fort_base.specs.declared.ty.Ty.{out-Ty};
-ghost use Rattle.fort_known.specs.Read.{facts};
-ghost use Rattle.fort_typing_whole.specs.Whole.{any_unit, has_run, is_unit_at};
+ghost use Rattle.fort_typing_known.specs.Read.{facts};
+ghost use Rattle.fort_typing_meaning.specs.Whole.{any_unit, has_run, is_unit_at};
 
 use fort_base::{Memory, Ty};
-use fort_known::{Known, set_of};
-use fort_set::Member;
+use fort_types_sets::Member;
+use fort_typing_known::{Known, set_of};
 
 /// Whether it is the type of `()`.
 fn is_unit(ty: &Ty) -> bool
@@ -31,7 +31,7 @@ fn any_unit(members: &[Member]) -> bool
 }
 
 /// Whether there is a function `run` without parameters and with the result `()`.
-#[tactic(auto, unfolding(fort_typing_whole::specs::Whole::has_run))]
+#[tactic(auto, unfolding(fort_typing_meaning::specs::Whole::has_run))]
 pub fn has_run(known: &Known) -> Result<bool, Memory>
     ensures { IfOk result (λ it. it ≡ has_run (facts known.now)) }
 {

@@ -1,6 +1,6 @@
 //! Typing of a component.
 ghost use Rattle.std.specs.Prelude.{◌≡◌, IfOk, IfErr, Ok, None};
-ghost use Rattle.fort_typing_whole.specs.Whole.{typed_whole};
+ghost use Rattle.fort_typing_meaning.specs.Whole.{typed_whole};
 ghost use Rattle.fort_typing.specs.Typing.{facts_of, IsFault};
 
 use crate::progress::Progress;
@@ -8,10 +8,10 @@ use crate::runs::has_run;
 use fort_base::rules::NO_RUN;
 use fort_base::{Bytes, CheckFault, TypeTable};
 use fort_form::Forms;
+use fort_form_typed::Typed;
 use fort_hier::Hierarchy;
-use fort_known::{Index, Known, index_of};
-use fort_set::Members;
-use fort_typed_form::Typed;
+use fort_types_sets::Members;
+use fort_typing_known::{Index, Known, index_of};
 use std::alloc::Global;
 
 /// The typed forms of a component whose names, hierarchy and members these are.
@@ -40,7 +40,7 @@ pub fn typed<'a>(
 }
 
 /// The same with the table of the declared types, and the index by name.
-#[tactic(auto, unfolding(fort_typing_whole::specs::Whole::typed_whole))]
+#[tactic(auto, unfolding(fort_typing_meaning::specs::Whole::typed_whole))]
 fn typed_by(
     alloc: Global,
     names: &[Bytes],

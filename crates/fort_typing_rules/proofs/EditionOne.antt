@@ -12,9 +12,9 @@ use Rattle.fort_form.specs.declared.form.Item.{Item}
 use Rattle.fort_form.specs.declared.form.Branch.{Branch}
 use Rattle.fort_form.specs.declared.form.TypeBranch.{TypeBranch}
 use Rattle.fort_form.specs.declared.form.Generator.{Generator}
-use Rattle.fort_typed_form.specs.declared.typed_form.Chosen.{Chosen}
-use Rattle.fort_typed_form.specs.declared.typed_form.TypedForm.{TypedForm}
-use Rattle.fort_known.specs.Known.{Knows}
+use Rattle.fort_form_typed.specs.declared.typed_form.Chosen.{Chosen}
+use Rattle.fort_form_typed.specs.declared.typed_form.TypedForm.{TypedForm}
+use Rattle.fort_typing_known.specs.Known.{Knows}
 use Rattle.fort_typing_rules.specs.declared.part.Part.{Part}
 use Rattle.fort_typing_rules.specs.declared.part.Meaning.{Meaning}
 use Rattle.fort_typing_rules.specs.Calls.{Calling, Calls}

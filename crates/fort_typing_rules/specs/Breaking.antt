@@ -19,12 +19,12 @@ use Rattle.fort_form.specs.declared.form.Generator.{Generator, out-Generator}
 use Rattle.fort_form.specs.declared.form.Parameter.{Parameter}
 use Rattle.fort_form.specs.declared.form.Reduction.{Reduction}
 use Rattle.fort_form.specs.declared.form.Update.{Update}
-use Rattle.fort_typed_form.specs.declared.typed_form.Chosen.{Chosen}
-use Rattle.fort_typed_form.specs.declared.typed_form.TypedForm.{TypedForm}
-use Rattle.fort_known.specs.declared.fault.Fault.{Fault}
-use Rattle.fort_known.specs.Known.{Knows}
-use Rattle.fort_known.specs.Names.{nothing, standing, is_visible}
-use Rattle.fort_known.specs.Sets.{operator_set}
+use Rattle.fort_form_typed.specs.declared.typed_form.Chosen.{Chosen}
+use Rattle.fort_form_typed.specs.declared.typed_form.TypedForm.{TypedForm}
+use Rattle.fort_typing_known.specs.declared.fault.Fault.{Fault}
+use Rattle.fort_typing_known.specs.Known.{Knows}
+use Rattle.fort_typing_known.specs.Names.{nothing, standing, is_visible}
+use Rattle.fort_typing_known.specs.Sets.{operator_set}
 use Rattle.fort_typing_rules.specs.declared.part.Part.{Part}
 use Rattle.fort_typing_rules.specs.declared.part.Meaning.{Meaning}
 use Rattle.fort_typing_rules.specs.declared.part.Meaning.TheVariants as a_meaning

@@ -6,16 +6,16 @@ use Rattle.fort_base.specs.declared.ids.SetId.{SetId}
 use Rattle.fort_base.specs.declared.refusal.Rule.{Rule}
 use Rattle.fort_base.specs.declared.rules.TheConstants.{NOT_APPLICABLE, WIDENING_UNCLEAR}
 use Rattle.fort_base.specs.declared.ty.Ty.{Ty}
-use Rattle.fort_set.specs.declared.member.Member.{Member}
-use Rattle.fort_set.specs.declared.member.MemberSet.{MemberSet}
-use Rattle.fort_set.specs.Rules.{StandsAt}
-use Rattle.fort_set.specs.Best.{IsMostSpecific}
-use Rattle.fort_call.specs.declared.choice.Choice.TheVariants as choice
-use Rattle.fort_call.specs.declared.choice.Widening.{Widening}
-use Rattle.fort_call.specs.Choosing.{Chooses}
-use Rattle.fort_call.specs.Widening.{WidenedAt, AreWidened, Widens}
-use Rattle.fort_known.specs.Known.{Knows}
-use Rattle.fort_builtin.specs.declared.types.TheConstants.{ZZ32, ZZ64}
+use Rattle.fort_types_sets.specs.declared.member.Member.{Member}
+use Rattle.fort_types_sets.specs.declared.member.MemberSet.{MemberSet}
+use Rattle.fort_types_sets.specs.Rules.{StandsAt}
+use Rattle.fort_types_sets.specs.Best.{IsMostSpecific}
+use Rattle.fort_typing_rules.specs.declared.choice.Choice.TheVariants as choice
+use Rattle.fort_typing_rules.specs.declared.choice.Widening.{Widening}
+use Rattle.fort_typing_rules.specs.Choosing.{Chooses}
+use Rattle.fort_typing_rules.specs.Widening.{WidenedAt, AreWidened, Widens}
+use Rattle.fort_typing_known.specs.Known.{Knows}
+use Rattle.fort_types_builtin.specs.declared.types.TheConstants.{ZZ32, ZZ64}
 
 -- ZZ32 is widened to ZZ64
 abbrev pub to_zz64 : Widening

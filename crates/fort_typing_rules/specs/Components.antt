@@ -8,22 +8,22 @@ use Rattle.fort_base.specs.declared.refusal.Place.{Place}
 use Rattle.fort_base.specs.declared.rules.TheConstants.{MISMATCH, INITIAL_NOT_CONSTANT, NO_RUN}
 use Rattle.fort_base.specs.declared.ty.Ty.{Ty}
 use Rattle.fort_ops.specs.declared.op.Op.TheVariants as an_op
-use Rattle.fort_set.specs.declared.member.Member.{Member}
-use Rattle.fort_set.specs.declared.member.MemberSet.{MemberSet}
-use Rattle.fort_set.specs.Rules.{StandsAt}
+use Rattle.fort_types_sets.specs.declared.member.Member.{Member}
+use Rattle.fort_types_sets.specs.declared.member.MemberSet.{MemberSet}
+use Rattle.fort_types_sets.specs.Rules.{StandsAt}
 use Rattle.fort_scope.specs.declared.binding.Binding.{Binding}
 use Rattle.fort_form.specs.declared.form.Form.{Form, out-Form}
 use Rattle.fort_form.specs.declared.form.Form.TheOpen.{Form-F}
 use Rattle.fort_form.specs.declared.component.BodyForm.{BodyForm}
 use Rattle.fort_form.specs.declared.component.Forms.{Forms}
 use Rattle.fort_form.specs.declared.component.InitialForm.{InitialForm}
-use Rattle.fort_typed_form.specs.declared.component.Typed.{Typed}
-use Rattle.fort_typed_form.specs.declared.component.TypedBody.{TypedBody}
-use Rattle.fort_typed_form.specs.declared.typed_form.TypedForm.{TypedForm}
-use Rattle.fort_typed_form.specs.declared.typed_form.TypedForm.TheVariants as a_typed
-use Rattle.fort_known.specs.declared.fault.Fault.{Fault}
-use Rattle.fort_known.specs.Known.{Knows, within}
-use Rattle.fort_known.specs.Sets.{set_of, operator_set}
+use Rattle.fort_form_typed.specs.declared.component.Typed.{Typed}
+use Rattle.fort_form_typed.specs.declared.component.TypedBody.{TypedBody}
+use Rattle.fort_form_typed.specs.declared.typed_form.TypedForm.{TypedForm}
+use Rattle.fort_form_typed.specs.declared.typed_form.TypedForm.TheVariants as a_typed
+use Rattle.fort_typing_known.specs.declared.fault.Fault.{Fault}
+use Rattle.fort_typing_known.specs.Known.{Knows, within}
+use Rattle.fort_typing_known.specs.Sets.{set_of, operator_set}
 use Rattle.fort_typing_rules.specs.Types.{string, boolean, unit, number_type, IsBelow, type_of, place_of, fault}
 use Rattle.fort_typing_rules.specs.Calls.{Calls, set_at}
 use Rattle.fort_typing_rules.specs.Elements.{chosen}

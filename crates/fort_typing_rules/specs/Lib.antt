@@ -1,3 +1,5 @@
+pub mod Choosing
+pub mod Widening
 pub mod Types
 pub mod Calls
 pub mod Elements

@@ -6,14 +6,14 @@ use Rattle.fort_base.specs.declared.ty.Ty.{Ty, out-Ty}
 use Rattle.fort_base.specs.declared.ty.Ty.TheVariants as a_type
 use Rattle.fort_base.specs.declared.ty.Ty.TheOpen.{Ty-F}
 use Rattle.fort_types.specs.Types.{Below}
-use Rattle.fort_builtin.specs.declared.types.TheConstants.{EXCEPTION, ZZ32, ZZ64, STRING, BOOLEAN, RANGE}
+use Rattle.fort_types_builtin.specs.declared.types.TheConstants.{EXCEPTION, ZZ32, ZZ64, STRING, BOOLEAN, RANGE}
 use Rattle.fort_form.specs.declared.form.Form.{Form, out-Form}
 use Rattle.fort_form.specs.declared.form.Form.TheOpen.{Form-F}
 use Rattle.fort_form.specs.declared.form.Parameter.{Parameter}
-use Rattle.fort_typed_form.specs.declared.typed_form.TypedForm.{TypedForm, out-TypedForm}
-use Rattle.fort_typed_form.specs.declared.typed_form.TypedForm.TheOpen.{TypedForm-F}
-use Rattle.fort_known.specs.declared.fault.Fault.{Fault}
-use Rattle.fort_known.specs.Known.{Knows}
+use Rattle.fort_form_typed.specs.declared.typed_form.TypedForm.{TypedForm, out-TypedForm}
+use Rattle.fort_form_typed.specs.declared.typed_form.TypedForm.TheOpen.{TypedForm-F}
+use Rattle.fort_typing_known.specs.declared.fault.Fault.{Fault}
+use Rattle.fort_typing_known.specs.Known.{Knows}
 
 -- ---- built-in types
 

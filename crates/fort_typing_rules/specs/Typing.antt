@@ -9,7 +9,7 @@ use Rattle.fort_base.specs.declared.ty.Ty.TheVariants as a_type
 use Rattle.fort_base.specs.declared.ty.Ty.TheOpen.{Ty-F}
 use Rattle.fort_ops.specs.declared.op.Op.{Op}
 use Rattle.fort_ops.specs.declared.op.Op.TheVariants as an_op
-use Rattle.fort_set.specs.declared.field.Field.{Field}
+use Rattle.fort_types_sets.specs.declared.field.Field.{Field}
 use Rattle.fort_scope.specs.declared.binding.Binding.{Binding}
 use Rattle.fort_form.specs.declared.form.Form.{Form, out-Form}
 use Rattle.fort_form.specs.declared.form.Form.TheOpen.{Form-F, Item-F}
@@ -22,13 +22,13 @@ use Rattle.fort_form.specs.declared.form.Reduction.{Reduction}
 use Rattle.fort_form.specs.declared.form.Reduction.TheVariants as a_reduction
 use Rattle.fort_form.specs.declared.form.Update.{Update}
 use Rattle.fort_form.specs.declared.form.Update.TheVariants as an_update
-use Rattle.fort_typed_form.specs.declared.typed_form.Chosen.{Chosen}
-use Rattle.fort_typed_form.specs.declared.typed_form.TypedForm.{TypedForm, out-TypedForm}
-use Rattle.fort_typed_form.specs.declared.typed_form.TypedForm.TheVariants as a_typed
-use Rattle.fort_typed_form.specs.declared.typed_form.TypedForm.TheOpen.{TypedForm-F}
-use Rattle.fort_known.specs.Known.{Facts, Knows}
-use Rattle.fort_known.specs.Names.{a_binding, a_field, a_variable, a_single, functions, standing, is_visible, field_at}
-use Rattle.fort_known.specs.Sets.{operator_set}
+use Rattle.fort_form_typed.specs.declared.typed_form.Chosen.{Chosen}
+use Rattle.fort_form_typed.specs.declared.typed_form.TypedForm.{TypedForm, out-TypedForm}
+use Rattle.fort_form_typed.specs.declared.typed_form.TypedForm.TheVariants as a_typed
+use Rattle.fort_form_typed.specs.declared.typed_form.TypedForm.TheOpen.{TypedForm-F}
+use Rattle.fort_typing_known.specs.Known.{Facts, Knows}
+use Rattle.fort_typing_known.specs.Names.{a_binding, a_field, a_variable, a_single, functions, standing, is_visible, field_at}
+use Rattle.fort_typing_known.specs.Sets.{operator_set}
 use Rattle.fort_typing_rules.specs.declared.part.Part.{Part}
 use Rattle.fort_typing_rules.specs.declared.part.Meaning.{Meaning}
 use Rattle.fort_typing_rules.specs.declared.part.Meaning.TheVariants as a_meaning

@@ -1,6 +1,6 @@
 //! What is known of the elements of a run or of a juxtaposition.
 use fort_base::{List, NameId, Place};
-use fort_typed_form::TypedForm;
+use fort_form_typed::TypedForm;
 
 /// An element of a run or of a juxtaposition, as far as it has been asked.
 #[derive(Drop)]

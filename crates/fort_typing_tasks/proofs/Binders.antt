@@ -7,10 +7,10 @@ use Rattle.fort_form.specs.declared.form.Form.TheVariants as a_form
 use Rattle.fort_form.specs.declared.form.Form.TheOpen.{Form-F}
 use Rattle.fort_form.specs.declared.form.Branch.{Branch}
 use Rattle.fort_form.specs.declared.form.TypeBranch.{TypeBranch}
-use Rattle.fort_known.specs.Known.{Facts}
-use Rattle.fort_judge.specs.Parts.{Judge, Piece, Arm, Clause, Giving, State}
-use Rattle.fort_judge.specs.Judging.{inside, judged, judged_branch, judged_clause, level}
-use Rattle.fort_judge.proofs.Levels.{level-Case, level-Typecase, level-Try}
+use Rattle.fort_typing_known.specs.Known.{Facts}
+use Rattle.fort_typing_meaning.specs.Parts.{Judge, Piece, Arm, Clause, Giving, State}
+use Rattle.fort_typing_meaning.specs.Judging.{inside, judged, judged_branch, judged_clause, level}
+use Rattle.fort_typing_meaning.proofs.Levels.{level-Case, level-Typecase, level-Try}
 use Rattle.fort_typing_tasks.specs.declared.task.Task.{Task}
 use Rattle.fort_typing_tasks.specs.Tasks.{run}
 use Rattle.fort_typing_tasks.specs.Insides.{case_inside, try_inside, typecase_inside}

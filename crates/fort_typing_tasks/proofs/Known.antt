@@ -3,15 +3,15 @@ use Rattle.std.proofs.Common.{◌≡◌, Bool, true, false, cond, List, [], ◌�
 use Rattle.fort_base.specs.declared.ids.NameId.{NameId}
 use Rattle.fort_base.specs.declared.refusal.Place.{Place}
 use Rattle.fort_base.specs.declared.ty.Ty.{Ty}
-use Rattle.fort_typed_form.specs.declared.typed_form.TypedForm.{TypedForm}
-use Rattle.fort_known.specs.Known.{Facts}
-use Rattle.fort_judge.specs.declared.frame.Frame.{Frame}
-use Rattle.fort_judge.specs.declared.frame.Slot.{Slot}
-use Rattle.fort_judge.specs.declared.frame.Slot.TheVariants as a_slot
-use Rattle.fort_judge.specs.declared.frame.Want.{Want}
-use Rattle.fort_judge.specs.declared.frame.Want.TheVariants as a_want
-use Rattle.fort_judge.specs.Tests.{taken}
-use Rattle.fort_judge.specs.Parts.{Judge, Clause, State, said, ask, ask_with, take_part, kept_if, cases, unless_lost, else_with, with_bindings}
+use Rattle.fort_form_typed.specs.declared.typed_form.TypedForm.{TypedForm}
+use Rattle.fort_typing_known.specs.Known.{Facts}
+use Rattle.fort_typing_meaning.specs.declared.frame.Frame.{Frame}
+use Rattle.fort_typing_meaning.specs.declared.frame.Slot.{Slot}
+use Rattle.fort_typing_meaning.specs.declared.frame.Slot.TheVariants as a_slot
+use Rattle.fort_typing_meaning.specs.declared.frame.Want.{Want}
+use Rattle.fort_typing_meaning.specs.declared.frame.Want.TheVariants as a_want
+use Rattle.fort_typing_meaning.specs.Tests.{taken}
+use Rattle.fort_typing_meaning.specs.Parts.{Judge, Clause, State, said, ask, ask_with, take_part, kept_if, cases, unless_lost, else_with, with_bindings}
 use Rattle.fort_typing_rules.specs.Typing.{with_clause}
 use Rattle.fort_typing_tasks.specs.Tasks.{on_otherwise}
 

@@ -1,9 +1,9 @@
 -- One generator alone, and a target that is forgotten.
 use Rattle.std.proofs.Common.{◌≡◌, Bool, true, false, cond, List, [], ◌∷◌, Option, Some, None, refl}
-use Rattle.fort_known.specs.Known.{Facts}
+use Rattle.fort_typing_known.specs.Known.{Facts}
 use Rattle.fort_ops.specs.declared.op.Op.{Op}
-use Rattle.fort_judge.specs.Parts.{Giving, Judge, State, ask, said, sources, take_part}
-use Rattle.fort_judge.specs.Judging.{assigned_part}
+use Rattle.fort_typing_meaning.specs.Parts.{Giving, Judge, State, ask, said, sources, take_part}
+use Rattle.fort_typing_meaning.specs.Judging.{assigned_part}
 use Rattle.fort_typing_tasks.specs.Tasks.{forgotten, on_source}
 
 either_way : (c : Bool) (s : State) → cond c s s ≡ s

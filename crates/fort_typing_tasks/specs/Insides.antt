@@ -5,12 +5,12 @@ use Rattle.fort_base.specs.declared.refusal.Place.{Place}
 use Rattle.fort_form.specs.declared.form.Parameter.{Parameter}
 use Rattle.fort_form.specs.declared.form.Reduction.{Reduction}
 use Rattle.fort_form.specs.declared.form.Update.{Update}
-use Rattle.fort_known.specs.Known.{Facts}
+use Rattle.fort_typing_known.specs.Known.{Facts}
 use Rattle.fort_typing_rules.specs.Typing.{parameter_binding, update_operator}
-use Rattle.fort_judge.specs.declared.frame.Want.TheVariants as a_want
-use Rattle.fort_judge.specs.declared.frame.Slot.TheVariants as a_slot
-use Rattle.fort_judge.specs.Parts.{Judge, Arm, Clause, Giving, State, said, ask, ask_if, unless_lost, bind_all, watch, sources, take_subject, clauses, catches, cases, lost_if_broken, else_with}
-use Rattle.fort_judge.specs.Judging.{assigned_part, reduction_want, take_target}
+use Rattle.fort_typing_meaning.specs.declared.frame.Want.TheVariants as a_want
+use Rattle.fort_typing_meaning.specs.declared.frame.Slot.TheVariants as a_slot
+use Rattle.fort_typing_meaning.specs.Parts.{Judge, Arm, Clause, Giving, State, said, ask, ask_if, unless_lost, bind_all, watch, sources, take_subject, clauses, catches, cases, lost_if_broken, else_with}
+use Rattle.fort_typing_meaning.specs.Judging.{assigned_part, reduction_want, take_target}
 
 abbrev pub for_inside : Facts → List Giving → Judge → State → State
 for_inside k gs b s = unless_lost (ask k a_slot.Last a_want.Unit b) (sources k gs s)

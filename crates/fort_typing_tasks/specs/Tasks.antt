@@ -9,13 +9,13 @@ use Rattle.fort_form.specs.declared.form.Form.{Form}
 use Rattle.fort_form.specs.declared.form.Branch.{Branch}
 use Rattle.fort_form.specs.declared.form.TypeBranch.{TypeBranch}
 use Rattle.fort_form.specs.declared.form.Form.TheOpen.{Form-F}
-use Rattle.fort_known.specs.Known.{Facts}
+use Rattle.fort_typing_known.specs.Known.{Facts}
 use Rattle.fort_typing_rules.specs.declared.part.Meaning.TheVariants as a_meaning
 use Rattle.fort_typing_rules.specs.Typing.{binding, named_parts, parameter_binding}
-use Rattle.fort_judge.specs.declared.frame.Frame.{Frame}
-use Rattle.fort_judge.specs.declared.frame.Slot.TheVariants as a_slot
-use Rattle.fort_judge.specs.Parts.{Judge, Piece, Arm, Clause, Giving, State, said, ask, ask_below, asks, unless_lost, with_bindings, bind, bind_all, bind_parts, watch, ask_with, take_part, take_below, take_initial, take_initials, items, take_source, sources, take_side, sides, take_subject, take_test, clauses, arms, catches, cases, lost_if_broken, else_with, take_element, elements, take_assigned}
-use Rattle.fort_judge.specs.Judging.{take_target, closed, judged, judged_item, judged_branch, judged_generator, judged_clause, level}
+use Rattle.fort_typing_meaning.specs.declared.frame.Frame.{Frame}
+use Rattle.fort_typing_meaning.specs.declared.frame.Slot.TheVariants as a_slot
+use Rattle.fort_typing_meaning.specs.Parts.{Judge, Piece, Arm, Clause, Giving, State, said, ask, ask_below, asks, unless_lost, with_bindings, bind, bind_all, bind_parts, watch, ask_with, take_part, take_below, take_initial, take_initials, items, take_source, sources, take_side, sides, take_subject, take_test, clauses, arms, catches, cases, lost_if_broken, else_with, take_element, elements, take_assigned}
+use Rattle.fort_typing_meaning.specs.Judging.{take_target, closed, judged, judged_item, judged_branch, judged_generator, judged_clause, level}
 use Rattle.fort_typing_tasks.specs.declared.task.Task.{Task}
 use Rattle.fort_typing_tasks.specs.declared.task.Task.TheVariants as a_task
 use Rattle.fort_typing_tasks.specs.declared.task.Taking.{Taking}

@@ -1,19 +1,19 @@
 //! Parts that are asked.
 ghost use Rattle.std.specs.Prelude.{◌≡◌, OnOk, map, option_map, List as Seq};
-ghost use Rattle.fort_known.specs.Known.{Facts};
-ghost use Rattle.fort_judge.specs.Parts.{State, ask as on_ask, ask_below as on_ask_below, ask_if as on_ask_if, asks, elements as on_elements, said, sides as on_sides, take_side};
-ghost use Rattle.fort_judge.specs.Judging.{judged};
+ghost use Rattle.fort_typing_known.specs.Known.{Facts};
+ghost use Rattle.fort_typing_meaning.specs.Parts.{State, ask as on_ask, ask_below as on_ask_below, ask_if as on_ask_if, asks, elements as on_elements, said, sides as on_sides, take_side};
+ghost use Rattle.fort_typing_meaning.specs.Judging.{judged};
 ghost use Rattle.fort_typing_tasks.specs.Tasks.{run};
 
 use crate::task::{Listing, Taking, Task};
 use fort_base::{Boxed, Memory, Ty};
+use fort_base_stack::Stack;
 use fort_form::Form;
-use fort_judge::{Slot, Want};
 use fort_ops::Op;
-use fort_stack::Stack;
+use fort_typing_meaning::{Slot, Want};
 
 /// A part is asked.
-#[tactic(auto, unfolding(fort_judge::specs::Parts::ask))]
+#[tactic(auto, unfolding(fort_typing_meaning::specs::Parts::ask))]
 pub fn ask<'a>(
     slot: Slot,
     want: Want<'a>,
@@ -46,7 +46,7 @@ pub fn ask_if<'a>(
 }
 
 /// A part is asked that is to be below a type.
-#[tactic(auto, unfolding(fort_judge::specs::Parts::ask_below))]
+#[tactic(auto, unfolding(fort_typing_meaning::specs::Parts::ask_below))]
 pub fn ask_below<'a>(ty: &'a Ty, form: &'a Form, tasks: &mut Stack<Task<'a>>) -> Result<(), Memory>
     ensures { OnOk result ((k : Facts) (s : State)
         → run k tasks.new s ≡ run k tasks.old (on_ask_below k ty.now (judged k form.now) s)) }
@@ -56,7 +56,7 @@ pub fn ask_below<'a>(ty: &'a Ty, form: &'a Form, tasks: &mut Stack<Task<'a>>) ->
 }
 
 /// Parts are asked in their order.
-#[tactic(auto, unfolding(fort_judge::specs::Parts::asks))]
+#[tactic(auto, unfolding(fort_typing_meaning::specs::Parts::asks))]
 pub fn ask_each<'a>(
     slot: Slot,
     want: Want<'a>,
@@ -77,7 +77,7 @@ pub fn ask_each<'a>(
 }
 
 /// The elements of a run or of a juxtaposition are asked in their order.
-#[tactic(auto, unfolding(fort_judge::specs::Parts::elements))]
+#[tactic(auto, unfolding(fort_typing_meaning::specs::Parts::elements))]
 pub fn elements<'a>(forms: &'a [Form], tasks: &mut Stack<Task<'a>>) -> Result<(), Memory>
     ensures { OnOk result ((k : Facts) (s : State)
         → run k tasks.new s ≡ run k tasks.old (on_elements (map (judged k) forms.now) s)) }
@@ -114,7 +114,7 @@ fn side<'a>(
 
 /// The sides of a chain are asked in their order: the operator before the first one, if there is
 /// one, and the operators between them.
-#[tactic(auto, unfolding(fort_judge::specs::Parts::sides))]
+#[tactic(auto, unfolding(fort_typing_meaning::specs::Parts::sides))]
 pub fn sides<'a>(
     before: Option<Op>,
     ops: &'a [Op],

@@ -1,17 +1,17 @@
 //! Items and generators: what binds names for what stands behind it.
 ghost use Rattle.std.specs.Prelude.{◌≡◌, OnOk, map, List as Seq};
-ghost use Rattle.fort_known.specs.Known.{Facts};
-ghost use Rattle.fort_judge.specs.Parts.{State, item as on_item, items as on_items, sources as on_sources};
-ghost use Rattle.fort_judge.specs.Judging.{judged, judged_generator, judged_item};
-ghost use Rattle.fort_judge.specs.declared.frame.Slot.TheVariants as a_slot;
+ghost use Rattle.fort_typing_known.specs.Known.{Facts};
+ghost use Rattle.fort_typing_meaning.specs.Parts.{State, item as on_item, items as on_items, sources as on_sources};
+ghost use Rattle.fort_typing_meaning.specs.Judging.{judged, judged_generator, judged_item};
+ghost use Rattle.fort_typing_meaning.specs.declared.frame.Slot.TheVariants as a_slot;
 ghost use Rattle.fort_typing_tasks.specs.Tasks.{on_source, run};
 
 use crate::asking::ask;
 use crate::task::{Scoping, Taking, Task};
 use fort_base::Memory;
+use fort_base_stack::Stack;
 use fort_form::{Generator, Item};
-use fort_judge::{Slot, Want};
-use fort_stack::Stack;
+use fort_typing_meaning::{Slot, Want};
 
 /// An item is gone through, which is as wanted where it is an expression.
 #[tactic(auto, using(crate::proofs::Levels::pieces))]
@@ -36,7 +36,7 @@ fn item<'a>(want: Want<'a>, item: &'a Item, tasks: &mut Stack<Task<'a>>) -> Resu
 }
 
 /// The items of a block are gone through in their order.
-#[tactic(auto, unfolding(fort_judge::specs::Parts::items))]
+#[tactic(auto, unfolding(fort_typing_meaning::specs::Parts::items))]
 pub fn items<'a>(items: &'a [Item], tasks: &mut Stack<Task<'a>>) -> Result<(), Memory>
     ensures { OnOk result ((k : Facts) (s : State)
         → run k tasks.new s ≡ run k tasks.old (on_items k (map (judged_item k) items.now) s)) }
@@ -69,7 +69,7 @@ pub fn source<'a>(generator: &'a Generator, tasks: &mut Stack<Task<'a>>) -> Resu
 }
 
 /// Generators are gone through in their order.
-#[tactic(auto, unfolding(fort_judge::specs::Parts::sources))]
+#[tactic(auto, unfolding(fort_typing_meaning::specs::Parts::sources))]
 pub fn sources<'a>(generators: &'a [Generator], tasks: &mut Stack<Task<'a>>) -> Result<(), Memory>
     ensures { OnOk result ((k : Facts) (s : State)
         → run k tasks.new s

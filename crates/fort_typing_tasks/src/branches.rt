@@ -1,19 +1,19 @@
 //! Clauses.
 ghost use Rattle.std.specs.Prelude.{◌≡◌, OnOk, map, List as Seq};
-ghost use Rattle.fort_known.specs.Known.{Facts};
-ghost use Rattle.fort_judge.specs.Parts.{State, arms as on_arms, cases as on_cases, clauses as on_clauses};
-ghost use Rattle.fort_judge.specs.Judging.{judged_branch, judged_clause};
+ghost use Rattle.fort_typing_known.specs.Known.{Facts};
+ghost use Rattle.fort_typing_meaning.specs.Parts.{State, arms as on_arms, cases as on_cases, clauses as on_clauses};
+ghost use Rattle.fort_typing_meaning.specs.Judging.{judged_branch, judged_clause};
 ghost use Rattle.fort_typing_tasks.specs.Tasks.{run};
 
 use crate::asking::ask;
 use crate::task::{Asking, Branching, Casing, Taking, Task};
 use fort_base::{Memory, NameId, Place};
+use fort_base_stack::Stack;
 use fort_form::{Branch, TypeBranch};
-use fort_judge::{Slot, Want};
-use fort_stack::Stack;
+use fort_typing_meaning::{Slot, Want};
 
 /// The clauses of an `if` are asked in their order; their blocks are as wanted.
-#[tactic(auto, using(crate::proofs::Levels::clauses), unfolding(fort_judge::specs::Parts::arms))]
+#[tactic(auto, using(crate::proofs::Levels::clauses), unfolding(fort_typing_meaning::specs::Parts::arms))]
 pub fn arms<'a>(
     want: Want<'a>,
     branches: &'a [Branch],
@@ -34,7 +34,7 @@ pub fn arms<'a>(
 }
 
 /// The clauses of a `case` are asked in their order.
-#[tactic(auto, using(crate::proofs::Levels::clauses), unfolding(fort_judge::specs::Parts::clauses))]
+#[tactic(auto, using(crate::proofs::Levels::clauses), unfolding(fort_typing_meaning::specs::Parts::clauses))]
 pub fn clauses<'a>(branches: &'a [Branch], tasks: &mut Stack<Task<'a>>) -> Result<(), Memory>
     ensures { OnOk result ((k : Facts) (s : State)
         → run k tasks.new s
@@ -52,7 +52,7 @@ pub fn clauses<'a>(branches: &'a [Branch], tasks: &mut Stack<Task<'a>>) -> Resul
 }
 
 /// The clauses of a `typecase` or of a `catch` are asked in their order.
-#[tactic(auto, using(crate::proofs::Levels::clauses), unfolding(fort_judge::specs::Parts::cases))]
+#[tactic(auto, using(crate::proofs::Levels::clauses), unfolding(fort_typing_meaning::specs::Parts::cases))]
 pub fn cases<'a>(
     name: Option<(Place, NameId)>,
     branches: &'a [TypeBranch],

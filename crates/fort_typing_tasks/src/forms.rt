@@ -1,8 +1,8 @@
 //! The parts of each form.
 ghost use Rattle.std.specs.Prelude.{◌≡◌, OnOk, map, option_map, Some, List as Seq};
-ghost use Rattle.fort_known.specs.Known.{Facts};
-ghost use Rattle.fort_judge.specs.Parts.{State, watch};
-ghost use Rattle.fort_judge.specs.Judging.{assigned_part, done_parts, if_parts, inside as on_inside, judged, judged_branch, judged_clause, judged_generator, level, reduction_want};
+ghost use Rattle.fort_typing_known.specs.Known.{Facts};
+ghost use Rattle.fort_typing_meaning.specs.Parts.{State, watch};
+ghost use Rattle.fort_typing_meaning.specs.Judging.{assigned_part, done_parts, if_parts, inside as on_inside, judged, judged_branch, judged_clause, judged_generator, level, reduction_want};
 ghost use Rattle.fort_typing_rules.specs.Typing.{update_operator};
 ghost use Rattle.fort_typing_tasks.specs.Tasks.{on_otherwise, run};
 ghost use Rattle.fort_typing_tasks.specs.Insides.{assign_inside, case_inside, fn_inside, for_inside, reduce_inside, try_inside, typecase_inside};
@@ -12,9 +12,9 @@ use crate::binding::{items, source, sources};
 use crate::branches::{arms, clauses};
 use crate::task::{Asking, Branching, Casing, Scoping, Taking, Task};
 use fort_base::{Boxed, List, Memory, NameId, Place};
+use fort_base_stack::Stack;
 use fort_form::{Branch, Form, Generator, Parameter, Reduction, TypeBranch, Update};
-use fort_judge::{Slot, Want};
-use fort_stack::Stack;
+use fort_typing_meaning::{Slot, Want};
 
 /// The blocks of a `do`.
 fn blocks<'a>(forms: &'a [Form], tasks: &mut Stack<Task<'a>>) -> Result<(), Memory>
@@ -153,7 +153,7 @@ fn typecase_inside<'a>(
 }
 
 /// A name, if there is one, has to be free.
-#[tactic(auto, unfolding(fort_judge::specs::Parts::watch))]
+#[tactic(auto, unfolding(fort_typing_meaning::specs::Parts::watch))]
 fn watch<'a>(name: Option<(Place, NameId)>, tasks: &mut Stack<Task<'a>>) -> Result<(), Memory>
     ensures { OnOk result ((k : Facts) (s : State)
         → run k tasks.new s ≡ run k tasks.old (watch k name s)) }
@@ -200,7 +200,7 @@ fn fn_inside<'a>(
 }
 
 /// An assigned value, or the right side of `+=` or `-=`.
-#[tactic(auto, unfolding(fort_judge::specs::Parts::ask))]
+#[tactic(auto, unfolding(fort_typing_meaning::specs::Parts::ask))]
 fn assigned<'a>(sign: Update, value: &'a Form, tasks: &mut Stack<Task<'a>>) -> Result<(), Memory>
     ensures { OnOk result ((k : Facts) (s : State)
         → run k tasks.new s

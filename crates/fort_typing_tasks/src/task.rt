@@ -1,8 +1,8 @@
 //! What is still to be done of a walk over forms.
 use fort_base::{NameId, Place, Ty};
 use fort_form::{Branch, Form, Generator, Item, Parameter, TypeBranch};
-use fort_judge::{Frame, Slot, Want};
 use fort_ops::Op;
+use fort_typing_meaning::{Frame, Slot, Want};
 
 /// What is still to be done of a walk over forms. The chapter "Typing".
 ///

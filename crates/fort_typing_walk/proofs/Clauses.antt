@@ -1,4 +1,4 @@
 -- What the judge has of a clause.
-use Rattle.fort_judge.proofs.Levels.{clause-is}
+use Rattle.fort_typing_meaning.proofs.Levels.{clause-is}
 
 pub ruleset clauses = (clause-is)

@@ -3,12 +3,12 @@ use Rattle.std.proofs.Common.{◌≡◌, ℕ, List, ◌∷◌, length, Result, O
 use Rattle.fort_scope.specs.declared.binding.Binding.{Binding}
 use Rattle.fort_form.specs.declared.form.Form.{Form}
 use Rattle.fort_form.specs.declared.form.Form.TheOpen.{Form-F}
-use Rattle.fort_known.specs.Known.{Facts}
-use Rattle.fort_judge.specs.declared.frame.Frame.{Frame}
-use Rattle.fort_judge.specs.Parts.{Judge, Piece, Arm, Clause, Giving, State, said, begin}
-use Rattle.fort_judge.specs.Judging.{inside, closed, judge_form, judged, level}
-use Rattle.fort_judge.proofs.Levels.{judged_level}
-use Rattle.fort_judge.proofs.Kept.{keeps_inside, take_whole}
+use Rattle.fort_typing_known.specs.Known.{Facts}
+use Rattle.fort_typing_meaning.specs.declared.frame.Frame.{Frame}
+use Rattle.fort_typing_meaning.specs.Parts.{Judge, Piece, Arm, Clause, Giving, State, said, begin}
+use Rattle.fort_typing_meaning.specs.Judging.{inside, closed, judge_form, judged, level}
+use Rattle.fort_typing_meaning.proofs.Levels.{judged_level}
+use Rattle.fort_typing_meaning.proofs.Kept.{keeps_inside, take_whole}
 use Rattle.fort_typing_tasks.specs.declared.task.Task.{Task}
 use Rattle.fort_typing_tasks.specs.declared.task.Task.TheVariants as a_task
 use Rattle.fort_typing_tasks.specs.Tasks.{closing, run}

@@ -3,9 +3,9 @@ use Rattle.std.proofs.Common.{◌≡◌, Option, Some, None, refl}
 use Rattle.fort_base.specs.declared.refusal.Place.{Place}
 use Rattle.fort_base.specs.declared.ty.Ty.{Ty}
 use Rattle.fort_ops.specs.declared.op.Op.{Op}
-use Rattle.fort_typed_form.specs.declared.typed_form.TypedForm.{TypedForm}
-use Rattle.fort_known.specs.Known.{Facts}
-use Rattle.fort_judge.specs.Parts.{State, compared, after_side, side_of, side_type, side_place}
+use Rattle.fort_form_typed.specs.declared.typed_form.TypedForm.{TypedForm}
+use Rattle.fort_typing_known.specs.Known.{Facts}
+use Rattle.fort_typing_meaning.specs.Parts.{State, compared, after_side, side_of, side_type, side_place}
 use Rattle.fort_typing_walk.specs.Walks.{compared_types, behind_side}
 
 pub compared_by_type : (k : Facts) (op : Op) (at place : Place) (t : Option Ty)

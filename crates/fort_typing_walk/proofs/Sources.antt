@@ -3,11 +3,11 @@ use Rattle.std.proofs.Common.{◌≡◌, Option, Result, Ok, Err, OnOk, ap, ◌�
 use Rattle.fort_base.specs.declared.ids.NameId.{NameId}
 use Rattle.fort_base.specs.declared.refusal.Place.{Place}
 use Rattle.fort_base.specs.declared.ty.Ty.{Ty}
-use Rattle.fort_known.specs.Known.{Facts}
-use Rattle.fort_judge.specs.declared.frame.Valued.{Valued}
-use Rattle.fort_judge.specs.declared.frame.Want.TheVariants as a_want
-use Rattle.fort_judge.specs.Tests.{taken}
-use Rattle.fort_judge.specs.Parts.{State, given_by, gives, take_source, with_frame}
+use Rattle.fort_typing_known.specs.Known.{Facts}
+use Rattle.fort_typing_meaning.specs.declared.frame.Valued.{Valued}
+use Rattle.fort_typing_meaning.specs.declared.frame.Want.TheVariants as a_want
+use Rattle.fort_typing_meaning.specs.Tests.{taken}
+use Rattle.fort_typing_meaning.specs.Parts.{State, given_by, gives, take_source, with_frame}
 
 pub source_taken : (k : Facts) (at : Place) (name : NameId) (place : Place) (s t u : State)
     (v : Valued) (given : Option Ty) {A E : Type 0} (r : Result A E)

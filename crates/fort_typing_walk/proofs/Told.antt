@@ -6,12 +6,12 @@ use Rattle.fort_form.specs.declared.form.Item.{Item}
 use Rattle.fort_form.specs.declared.form.Branch.{Branch}
 use Rattle.fort_form.specs.declared.form.TypeBranch.{TypeBranch}
 use Rattle.fort_form.specs.declared.form.Generator.{Generator}
-use Rattle.fort_known.specs.Known.{Facts}
+use Rattle.fort_typing_known.specs.Known.{Facts}
 use Rattle.fort_typing_rules.specs.Types.{place_at, place_of}
 use Rattle.fort_typing_rules.specs.Typing.{parens_at, listed_at, postfix_at, target_at}
-use Rattle.fort_judge.specs.Parts.{Judge, Piece, Arm, Clause, Giving}
-use Rattle.fort_judge.specs.Judging.{judged, judged_item, judged_branch, judged_generator, judged_clause, judge_form, level}
-use Rattle.fort_judge.proofs.Levels.{judged_level}
+use Rattle.fort_typing_meaning.specs.Parts.{Judge, Piece, Arm, Clause, Giving}
+use Rattle.fort_typing_meaning.specs.Judging.{judged, judged_item, judged_branch, judged_generator, judged_clause, judge_form, level}
+use Rattle.fort_typing_meaning.proofs.Levels.{judged_level}
 
 module _ (k : Facts) where
   abbrev mapped : Form-F Form Item Branch Generator TypeBranch

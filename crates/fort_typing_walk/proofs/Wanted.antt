@@ -3,17 +3,17 @@ use Rattle.std.proofs.Common.{◌≡◌, Bool, true, false, cond, Option, Some, 
 use Rattle.fort_base.specs.declared.refusal.Place.{Place}
 use Rattle.fort_base.specs.declared.rules.TheConstants.{MISMATCH}
 use Rattle.fort_base.specs.declared.ty.Ty.{Ty}
-use Rattle.fort_typed_form.specs.declared.typed_form.TypedForm.{TypedForm}
-use Rattle.fort_known.specs.declared.fault.Fault.{Fault}
-use Rattle.fort_known.specs.Known.{Facts}
-use Rattle.fort_known.specs.Below.{is_below}
+use Rattle.fort_form_typed.specs.declared.typed_form.TypedForm.{TypedForm}
+use Rattle.fort_typing_known.specs.declared.fault.Fault.{Fault}
+use Rattle.fort_typing_known.specs.Known.{Facts}
+use Rattle.fort_typing_known.specs.Below.{is_below}
 use Rattle.fort_typing_rules.specs.declared.part.Meaning.TheVariants as a_meaning
 use Rattle.fort_typing_rules.specs.Types.{type_of, is_nothing}
-use Rattle.fort_judge.specs.declared.frame.Outcome.{Outcome}
-use Rattle.fort_judge.specs.declared.frame.Valued.{Valued}
-use Rattle.fort_judge.specs.Faults.{breaks}
-use Rattle.fort_judge.specs.Tests.{no_node, refused, value}
-use Rattle.fort_judge.specs.Parts.{below_by, element_meaning, element_found}
+use Rattle.fort_typing_meaning.specs.declared.frame.Outcome.{Outcome}
+use Rattle.fort_typing_meaning.specs.declared.frame.Valued.{Valued}
+use Rattle.fort_typing_meaning.specs.Faults.{breaks}
+use Rattle.fort_typing_meaning.specs.Tests.{no_node, refused, value}
+use Rattle.fort_typing_meaning.specs.Parts.{below_by, element_meaning, element_found}
 
 abbrev pub fitting : TypedForm → Option Fault → Valued
 fitting t found = record { node = Some t; found = found }

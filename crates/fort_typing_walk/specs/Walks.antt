@@ -5,21 +5,21 @@ use Rattle.fort_base.specs.declared.ty.Ty.{Ty}
 use Rattle.fort_ops.specs.declared.op.Op.{Op}
 use Rattle.fort_form.specs.declared.form.Form.{Form}
 use Rattle.fort_form.specs.declared.form.Parameter.{Parameter}
-use Rattle.fort_known.specs.Known.{Facts}
-use Rattle.fort_known.specs.Sets.{operator_set}
-use Rattle.fort_known.specs.Below.{is_below}
+use Rattle.fort_typing_known.specs.Known.{Facts}
+use Rattle.fort_typing_known.specs.Sets.{operator_set}
+use Rattle.fort_typing_known.specs.Below.{is_below}
 use Rattle.fort_base.specs.declared.rules.TheConstants.{NOT_AN_EXCEPTION}
-use Rattle.fort_judge.specs.Faults.{breaks}
-use Rattle.fort_called.specs.Called.{called}
-use Rattle.fort_typed_form.specs.declared.typed_form.TypedForm.{TypedForm}
-use Rattle.fort_known.specs.declared.fault.Fault.{Fault}
+use Rattle.fort_typing_meaning.specs.Faults.{breaks}
+use Rattle.fort_typing_call.specs.Called.{called}
+use Rattle.fort_form_typed.specs.declared.typed_form.TypedForm.{TypedForm}
+use Rattle.fort_typing_known.specs.declared.fault.Fault.{Fault}
 use Rattle.fort_typing_rules.specs.declared.part.Meaning.{Meaning}
 use Rattle.fort_typing_rules.specs.Types.{exception, type_of}
 use Rattle.fort_typing_rules.specs.Typing.{parameter_binding}
-use Rattle.fort_judge.specs.Judging.{judged}
-use Rattle.fort_judge.specs.declared.frame.Valued.{Valued}
-use Rattle.fort_judge.specs.Tests.{no_node, valued}
-use Rattle.fort_judge.specs.Parts.{State, as_wanted_below, is_broken, begin, bind_all, said, below_by, compared_by, side_place, side_type}
+use Rattle.fort_typing_meaning.specs.Judging.{judged}
+use Rattle.fort_typing_meaning.specs.declared.frame.Valued.{Valued}
+use Rattle.fort_typing_meaning.specs.Tests.{no_node, valued}
+use Rattle.fort_typing_meaning.specs.Parts.{State, as_wanted_below, is_broken, begin, bind_all, said, below_by, compared_by, side_place, side_type}
 use Rattle.fort_typing_walk.specs.declared.walk.Walk.{Walk}
 
 abbrev pub state : Walk → State

@@ -1,16 +1,16 @@
 //! Bodies: a walk over one body.
 ghost use Rattle.std.specs.Prelude.{◌≡◌, IfOk};
-ghost use Rattle.fort_known.specs.Read.{facts};
+ghost use Rattle.fort_typing_known.specs.Read.{facts};
 ghost use Rattle.fort_typing_walk.specs.Walks.{body_answer};
 
 use crate::elements::wanted_below;
 use crate::walk::Walk;
 use fort_base::{Memory, Ty};
+use fort_base_stack::Stack;
 use fort_form::{Form, Parameter};
-use fort_judge::Valued;
-use fort_known::{Fault, Known};
-use fort_parts::place_of;
-use fort_stack::Stack;
+use fort_typing_known::{Fault, Known};
+use fort_typing_meaning::Valued;
+use fort_typing_parts::place_of;
 use fort_typing_rules::Meaning;
 use fort_typing_tasks::{Scoping, Task};
 use std::alloc::Global;
@@ -21,7 +21,7 @@ use std::mem;
 /// chapter "Typing", declarations.
 ///
 /// Where a parameter's name is visible the body isn't asked.
-#[tactic(auto, using(crate::proofs::Told::flags_told), unfolding(crate::specs::Walks::body_answer, fort_judge::specs::Parts::as_wanted_below))]
+#[tactic(auto, using(crate::proofs::Told::flags_told), unfolding(crate::specs::Walks::body_answer, fort_typing_meaning::specs::Parts::as_wanted_below))]
 pub fn body(
     alloc: Global,
     known: &Known,

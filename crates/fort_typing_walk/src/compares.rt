@@ -1,9 +1,9 @@
 //! Comparisons: the sides of a chain, and what the subject of a `case` is compared with.
 ghost use Rattle.std.specs.Prelude.{◌≡◌, IfOk, OnOk, ◌∷◌, [], true};
-ghost use Rattle.fort_known.specs.Read.{facts};
-ghost use Rattle.fort_known.specs.Sets.{operator_set};
-ghost use Rattle.fort_judge.specs.Faults.{breaks as breaks_by};
-ghost use Rattle.fort_judge.specs.Parts.{compared_by, take_side, take_test};
+ghost use Rattle.fort_typing_known.specs.Read.{facts};
+ghost use Rattle.fort_typing_known.specs.Sets.{operator_set};
+ghost use Rattle.fort_typing_meaning.specs.Faults.{breaks as breaks_by};
+ghost use Rattle.fort_typing_meaning.specs.Parts.{compared_by, take_side, take_test};
 ghost use Rattle.fort_typing_walk.specs.Walks.{behind_side, compared_types, state};
 
 use crate::elements::{side_place, side_type};
@@ -11,13 +11,13 @@ use crate::keeps::keep;
 use crate::walk::Walk;
 use fort_base::rules::MISMATCH;
 use fort_base::{List, Memory, Place, Rule, SetId, Ty};
-use fort_builtin::BOOLEAN;
-use fort_called::{Called, call_of};
-use fort_judge::{Slot, Valued, Want};
-use fort_known::{Known, is_below, operator_spelling, set_of};
+use fort_form_typed::Chosen;
 use fort_ops::Op;
-use fort_parts::{breaks, taken};
-use fort_typed_form::Chosen;
+use fort_types_builtin::BOOLEAN;
+use fort_typing_call::{Called, call_of};
+use fort_typing_known::{Known, is_below, operator_spelling, set_of};
+use fort_typing_meaning::{Slot, Valued, Want};
+use fort_typing_parts::{breaks, taken};
 use fort_typing_rules::Meaning;
 use std::alloc::Global;
 use std::mem;
@@ -126,7 +126,7 @@ impl Walk {
     }
 
     /// As the next side of a chain, behind an operator or none.
-    #[tactic(auto, using(crate::proofs::Sides::sides), unfolding(fort_judge::specs::Parts::take_side))]
+    #[tactic(auto, using(crate::proofs::Sides::sides), unfolding(fort_typing_meaning::specs::Parts::take_side))]
     pub fn take_side(&mut self, known: &Known, op: Option<Op>, place: Place) -> Result<(), Memory>
         ensures { OnOk result (state self.new
             ≡ take_side (facts known.now) op place (state self.old)) }
@@ -150,7 +150,7 @@ impl Walk {
     }
 
     /// As what the subject of a `case` is compared with.
-    #[tactic(auto, using(crate::proofs::Sides::sides), unfolding(fort_judge::specs::Parts::take_test))]
+    #[tactic(auto, using(crate::proofs::Sides::sides), unfolding(fort_typing_meaning::specs::Parts::take_test))]
     pub fn take_test(&mut self, known: &Known, place: Place) -> Result<(), Memory>
         ensures { OnOk result (state self.new
             ≡ take_test (facts known.now) place (state self.old)) }

@@ -1,24 +1,24 @@
 //! What an element, a source and a target are.
 ghost use Rattle.std.specs.Prelude.{◌≡◌, IfOk, cond, Some};
 ghost use Rattle.std.specs.Option.{option_copied};
-ghost use Rattle.fort_known.specs.Read.{facts};
-ghost use Rattle.fort_typed_form.specs.declared.typed_form.TypedForm.{out-TypedForm};
+ghost use Rattle.fort_typing_known.specs.Read.{facts};
+ghost use Rattle.fort_form_typed.specs.declared.typed_form.TypedForm.{out-TypedForm};
 ghost use Rattle.fort_typing_rules.specs.Types.{given};
 ghost use Rattle.fort_typing_rules.specs.Typing.{is_mutable, takes_at};
-ghost use Rattle.fort_judge.specs.Parts.{below_by, element_found, element_meaning, given_by, head_type, side_of, side_place, side_type};
+ghost use Rattle.fort_typing_meaning.specs.Parts.{below_by, element_found, element_meaning, given_by, head_type, side_of, side_place, side_type};
 ghost use Rattle.fort_base.specs.declared.rules.TheConstants.{MISMATCH};
 ghost use Rattle.fort_typing_rules.specs.declared.part.Meaning.TheVariants as a_meaning;
-ghost use Rattle.fort_judge.specs.Faults.{breaks as broken};
-ghost use Rattle.fort_judge.specs.Tests.{no_node, refused as refused_by, value as value_of, valued};
+ghost use Rattle.fort_typing_meaning.specs.Faults.{breaks as broken};
+ghost use Rattle.fort_typing_meaning.specs.Tests.{no_node, refused as refused_by, value as value_of, valued};
 
 use fort_base::rules::MISMATCH;
 use fort_base::{Memory, Place, Ty};
-use fort_builtin::{RANGE, ZZ32};
-use fort_judge::{Outcome, Side, Valued};
-use fort_known::{Fault, Known, field_of, is_below};
-use fort_parts::{breaks, is_nothing, type_of, unit, value, valued};
-use fort_set::Field;
-use fort_typed_form::TypedForm;
+use fort_form_typed::TypedForm;
+use fort_types_builtin::{RANGE, ZZ32};
+use fort_types_sets::Field;
+use fort_typing_known::{Fault, Known, field_of, is_below};
+use fort_typing_meaning::{Outcome, Side, Valued};
+use fort_typing_parts::{breaks, is_nothing, type_of, unit, value, valued};
 use fort_typing_rules::Meaning;
 use std::alloc::Global;
 

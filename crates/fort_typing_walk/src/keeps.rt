@@ -1,16 +1,16 @@
 //! How a part is kept in the frame of the form that is open.
 ghost use Rattle.std.specs.Prelude.{◌≡◌, IfOk, OnOk, map};
-ghost use Rattle.fort_judge.specs.Parts.{declares, declares_all, kept_if, opened};
-ghost use Rattle.fort_typed_form.specs.declared.typed_form.TypedForm.TheVariants as a_typed;
+ghost use Rattle.fort_typing_meaning.specs.Parts.{declares, declares_all, kept_if, opened};
+ghost use Rattle.fort_form_typed.specs.declared.typed_form.TypedForm.TheVariants as a_typed;
 ghost use Rattle.fort_typing_rules.specs.Types.{unit as unit_type};
 ghost use Rattle.fort_typing_rules.specs.Typing.{name_and_type};
 ghost use Rattle.fort_typing_tasks.specs.Tasks.{bindings_of};
 
 use crate::names::with_types;
 use fort_base::{Boxed, List, Memory, NameId, Place, Ty};
-use fort_judge::{Frame, Slot};
-use fort_parts::unit;
-use fort_typed_form::TypedForm;
+use fort_form_typed::TypedForm;
+use fort_typing_meaning::{Frame, Slot};
+use fort_typing_parts::unit;
 use std::alloc::Global;
 
 /// The frame of a form none of whose parts has been asked; it takes no memory.

@@ -1,13 +1,13 @@
 //! Parts and clauses that are asked in their order.
 ghost use Rattle.std.specs.Prelude.{◌≡◌, OnOk, map};
-ghost use Rattle.fort_known.specs.Known.{Facts};
-ghost use Rattle.fort_judge.specs.Parts.{State};
-ghost use Rattle.fort_judge.specs.Judging.{judged, judged_branch};
+ghost use Rattle.fort_typing_known.specs.Known.{Facts};
+ghost use Rattle.fort_typing_meaning.specs.Parts.{State};
+ghost use Rattle.fort_typing_meaning.specs.Judging.{judged, judged_branch};
 ghost use Rattle.fort_typing_tasks.specs.Tasks.{branching as on_branches, listing as on_list, run};
 
 use fort_base::Memory;
+use fort_base_stack::Stack;
 use fort_form::{Branch, Form};
-use fort_stack::Stack;
 use fort_typing_tasks::{Branching, Listing, Task, arms, ask_each, clauses, elements, sides};
 
 /// Parts are asked in their order.

@@ -1,9 +1,9 @@
 //! How bindings change.
 ghost use Rattle.std.specs.Prelude.{◌≡◌, ◌++◌, ◌∷◌, [], OnOk, map, Some};
-ghost use Rattle.fort_known.specs.Known.{Facts};
-ghost use Rattle.fort_known.specs.Read.{facts};
-ghost use Rattle.fort_judge.specs.Parts.{ask_with, bind, bind_all, bind_parts, catches, gives, lose, shadows, take_source, watch, with_bindings};
-ghost use Rattle.fort_judge.specs.Judging.{judged, judged_clause};
+ghost use Rattle.fort_typing_known.specs.Known.{Facts};
+ghost use Rattle.fort_typing_known.specs.Read.{facts};
+ghost use Rattle.fort_typing_meaning.specs.Parts.{ask_with, bind, bind_all, bind_parts, catches, gives, lose, shadows, take_source, watch, with_bindings};
+ghost use Rattle.fort_typing_meaning.specs.Judging.{judged, judged_clause};
 ghost use Rattle.fort_typing_rules.specs.Typing.{named_parts, parameter_binding};
 ghost use Rattle.fort_typing_tasks.specs.Tasks.{bindings_of, on_otherwise, run, scoping as on_change};
 ghost use Rattle.fort_typing_walk.specs.Walks.{caught, state};
@@ -13,13 +13,13 @@ use crate::names::types_for;
 use crate::walk::Walk;
 use fort_base::rules::{NOT_A_GENERATOR, NOT_AN_EXCEPTION, SHADOWS};
 use fort_base::{Memory, NameId, Place, Ty};
-use fort_builtin::EXCEPTION;
+use fort_base_stack::Stack;
 use fort_form::{Form, Parameter, TypeBranch};
-use fort_judge::{Slot, Valued, Want};
-use fort_known::{Known, is_below, is_visible};
-use fort_parts::{breaks, taken};
-use fort_stack::Stack;
-use fort_typed_form::TypedForm;
+use fort_form_typed::TypedForm;
+use fort_types_builtin::EXCEPTION;
+use fort_typing_known::{Known, is_below, is_visible};
+use fort_typing_meaning::{Slot, Valued, Want};
+use fort_typing_parts::{breaks, taken};
 use fort_typing_rules::Meaning;
 use fort_typing_tasks::{Casing, Scoping, Task, ask};
 use std::mem;
@@ -55,7 +55,7 @@ impl Walk {
     }
 
     /// A name is bound, where it isn't visible.
-    #[tactic(auto, unfolding(fort_judge::specs::Parts::bind))]
+    #[tactic(auto, unfolding(fort_typing_meaning::specs::Parts::bind))]
     fn bind(
         &mut self,
         known: &Known,
@@ -78,7 +78,7 @@ impl Walk {
     }
 
     /// Parameters are bound one after another.
-    #[tactic(auto, unfolding(fort_judge::specs::Parts::bind_all))]
+    #[tactic(auto, unfolding(fort_typing_meaning::specs::Parts::bind_all))]
     fn bind_parameters<'a>(
         &mut self,
         known: &Known,
@@ -101,7 +101,7 @@ impl Walk {
     }
 
     /// Names are bound one after another, each with the type at its place.
-    #[tactic(auto, unfolding(fort_judge::specs::Parts::bind_all))]
+    #[tactic(auto, unfolding(fort_typing_meaning::specs::Parts::bind_all))]
     fn bind_typed<'a>(
         &mut self,
         known: &Known,
@@ -147,7 +147,7 @@ impl Walk {
     }
 
     /// A name has to be free where it is to be bound later.
-    #[tactic(auto, unfolding(fort_judge::specs::Parts::watch))]
+    #[tactic(auto, unfolding(fort_typing_meaning::specs::Parts::watch))]
     fn watch(&mut self, known: &Known, place: Place, name: NameId)
         ensures { state self.new ≡ watch (facts known.now) (Some (place, name)) (state self.old) }
     {
@@ -198,7 +198,7 @@ impl Walk {
     }
 
     /// The types of clauses have to be exceptions.
-    #[tactic(auto, using(crate::proofs::Clauses::clauses), unfolding(fort_judge::specs::Parts::catches))]
+    #[tactic(auto, using(crate::proofs::Clauses::clauses), unfolding(fort_typing_meaning::specs::Parts::catches))]
     pub fn exceptions<'a>(
         &mut self,
         known: &Known,
@@ -218,7 +218,7 @@ impl Walk {
     }
 
     /// A part is asked with one binding more.
-    #[tactic(auto, unfolding(fort_judge::specs::Parts::ask_with))]
+    #[tactic(auto, unfolding(fort_typing_meaning::specs::Parts::ask_with))]
     pub fn ask_with<'a>(
         &mut self,
         name: Option<(Place, NameId)>,
@@ -293,7 +293,7 @@ impl Walk {
     }
 
     /// As the source of a generator.
-    #[tactic(auto, unfolding(fort_judge::specs::Parts::take_source))]
+    #[tactic(auto, unfolding(fort_typing_meaning::specs::Parts::take_source))]
     pub fn take_source(
         &mut self,
         known: &Known,

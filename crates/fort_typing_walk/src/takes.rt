@@ -1,10 +1,10 @@
 //! What the form that was asked is taken as.
 ghost use Rattle.std.specs.Prelude.{◌≡◌, OnOk, Some, None, true};
-ghost use Rattle.fort_known.specs.Read.{facts};
+ghost use Rattle.fort_typing_known.specs.Read.{facts};
 ghost use Rattle.fort_base.specs.declared.rules.TheConstants.{NOT_ASSIGNABLE as BARRED};
-ghost use Rattle.fort_judge.specs.Faults.{breaks as breaks_by};
-ghost use Rattle.fort_judge.specs.Parts.{take_assigned, take_below, take_element, take_initial, take_initials, take_part, take_subject};
-ghost use Rattle.fort_judge.specs.Judging.{judged, take_target};
+ghost use Rattle.fort_typing_meaning.specs.Faults.{breaks as breaks_by};
+ghost use Rattle.fort_typing_meaning.specs.Parts.{take_assigned, take_below, take_element, take_initial, take_initials, take_part, take_subject};
+ghost use Rattle.fort_typing_meaning.specs.Judging.{judged, take_target};
 ghost use Rattle.fort_typing_rules.specs.Typing.{named_parts};
 ghost use Rattle.fort_typing_tasks.specs.Tasks.{forgotten};
 ghost use Rattle.fort_typing_walk.specs.Walks.{assigned_by, state};
@@ -17,10 +17,10 @@ use crate::walk::Walk;
 use fort_base::rules::{MISMATCH, NOT_ASSIGNABLE};
 use fort_base::{Memory, NameId, Place, Ty};
 use fort_form::Form;
-use fort_judge::{Outcome, Slot, Valued, Want};
-use fort_known::{Fault, Known};
-use fort_parts::{breaks, place_of, taken, type_of, valued};
-use fort_typed_form::TypedForm;
+use fort_form_typed::TypedForm;
+use fort_typing_known::{Fault, Known};
+use fort_typing_meaning::{Outcome, Slot, Valued, Want};
+use fort_typing_parts::{breaks, place_of, taken, type_of, valued};
 use fort_typing_rules::{Meaning, Part};
 use std::mem;
 
@@ -42,7 +42,7 @@ fn assigned_valued(
 
 impl Walk {
     /// As a part, as wanted.
-    #[tactic(auto, unfolding(fort_judge::specs::Parts::take_part))]
+    #[tactic(auto, unfolding(fort_typing_meaning::specs::Parts::take_part))]
     pub fn take_part(
         &mut self,
         known: &Known,
@@ -60,7 +60,7 @@ impl Walk {
     }
 
     /// As the last part, below a type.
-    #[tactic(auto, unfolding(fort_judge::specs::Parts::take_below, fort_judge::specs::Parts::as_wanted_below))]
+    #[tactic(auto, unfolding(fort_typing_meaning::specs::Parts::take_below, fort_typing_meaning::specs::Parts::as_wanted_below))]
     pub fn take_below(&mut self, known: &Known, ty: &Ty, place: Place) -> Result<(), Memory>
         ensures { OnOk result (state self.new
             ≡ take_below (facts known.now) ty.now place (state self.old)) }
@@ -72,7 +72,7 @@ impl Walk {
     }
 
     /// As the initial of a local variable.
-    #[tactic(auto, unfolding(fort_judge::specs::Parts::take_initial, fort_judge::specs::Parts::as_wanted_below))]
+    #[tactic(auto, unfolding(fort_typing_meaning::specs::Parts::take_initial, fort_typing_meaning::specs::Parts::as_wanted_below))]
     pub fn take_initial(
         &mut self,
         known: &Known,
@@ -91,7 +91,7 @@ impl Walk {
     }
 
     /// As the initial of several local variables.
-    #[tactic(auto, unfolding(fort_judge::specs::Parts::take_initials, fort_judge::specs::Parts::as_wanted_below))]
+    #[tactic(auto, unfolding(fort_typing_meaning::specs::Parts::take_initials, fort_typing_meaning::specs::Parts::as_wanted_below))]
     pub fn take_initials(
         &mut self,
         known: &Known,
@@ -121,7 +121,7 @@ impl Walk {
     }
 
     /// As the subject of a `case`.
-    #[tactic(auto, unfolding(fort_judge::specs::Parts::take_subject))]
+    #[tactic(auto, unfolding(fort_typing_meaning::specs::Parts::take_subject))]
     pub fn take_subject(&mut self, known: &Known, place: Place) -> Result<(), Memory>
         ensures { OnOk result (state self.new
             ≡ take_subject (facts known.now) place (state self.old)) }
@@ -143,7 +143,7 @@ impl Walk {
     }
 
     /// As an element of a run or of a juxtaposition.
-    #[tactic(auto, unfolding(fort_judge::specs::Parts::take_element))]
+    #[tactic(auto, unfolding(fort_typing_meaning::specs::Parts::take_element))]
     pub fn take_element(
         &mut self,
         place: Place,
@@ -179,7 +179,7 @@ impl Walk {
     }
 
     /// As the target of an assignment.
-    #[tactic(auto, using(crate::proofs::Told::flags_told), unfolding(fort_judge::specs::Judging::take_target))]
+    #[tactic(auto, using(crate::proofs::Told::flags_told), unfolding(fort_typing_meaning::specs::Judging::take_target))]
     pub fn take_target(&mut self, known: &Known, form: &Form)
         ensures { state self.new
             ≡ forgotten
@@ -204,7 +204,7 @@ impl Walk {
     }
 
     /// As an assigned value.
-    #[tactic(auto, unfolding(fort_judge::specs::Parts::take_assigned, fort_judge::specs::Parts::as_wanted_below))]
+    #[tactic(auto, unfolding(fort_typing_meaning::specs::Parts::take_assigned, fort_typing_meaning::specs::Parts::as_wanted_below))]
     pub fn take_assigned(&mut self, known: &Known, place: Place) -> Result<(), Memory>
         ensures { OnOk result (state self.new
             ≡ take_assigned (facts known.now) place (state self.old)) }

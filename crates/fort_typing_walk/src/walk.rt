@@ -1,12 +1,12 @@
 //! The walk: the form that was asked last, the frame of the form that is open, the bindings in
 //! scope, and the first broken rule so far.
 ghost use Rattle.std.specs.Prelude.{◌≡◌, IfOk, OnOk, [], map, Some, None};
-ghost use Rattle.fort_known.specs.Known.{Facts};
-ghost use Rattle.fort_known.specs.Read.{facts};
-ghost use Rattle.fort_judge.specs.Parts.{begin, said, side_of};
-ghost use Rattle.fort_judge.specs.Judging.{judged, level};
-ghost use Rattle.fort_judge.specs.Judging.{judged_clause, judged_generator, judged_item};
-ghost use Rattle.fort_judge.specs.Parts.{items as on_items, sources as on_sources, unless_lost};
+ghost use Rattle.fort_typing_known.specs.Known.{Facts};
+ghost use Rattle.fort_typing_known.specs.Read.{facts};
+ghost use Rattle.fort_typing_meaning.specs.Parts.{begin, said, side_of};
+ghost use Rattle.fort_typing_meaning.specs.Judging.{judged, level};
+ghost use Rattle.fort_typing_meaning.specs.Judging.{judged_clause, judged_generator, judged_item};
+ghost use Rattle.fort_typing_meaning.specs.Parts.{items as on_items, sources as on_sources, unless_lost};
 ghost use Rattle.fort_typing_tasks.specs.Tasks.{asking as on_ask, casing as on_cases, closing, on, run, taking as on_take};
 ghost use Rattle.fort_typing_walk.specs.Walks.{state};
 
@@ -15,14 +15,14 @@ use crate::flags::{is_listed, is_parens, is_postfix};
 use crate::keeps::opened;
 use crate::lists::{ask_branches, ask_list};
 use fort_base::{Memory, Place};
-use fort_close_forms::close;
+use fort_base_stack::Stack;
 use fort_form::{Form, Generator, Item, TypeBranch};
-use fort_judge::{Frame, Outcome, Side, Slot};
-use fort_known::{Fault, Known};
-use fort_parts::place_of;
+use fort_form_typed::TypedForm;
 use fort_scope::Scope;
-use fort_stack::Stack;
-use fort_typed_form::TypedForm;
+use fort_typing_build::close;
+use fort_typing_known::{Fault, Known};
+use fort_typing_meaning::{Frame, Outcome, Side, Slot};
+use fort_typing_parts::place_of;
 use fort_typing_rules::Meaning;
 use fort_typing_tasks::{
     Asking, Casing, Taking, Task, ask, ask_below, cases, inside, items, sources,

@@ -13,19 +13,19 @@ use Rattle.fort_frames.specs.States.{term_at}
 use Rattle.fort_frames.specs.declared.place.Place.{Place}
 use Rattle.fort_frames.specs.declared.state.At.TheVariants as at
 use Rattle.fort_frames.specs.declared.state.State.{State}
-use Rattle.fort_effects.specs.Levels.{levels_of, seen}
-use Rattle.fort_picks.specs.Picks.{NoneAwake}
-use Rattle.fort_course.specs.Course.{is_inner}
-use Rattle.fort_moves.specs.Sweeps.{IsLeftAt, SweptTo}
-use Rattle.fort_carry.specs.declared.course.Course.{Course}
-use Rattle.fort_carry.specs.Courses.{HasCome, StandsAt, around}
-use Rattle.fort_turns.specs.declared.sweep.Sweep.{Sweep}
-use Rattle.fort_turns.specs.Stops.{StopsShort, stuck, IsAtEnd}
-use Rattle.fort_turns.specs.Idles.{Idles, AreAsleep, IsAtForm, IsAtEndOf}
-use Rattle.fort_turns.proofs.Idle.{nobody_goes, open_no_end, value_stays}
-use Rattle.fort_turns.proofs.Begins.{sweep_begins}
-use Rattle.fort_turns.proofs.Giving.{come_reached}
-use Rattle.fort_turns.proofs.Taking.{root_is}
+use Rattle.fort_store_effects.specs.Levels.{levels_of, seen}
+use Rattle.fort_walk_law_course.specs.Picks.{NoneAwake}
+use Rattle.fort_walk_law_course.specs.Course.{is_inner}
+use Rattle.fort_frames_moves.specs.Sweeps.{IsLeftAt, SweptTo}
+use Rattle.fort_walk_course.specs.declared.course.Course.{Course}
+use Rattle.fort_walk_course.specs.Courses.{HasCome, StandsAt, around}
+use Rattle.fort_walk_turns.specs.declared.sweep.Sweep.{Sweep}
+use Rattle.fort_walk_turns.specs.Stops.{StopsShort, stuck, IsAtEnd}
+use Rattle.fort_walk_turns.specs.Idles.{Idles, AreAsleep, IsAtForm, IsAtEndOf}
+use Rattle.fort_walk_turns.proofs.Idle.{nobody_goes, open_no_end, value_stays}
+use Rattle.fort_walk_turns.proofs.Begins.{sweep_begins}
+use Rattle.fort_walk_turns.proofs.Giving.{come_reached}
+use Rattle.fort_walk_turns.proofs.Taking.{root_is}
 
 -- the whole term, at its root
 pub come_whole : (p : Program) (c : Course) (s : State) (t : Term) → HasCome p c (goes t)

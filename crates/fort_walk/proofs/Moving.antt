@@ -10,22 +10,22 @@ use Rattle.fort_frames.specs.States.{term_at}
 use Rattle.fort_frames.specs.declared.place.Place.{Place}
 use Rattle.fort_frames.specs.declared.state.At.{At}
 use Rattle.fort_frames.specs.declared.state.State.{State}
-use Rattle.fort_effects.specs.Levels.{levels_of, seen}
-use Rattle.fort_picks.specs.Picks.{NoneAwake}
-use Rattle.fort_course.specs.Course.{is_inner}
-use Rattle.fort_course.proofs.Keeps.{moves_keep}
+use Rattle.fort_store_effects.specs.Levels.{levels_of, seen}
+use Rattle.fort_walk_law_course.specs.Picks.{NoneAwake}
+use Rattle.fort_walk_law_course.specs.Course.{is_inner}
+use Rattle.fort_walk_law_course.proofs.Keeps.{moves_keep}
 use Rattle.fort_machine.specs.Written.{WrittenProgram}
-use Rattle.fort_moves.specs.Sweeps.{IsLeftAt, MissesNone, Swept, SweptTo, SweptStop}
-use Rattle.fort_moves.specs.Turns.{IsAt, IsGathered, IsMade, IsStep, IsStop, IsTry, ready_term}
-use Rattle.fort_moves.specs.declared.turn.Ready.{Ready}
-use Rattle.fort_moves.specs.declared.turn.Stop.{Stop}
-use Rattle.fort_moves.specs.declared.turn.Stop.TheVariants as stop
-use Rattle.fort_carry.specs.declared.course.Course.{Course}
-use Rattle.fort_carry.specs.Courses.{around}
-use Rattle.fort_turns.specs.declared.sweep.Sweep.{Sweep}
-use Rattle.fort_turns.specs.Idles.{IsAtForm, IsAtPlace, IsAtThread, IsAtEndOf}
-use Rattle.fort_turns.proofs.Idle.{idles_on}
-use Rattle.fort_turns.proofs.Giving.{stands_come}
+use Rattle.fort_frames_moves.specs.Sweeps.{IsLeftAt, MissesNone, Swept, SweptTo, SweptStop}
+use Rattle.fort_frames_moves.specs.Turns.{IsAt, IsGathered, IsMade, IsStep, IsStop, IsTry, ready_term}
+use Rattle.fort_frames_moves.specs.declared.turn.Ready.{Ready}
+use Rattle.fort_frames_moves.specs.declared.turn.Stop.{Stop}
+use Rattle.fort_frames_moves.specs.declared.turn.Stop.TheVariants as stop
+use Rattle.fort_walk_course.specs.declared.course.Course.{Course}
+use Rattle.fort_walk_course.specs.Courses.{around}
+use Rattle.fort_walk_turns.specs.declared.sweep.Sweep.{Sweep}
+use Rattle.fort_walk_turns.specs.Idles.{IsAtForm, IsAtPlace, IsAtThread, IsAtEndOf}
+use Rattle.fort_walk_turns.proofs.Idle.{idles_on}
+use Rattle.fort_walk_turns.proofs.Giving.{stands_come}
 use Rattle.fort_walk.proofs.Odd.{never_odd}
 
 -- where a run stands, by the state's place

@@ -8,18 +8,18 @@ use Rattle.fort_machine.specs.Frames as machine
 use Rattle.fort_machine.specs.Attempts.{goes}
 use Rattle.fort_machine.specs.Written.{WrittenProgram}
 use Rattle.fort_machine.proofs.Standing.{not_finished}
-use Rattle.fort_marks.proofs.Kept.{marks_stand}
+use Rattle.fort_machine_law_marks.proofs.Kept.{marks_stand}
 use Rattle.fort_frames.specs.Frames.{frame_of, frame_of_node, frames, frames_of, is_trodden, mark_if, outward, rebuilt}
 use Rattle.fort_frames.specs.declared.frame.Frame.{Frame}
 use Rattle.fort_frames.specs.declared.frame.Frame.TheVariants as frame
 use Rattle.fort_frames.specs.declared.place.Place.{Place}
 use Rattle.fort_frames.proofs.Same.{same_term}
-use Rattle.fort_moves.specs.Turns.{IsOdd, IsOddIn, IsOddUnder}
-use Rattle.fort_carry.specs.declared.course.Course.{Course}
-use Rattle.fort_effects.specs.Levels.{levels_of, seen}
-use Rattle.fort_course.specs.Course.{is_inner}
-use Rattle.fort_carry.specs.Courses.{HasCome, around}
-use Rattle.fort_turns.proofs.Giving.{come_reached}
+use Rattle.fort_frames_moves.specs.Turns.{IsOdd, IsOddIn, IsOddUnder}
+use Rattle.fort_walk_course.specs.declared.course.Course.{Course}
+use Rattle.fort_store_effects.specs.Levels.{levels_of, seen}
+use Rattle.fort_walk_law_course.specs.Course.{is_inner}
+use Rattle.fort_walk_course.specs.Courses.{HasCome, around}
+use Rattle.fort_walk_turns.proofs.Giving.{come_reached}
 
 -- the last frame
 last_one : (xs ys : List machine.Frame) (f g : machine.Frame) → xs ++ f ∷ [] ≡ ys ++ g ∷ [] → f ≡ g

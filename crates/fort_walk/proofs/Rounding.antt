@@ -5,19 +5,19 @@ use Rattle.fort_core.specs.declared.term.Term.{Term}
 use Rattle.fort_machine.specs.Ends.{has_stepped}
 use Rattle.fort_frames.specs.States.{term_at}
 use Rattle.fort_frames.specs.declared.place.Place.{Place}
-use Rattle.fort_effects.specs.Levels.{effect_of, levels_of, seen}
-use Rattle.fort_course.specs.Course.{Held, is_inner}
-use Rattle.fort_legs.proofs.Course.{course_is_in_reach}
-use Rattle.fort_carry.specs.declared.course.Course.{Course}
-use Rattle.fort_carry.specs.declared.course.Waiting.{Waiting}
-use Rattle.fort_carry.specs.Courses.{StandsAt, around, held, inwards}
-use Rattle.fort_carry.specs.Taken.{MayTakeIn}
-use Rattle.fort_leg.specs.Goes.{Goes, MayGo}
-use Rattle.fort_leg.specs.declared.leg.Leg.{Leg}
-use Rattle.fort_leg.specs.declared.leg.Room.{Room}
-use Rattle.fort_turns.specs.Defined.{AlwaysOne}
-use Rattle.fort_turns.specs.Idles.{IsWalking}
-use Rattle.fort_turns.specs.declared.next.Walking.{Walking}
+use Rattle.fort_store_effects.specs.Levels.{effect_of, levels_of, seen}
+use Rattle.fort_walk_law_course.specs.Course.{Held, is_inner}
+use Rattle.fort_walk_legs.proofs.Course.{course_is_in_reach}
+use Rattle.fort_walk_course.specs.declared.course.Course.{Course}
+use Rattle.fort_walk_course.specs.declared.course.Waiting.{Waiting}
+use Rattle.fort_walk_course.specs.Courses.{StandsAt, around, held, inwards}
+use Rattle.fort_walk_course.specs.Taken.{MayTakeIn}
+use Rattle.fort_walk_rounds.specs.Goes.{Goes, MayGo}
+use Rattle.fort_walk_rounds.specs.declared.leg.Leg.{Leg}
+use Rattle.fort_walk_rounds.specs.declared.leg.Room.{Room}
+use Rattle.fort_walk_turns.specs.Defined.{AlwaysOne}
+use Rattle.fort_walk_turns.specs.Idles.{IsWalking}
+use Rattle.fort_walk_turns.specs.declared.next.Walking.{Walking}
 use Rattle.fort_walk.specs.Rounds.{IsNextLeg}
 
 -- ---- the innermost machine

@@ -3,14 +3,14 @@ use Rattle.std.specs.Prelude.{◌≡◌, ◌≢◌, ℕ, ◌+◌, ◌≤◌, fal
 use Rattle.fort_core.specs.declared.program.Program.{Program}
 use Rattle.fort_core.specs.declared.term.Term.{Term}
 use Rattle.fort_machine.specs.Ends.{has_stepped}
-use Rattle.fort_effects.specs.Levels.{effect_of, levels_of, seen}
-use Rattle.fort_course.specs.Course.{is_inner}
-use Rattle.fort_carry.specs.Courses.{around}
-use Rattle.fort_turns.specs.Idles.{IsWalking}
-use Rattle.fort_turns.specs.declared.next.Walking.{Walking}
-use Rattle.fort_leg.specs.Goes.{Goes}
-use Rattle.fort_leg.specs.declared.leg.Leg.{Leg}
-use Rattle.fort_leg.specs.declared.leg.Room.{Room}
+use Rattle.fort_store_effects.specs.Levels.{effect_of, levels_of, seen}
+use Rattle.fort_walk_law_course.specs.Course.{is_inner}
+use Rattle.fort_walk_course.specs.Courses.{around}
+use Rattle.fort_walk_turns.specs.Idles.{IsWalking}
+use Rattle.fort_walk_turns.specs.declared.next.Walking.{Walking}
+use Rattle.fort_walk_rounds.specs.Goes.{Goes}
+use Rattle.fort_walk_rounds.specs.declared.leg.Leg.{Leg}
+use Rattle.fort_walk_rounds.specs.declared.leg.Room.{Room}
 use Rattle.fort_walk.specs.declared.beside.Round.{Round}
 
 -- A walk goes on with the fuel that it had.

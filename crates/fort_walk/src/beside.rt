@@ -4,21 +4,21 @@ ghost use Rattle.fort_machine.specs.Ends.{has_stepped};
 ghost use Rattle.fort_machine.specs.Written.{WrittenProgram};
 ghost use Rattle.fort_disp.specs.Rows.{MayPick};
 ghost use Rattle.fort_frames.specs.States.{term_at};
-ghost use Rattle.fort_course.specs.Course.{is_inner};
-ghost use Rattle.fort_carry.specs.Courses.{StandsAt, around};
-ghost use Rattle.fort_turns.specs.Defined.{AlwaysOne};
-ghost use Rattle.fort_turns.specs.Idles.{IsWalking};
+ghost use Rattle.fort_walk_law_course.specs.Course.{is_inner};
+ghost use Rattle.fort_walk_course.specs.Courses.{StandsAt, around};
+ghost use Rattle.fort_walk_turns.specs.Defined.{AlwaysOne};
+ghost use Rattle.fort_walk_turns.specs.Idles.{IsWalking};
 ghost use Rattle.fort_walk.specs.Rounds.{GoesOn, IsNextLeg};
 
 use crate::pace::Pace;
 use fort_base::{Memory, Shared};
-use fort_carry::{Course, Going};
 use fort_core::{Program, Term};
 use fort_disp::Tables;
 use fort_frames::{At, State};
-use fort_leg::{Leg, Room, Team, is_wide, leg_of};
 use fort_port::{Gate, Point};
-use fort_turns::{Sweep, Walking};
+use fort_walk_course::{Course, Going};
+use fort_walk_rounds::{Leg, Room, Team, is_wide, leg_of};
+use fort_walk_turns::{Sweep, Walking};
 use std::alloc::Global;
 use std::thread::Threads;
 

@@ -4,14 +4,14 @@ ghost use Rattle.fort_machine.specs.Acts.{unit};
 ghost use Rattle.fort_machine.specs.Attempts.{goes};
 ghost use Rattle.fort_machine.specs.Ends.{throw_of};
 ghost use Rattle.fort_frames.specs.declared.state.At.TheVariants as a_place;
-ghost use Rattle.fort_carry.specs.Courses.{HasCome};
-ghost use Rattle.fort_turns.specs.Idles.{Follows, IsAtEndOf};
+ghost use Rattle.fort_walk_course.specs.Courses.{HasCome};
+ghost use Rattle.fort_walk_turns.specs.Idles.{Follows, IsAtEndOf};
 
 use fort_base::{Memory, Shared};
-use fort_carry::{Execution, Going};
 use fort_core::{Program, Term, Value};
 use fort_frames::{At, Place, State};
-use fort_turns::{Next, Sweep, Walked, Walking, closed};
+use fort_walk_course::{Execution, Going};
+use fort_walk_turns::{Next, Sweep, Walked, Walking, closed};
 use std::alloc::Global;
 
 /// The whole term of the innermost machine is finished, or each thread of it was passed.

@@ -7,5 +7,5 @@ mod ends;
 mod pace;
 mod walking;
 
-pub use fort_carry::Ran;
+pub use fort_walk_course::Ran;
 pub use walking::walk;

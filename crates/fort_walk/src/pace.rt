@@ -1,5 +1,5 @@
 //! When legs are taken side by side, and how long they may be.
-use fort_turns::Sweep;
+use fort_walk_turns::Sweep;
 
 /// What the leg of one worker may cost in the first round, and at most.
 const FIRST: u64 = 4_096;

@@ -2,22 +2,22 @@
 ghost use Rattle.std.specs.Prelude.{◌≡◌, IfOk};
 ghost use Rattle.fort_machine.specs.Written.{WrittenProgram};
 ghost use Rattle.fort_disp.specs.Rows.{MayPick};
-ghost use Rattle.fort_turns.specs.Defined.{AlwaysOne};
-ghost use Rattle.fort_carry.specs.Calls.{IsRun};
-ghost use Rattle.fort_turns.specs.Stops.{StopsShort};
-ghost use Rattle.fort_turns.specs.Walks.{Walks};
-ghost use Rattle.fort_turns.specs.Idles.{Follows, IsWalking};
+ghost use Rattle.fort_walk_turns.specs.Defined.{AlwaysOne};
+ghost use Rattle.fort_walk_course.specs.Calls.{IsRun};
+ghost use Rattle.fort_walk_turns.specs.Stops.{StopsShort};
+ghost use Rattle.fort_walk_turns.specs.Walks.{Walks};
+ghost use Rattle.fort_walk_turns.specs.Idles.{Follows, IsWalking};
 
 use crate::beside::{Round, side_by_side};
 use crate::ends::at_end;
 use crate::pace::Pace;
 use fort_base::{Memory, Shared};
-use fort_carry::{Going, Ran};
 use fort_disp::Tables;
-use fort_moves::{Stop, moved};
+use fort_frames_moves::{Stop, moved};
 use fort_port::Gate;
-use fort_subst::group;
-use fort_turns::{Next, Sweep, Walked, Walking, at_atomic, at_form, at_thread};
+use fort_step_subst::group;
+use fort_walk_course::{Going, Ran};
+use fort_walk_turns::{Next, Sweep, Walked, Walking, at_atomic, at_form, at_thread};
 use std::alloc::Global;
 use std::thread::Threads;
 

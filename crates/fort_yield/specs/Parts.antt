@@ -1,8 +1,8 @@
 -- The chapter "Grammar", no definition of it: the tokens of parts of trees that are put one after
 -- another. No public clause cites it.
 use Rattle.std.specs.Prelude.{List, [], ◌∷◌, ◌++◌, Option, Some, None}
-use Rattle.fort_token.specs.declared.token.Token.{Token}
-use Rattle.fort_token.specs.declared.reserved.Reserved.TheVariants as reserved
+use Rattle.fort_lex_token.specs.declared.token.Token.{Token}
+use Rattle.fort_lex_token.specs.declared.reserved.Reserved.TheVariants as reserved
 use Rattle.fort_tree.specs.declared.spot.Spot.{Spot}
 use Rattle.fort_ops.specs.declared.op.Op.TheVariants as op
 use Rattle.fort_tree.specs.declared.expr.Prefix.{Prefix}

@@ -12,14 +12,14 @@ use crate::members::{put_object_entries, put_trait_entries};
 use crate::put::{put_next_names, put_var};
 use crate::types::{put_maybe_parameters, put_type};
 use fort_base::{List, Memory};
+use fort_lex_token::{Mark, Reserved, Token};
 use fort_ops::Op;
-use fort_token::{Mark, Reserved, Token};
-use fort_token_yield::{put_mark, put_name, put_operator, put_semicolon, put_word};
 use fort_tree::{
     Comprises, Declaration, Declared, Excludes, Extends, Function, FunctionName, Names,
     NextObjectParameter, Object, ObjectParameter, ObjectParameterList, ObjectParameters, Spot,
     Trait, TypeTree,
 };
+use fort_yield_tokens::{put_mark, put_name, put_operator, put_semicolon, put_word};
 
 pub fn put_declarations(declarations: &[Declared], out: &mut List<Token>) -> Result<(), Memory>
     ensures { OnOk result (out.new

@@ -10,13 +10,13 @@ use crate::expr::{put_expr, put_flat, put_generator};
 use crate::put::{put_next_names, put_var};
 use crate::types::put_type;
 use fort_base::{Boxed, List, Memory};
+use fort_lex_token::{Mark, Reserved, Token};
 use fort_ops::Op;
-use fort_token::{Mark, Reserved, Token};
-use fort_token_yield::{put_mark, put_name, put_operator, put_semicolon, put_word};
 use fort_tree::{
     Also, BlockItem, CaseClause, Catch, Delimited, Elif, ElseBlock, ElseClause, Finally, Flat,
     InitialSign, Item, NextGenerator, Spot, TypeClause, Variable,
 };
+use fort_yield_tokens::{put_mark, put_name, put_operator, put_semicolon, put_word};
 
 #[cycle(put)]
 pub fn put_delimited(form: &Delimited, out: &mut List<Token>) -> Result<(), Memory>

@@ -9,13 +9,13 @@ ghost use Rattle.fort_tree.specs.Yield.{said_expr, said_head, said_generator, sa
 use crate::delimited::put_delimited;
 use crate::types::{put_maybe_parameters, put_type};
 use fort_base::{Boxed, List, Memory};
+use fort_lex_token::{Kind, Mark, Reserved, Token};
 use fort_ops::Op;
-use fort_token::{Kind, Mark, Reserved, Token};
-use fort_token_yield::{put_mark, put_name, put_operator, put_token, put_word};
 use fort_tree::{
     AssignSign, Atom, Big, Expr, ExprList, Flat, FlatPart, Generator, Head, NextExpr, Operand,
     Postfix, Prefix, Run, RunPart, Spot,
 };
+use fort_yield_tokens::{put_mark, put_name, put_operator, put_token, put_word};
 
 #[cycle(put)]
 pub fn put_expr(expr: &Expr, out: &mut List<Token>) -> Result<(), Memory>

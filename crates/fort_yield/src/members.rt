@@ -9,13 +9,13 @@ use crate::delimited::put_variable;
 use crate::expr::put_expr;
 use crate::types::{put_parameter, put_type};
 use fort_base::{List, Memory};
+use fort_lex_token::{Mark, Reserved, Token};
 use fort_ops::Op;
-use fort_token::{Mark, Reserved, Token};
-use fort_token_yield::{put_mark, put_name, put_operator, put_semicolon, put_word};
 use fort_tree::{
     Method, MethodBody, MethodParameter, MethodParameters, NextMethodParameter, ObjectEntry,
     ObjectMember, TraitEntry, TraitMember,
 };
+use fort_yield_tokens::{put_mark, put_name, put_operator, put_semicolon, put_word};
 
 pub fn put_trait_entries(members: &[TraitEntry], out: &mut List<Token>) -> Result<(), Memory>
     ensures { OnOk result (out.new ≡ out.old ++ entries_tokens (map said_trait_entry members.now)) }

@@ -4,9 +4,9 @@ ghost use Rattle.fort_tree.specs.Blocks.{next_names_tokens};
 ghost use Rattle.fort_yield.specs.Parts.{var_tokens};
 
 use fort_base::{List, Memory};
-use fort_token::{Mark, Reserved, Token};
-use fort_token_yield::{put_mark, put_name, put_word};
+use fort_lex_token::{Mark, Reserved, Token};
 use fort_tree::{NextName, Spot};
+use fort_yield_tokens::{put_mark, put_name, put_word};
 
 pub fn put_next_names(names: &[NextName], out: &mut List<Token>) -> Result<(), Memory>
     ensures { OnOk result (out.new ≡ out.old ++ next_names_tokens names.now) }

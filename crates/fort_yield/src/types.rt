@@ -4,10 +4,10 @@ ghost use Rattle.fort_tree.specs.Said.{tokens_of, all_tokens, maybe_tokens};
 ghost use Rattle.fort_tree.specs.Types.{said_type, said_simple_type, said_type_list, said_next_type, said_parameter, said_next_parameter, said_parameters};
 
 use fort_base::{List, Memory};
+use fort_lex_token::{Mark, Token};
 use fort_ops::Op;
-use fort_token::{Mark, Token};
-use fort_token_yield::{put_mark, put_name, put_operator};
 use fort_tree::{NextParameter, NextType, Parameter, Parameters, SimpleType, TypeList, TypeTree};
+use fort_yield_tokens::{put_mark, put_name, put_operator};
 
 #[cycle(put_types)]
 pub fn put_type(ty: &TypeTree, out: &mut List<Token>) -> Result<(), Memory>

@@ -4,9 +4,9 @@ ghost use Rattle.fort_tree.specs.Component.{yield, export_tokens};
 
 use crate::declarations::put_declarations;
 use fort_base::{Bytes, List, Memory};
-use fort_token::{Reserved, Token, Tokens};
-use fort_token_yield::{put_name, put_word};
+use fort_lex_token::{Reserved, Token, Tokens};
 use fort_tree::{Component, Export};
+use fort_yield_tokens::{put_name, put_word};
 use std::alloc::Global;
 
 /// The tokens of a component, in memory of their own: what it yields, with its names and its texts.

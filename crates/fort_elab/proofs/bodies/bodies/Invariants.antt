@@ -1,6 +1,6 @@
 use Rattle.std.proofs.Common.{◌≡◌, ◌++◌, drop}
-use Rattle.fort_translation.specs.Bodies.{bodies}
-use Rattle.fort_translation.specs.Read.{given_of}
+use Rattle.fort_elab_meaning.specs.Bodies.{bodies}
+use Rattle.fort_elab_meaning.specs.Read.{given_of}
 use Rattle.fort_elab.proofs.bodies.bodies.Given as goal
 
 abbrev pub invariant-loop-body : goal.invariant-loop-body

@@ -1,5 +1,5 @@
 use Rattle.std.proofs.Common.{◌≡◌, drop}
-use Rattle.fort_translation.specs.Bodies.{body_at}
+use Rattle.fort_elab_meaning.specs.Bodies.{body_at}
 use Rattle.fort_elab.proofs.bodies.body_at.Given as goal
 
 abbrev pub invariant-loop-one : goal.invariant-loop-one

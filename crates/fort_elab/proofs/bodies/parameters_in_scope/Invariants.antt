@@ -1,5 +1,5 @@
 use Rattle.std.proofs.Common.{◌≡◌, [], drop}
-use Rattle.fort_translation.specs.Bodies.{parameter_names}
+use Rattle.fort_elab_meaning.specs.Bodies.{parameter_names}
 use Rattle.fort_elab.proofs.bodies.parameters_in_scope.Given as goal
 
 abbrev pub invariant-loop-parameter : goal.invariant-loop-parameter

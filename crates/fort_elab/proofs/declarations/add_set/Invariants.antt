@@ -1,5 +1,5 @@
 use Rattle.std.proofs.Common.{◌≡◌, ◌++◌, drop, map, Some}
-use Rattle.fort_translation.specs.Programs.{declarations_from}
+use Rattle.fort_elab_meaning.specs.Programs.{declarations_from}
 use Rattle.fort_elab.proofs.declarations.add_set.Given as goal
 
 abbrev pub invariant-loop-at : goal.invariant-loop-at

@@ -1,6 +1,6 @@
 use Rattle.std.proofs.Common.{◌≡◌, ◌++◌, drop, map, Some}
 use Rattle.std.specs.List.{flat_map}
-use Rattle.fort_translation.specs.Programs.{declarations_of_set}
+use Rattle.fort_elab_meaning.specs.Programs.{declarations_of_set}
 use Rattle.fort_elab.proofs.declarations.declarations.Given as goal
 
 abbrev pub invariant-loop-set : goal.invariant-loop-set

@@ -1,5 +1,5 @@
 use Rattle.std.proofs.Common.{◌≡◌, ◌++◌, drop}
-use Rattle.fort_translation.specs.Programs.{core_sets}
+use Rattle.fort_elab_meaning.specs.Programs.{core_sets}
 use Rattle.fort_elab.proofs.sets.core_sets.Given as goal
 
 abbrev pub invariant-loop-set : goal.invariant-loop-set

@@ -1,5 +1,5 @@
 use Rattle.std.proofs.Common.{◌≡◌, ◌+◌, ◌++◌, drop}
-use Rattle.fort_translation.specs.Programs.{numbers}
+use Rattle.fort_elab_meaning.specs.Programs.{numbers}
 use Rattle.fort_elab.proofs.sets.numbers.Given as goal
 
 abbrev pub invariant-loop-member : goal.invariant-loop-member

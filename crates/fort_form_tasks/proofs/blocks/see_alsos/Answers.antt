@@ -1,8 +1,8 @@
 use Rattle.std.proofs.Common.{List, [], ◌∷◌, ap}
 use Rattle.fort_tree.specs.declared.delimited.BlockItem.{BlockItem}
 use Rattle.fort_tree.specs.declared.delimited.Also.{out-Also}
-use Rattle.fort_formed.specs.Formed.{formed_also}
-use Rattle.fort_formed.proofs.FormsBlocks.{also_forms}
+use Rattle.fort_form_meaning.specs.Formed.{formed_also}
+use Rattle.fort_form_meaning.proofs.FormsBlocks.{also_forms}
 use Rattle.fort_form_tasks.specs.Tasks.{formed_block}
 use Rattle.fort_form_tasks.proofs.Steps.{by, one_seen, one_more}
 use Rattle.fort_form_tasks.proofs.blocks.see_alsos.Goals as goal

@@ -1,7 +1,7 @@
 use Rattle.std.proofs.Common.{take}
 use Rattle.std.specs.Prelude.{map}
-use Rattle.fort_formed.specs.Source.{Source}
-use Rattle.fort_formed.specs.Formed.{formed_also}
+use Rattle.fort_form_meaning.specs.Source.{Source}
+use Rattle.fort_form_meaning.specs.Formed.{formed_also}
 use Rattle.fort_form_tasks.specs.Tasks.{Sees}
 use Rattle.fort_form_tasks.proofs.blocks.see_alsos.Given as goal
 

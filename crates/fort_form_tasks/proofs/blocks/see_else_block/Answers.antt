@@ -1,7 +1,7 @@
 use Rattle.std.proofs.Common.{List, Option, [], ◌∷◌, ap, ◌∙◌}
 use Rattle.fort_tree.specs.declared.delimited.BlockItem.{BlockItem}
 use Rattle.fort_tree.specs.declared.delimited.ElseBlock.{ElseBlock, out-ElseBlock}
-use Rattle.fort_formed.proofs.FormsBlocks.{else_block_forms}
+use Rattle.fort_form_meaning.proofs.FormsBlocks.{else_block_forms}
 use Rattle.fort_form_tasks.specs.Tasks.{inside_else_block, formed_block}
 use Rattle.fort_form_tasks.proofs.Steps.{by, one_seen}
 use Rattle.fort_form_tasks.proofs.blocks.see_else_block.Goals as goal

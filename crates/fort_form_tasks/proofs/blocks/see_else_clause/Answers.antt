@@ -1,6 +1,6 @@
 use Rattle.std.proofs.Common.{Option, [], ◌∷◌, ap}
 use Rattle.fort_tree.specs.declared.delimited.ElseClause.{ElseClause, out-ElseClause}
-use Rattle.fort_formed.specs.Formed.{formed_expr}
+use Rattle.fort_form_meaning.specs.Formed.{formed_expr}
 use Rattle.fort_form_tasks.specs.Tasks.{inside_else_clause}
 use Rattle.fort_form_tasks.proofs.Steps.{by, one_seen}
 use Rattle.fort_form_tasks.proofs.blocks.see_else_clause.Goals as goal

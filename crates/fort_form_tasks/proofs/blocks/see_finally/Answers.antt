@@ -1,7 +1,7 @@
 use Rattle.std.proofs.Common.{List, Option, [], ◌∷◌, ap, ◌∙◌}
 use Rattle.fort_tree.specs.declared.delimited.BlockItem.{BlockItem}
 use Rattle.fort_tree.specs.declared.delimited.Finally.{Finally, out-Finally}
-use Rattle.fort_formed.proofs.FormsBlocks.{finally_forms}
+use Rattle.fort_form_meaning.proofs.FormsBlocks.{finally_forms}
 use Rattle.fort_form_tasks.specs.Tasks.{inside_finally, formed_block}
 use Rattle.fort_form_tasks.proofs.Steps.{by, one_seen}
 use Rattle.fort_form_tasks.proofs.blocks.see_finally.Goals as goal

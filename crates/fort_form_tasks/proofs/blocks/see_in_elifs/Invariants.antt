@@ -1,6 +1,6 @@
 use Rattle.std.proofs.Common.{take}
 use Rattle.std.specs.List.{flat_map}
-use Rattle.fort_formed.specs.Source.{Source}
+use Rattle.fort_form_meaning.specs.Source.{Source}
 use Rattle.fort_form_tasks.specs.Tasks.{Sees, inside_elif}
 use Rattle.fort_form_tasks.proofs.blocks.see_in_elifs.Given as goal
 

@@ -9,7 +9,7 @@ use Rattle.fort_tree.specs.declared.delimited.Elif.{Elif}
 use Rattle.fort_tree.specs.declared.delimited.NextGenerator.{NextGenerator}
 use Rattle.fort_tree.specs.declared.delimited.CaseClause.{CaseClause}
 use Rattle.fort_tree.specs.declared.delimited.TypeClause.{TypeClause}
-use Rattle.fort_formed.specs.Formed.{formed_also}
+use Rattle.fort_form_meaning.specs.Formed.{formed_also}
 use Rattle.fort_form_tasks.specs.Tasks.{delimited_at, source_form, next_source, inside_elif, inside_case_clause, type_clause_value, formed_block}
 use Rattle.fort_form_tasks.proofs.Inside.{in-Do, in-If, in-While, in-For, in-Case, in-Typecase, in-Try}
 use Rattle.fort_form_tasks.proofs.Steps.{by, two_seen, three_seen, four_seen}

@@ -2,7 +2,7 @@ use Rattle.std.proofs.Common.{[], ◌∷◌, ap, ◌∙◌}
 use Rattle.fort_tree.specs.declared.expr.Expr.{Expr}
 use Rattle.fort_tree.specs.declared.delimited.Item.{Item, out-Item}
 use Rattle.fort_tree.specs.declared.declarations.Variable.{Variable, out-Variable}
-use Rattle.fort_formed.specs.Formed.{formed_expr}
+use Rattle.fort_form_meaning.specs.Formed.{formed_expr}
 use Rattle.fort_form_tasks.specs.Tasks.{item_at}
 use Rattle.fort_form_tasks.proofs.Inside.{in-Variable, in-Names, in-Expr}
 use Rattle.fort_form_tasks.proofs.Steps.{by, one_seen}

@@ -2,7 +2,7 @@ use Rattle.std.proofs.Common.{[], ◌∷◌, ap, ◌∙◌}
 use Rattle.fort_tree.specs.declared.expr.Expr.{Expr, out-Expr}
 use Rattle.fort_tree.specs.declared.expr.Head.{Head}
 use Rattle.fort_tree.specs.declared.expr.Flat.{Flat}
-use Rattle.fort_formed.specs.Formed.{formed_flat}
+use Rattle.fort_form_meaning.specs.Formed.{formed_flat}
 use Rattle.fort_form_tasks.specs.Tasks.{expr_at, inside_head}
 use Rattle.fort_form_tasks.proofs.Inside.{in-Flat, in-Assign, in-Open, in-OpenAssign}
 use Rattle.fort_form_tasks.proofs.Steps.{by, one_seen, two_seen, three_seen}

@@ -1,6 +1,6 @@
 use Rattle.std.proofs.Common.{sym, ap, ◌∙◌}
-use Rattle.fort_formed.specs.Formed.{formed_flat_part}
-use Rattle.fort_formed.proofs.FormsFlats.{forms-Infix, forms-Run}
+use Rattle.fort_form_meaning.specs.Formed.{formed_flat_part}
+use Rattle.fort_form_meaning.proofs.FormsFlats.{forms-Infix, forms-Run}
 use Rattle.fort_form_tasks.proofs.units.further_unit.Goals as goal
 
 pub returns-in-Run : goal.returns-in-Run

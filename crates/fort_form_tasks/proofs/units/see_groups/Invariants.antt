@@ -1,6 +1,6 @@
 use Rattle.std.proofs.Common.{take}
 use Rattle.std.specs.Prelude.{map}
-use Rattle.fort_formed.specs.Source.{Source}
+use Rattle.fort_form_meaning.specs.Source.{Source}
 use Rattle.fort_form_tasks.specs.Tasks.{Sees, formed_group}
 use Rattle.fort_form_tasks.proofs.units.see_groups.Given as goal
 

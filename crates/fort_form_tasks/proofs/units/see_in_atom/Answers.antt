@@ -2,7 +2,7 @@ use Rattle.std.proofs.Common.{[], ◌∷◌, ap, ◌∙◌}
 use Rattle.fort_tree.specs.declared.expr.Expr.{Expr}
 use Rattle.fort_tree.specs.declared.expr.Atom.{Atom, out-Atom}
 use Rattle.fort_tree.specs.declared.delimited.Delimited.{Delimited}
-use Rattle.fort_formed.specs.Formed.{formed_delimited, formed_expr}
+use Rattle.fort_form_meaning.specs.Formed.{formed_delimited, formed_expr}
 use Rattle.fort_form_tasks.specs.Tasks.{atom_at}
 use Rattle.fort_form_tasks.proofs.Inside.{in-Name, in-Number, in-Text, in-True, in-False, in-Self_, in-Parens, in-Delimited, in-ArrayFill}
 use Rattle.fort_form_tasks.proofs.Steps.{by, none_seen, one_seen, two_seen}

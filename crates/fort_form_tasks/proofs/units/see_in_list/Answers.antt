@@ -3,7 +3,7 @@ use Rattle.std.specs.Prelude.{map}
 use Rattle.fort_tree.specs.declared.expr.Expr.{Expr}
 use Rattle.fort_tree.specs.declared.expr.NextExpr.{NextExpr}
 use Rattle.fort_tree.specs.declared.expr.ExprList.{ExprList}
-use Rattle.fort_formed.specs.Formed.{formed_expr, formed_next_expr}
+use Rattle.fort_form_meaning.specs.Formed.{formed_expr, formed_next_expr}
 use Rattle.fort_form_tasks.specs.Tasks.{inside_list}
 use Rattle.fort_form_tasks.proofs.Steps.{by, two_seen}
 use Rattle.fort_form_tasks.proofs.units.see_in_list.Goals as goal

@@ -1,7 +1,7 @@
 use Rattle.std.proofs.Common.{[], ◌∷◌, ap, ◌∙◌}
 use Rattle.fort_tree.specs.declared.expr.Expr.{Expr}
 use Rattle.fort_tree.specs.declared.expr.Postfix.{Postfix, out-Postfix}
-use Rattle.fort_formed.specs.Formed.{formed_expr}
+use Rattle.fort_form_meaning.specs.Formed.{formed_expr}
 use Rattle.fort_form_tasks.specs.Tasks.{postfix_at}
 use Rattle.fort_form_tasks.proofs.Inside.{in-Subscript, in-Power, in-Field, in-Call}
 use Rattle.fort_form_tasks.proofs.Steps.{by, none_seen, one_seen}

@@ -1,7 +1,7 @@
 use Rattle.std.proofs.Common.{List, refl}
 use Rattle.std.specs.Prelude.{map}
 use Rattle.fort_tree.specs.declared.expr.RunPart.{RunPart}
-use Rattle.fort_formed.specs.Formed.{formed_run_part}
+use Rattle.fort_form_meaning.specs.Formed.{formed_run_part}
 use Rattle.fort_form_tasks.proofs.Steps.{by, two_seen}
 use Rattle.fort_form_tasks.proofs.units.see_in_run.Goals as goal
 

@@ -1,6 +1,6 @@
 use Rattle.std.proofs.Common.{[], ◌∷◌, ap}
-use Rattle.fort_formed.specs.Formed.{formed_next_expr}
-use Rattle.fort_formed.proofs.FormsFlats.{next_expr_forms}
+use Rattle.fort_form_meaning.specs.Formed.{formed_next_expr}
+use Rattle.fort_form_meaning.proofs.FormsFlats.{next_expr_forms}
 use Rattle.fort_form_tasks.proofs.Steps.{one_seen, one_more}
 use Rattle.fort_form_tasks.proofs.units.see_next_exprs.Goals as goal
 

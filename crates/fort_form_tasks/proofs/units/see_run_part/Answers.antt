@@ -1,7 +1,7 @@
 use Rattle.std.proofs.Common.{[], ◌∷◌, ap, ◌∙◌}
 use Rattle.fort_tree.specs.declared.expr.RunPart.{RunPart}
-use Rattle.fort_formed.specs.Formed.{formed_run_part}
-use Rattle.fort_formed.proofs.FormsFlats.{forms-Atom, forms-Postfix}
+use Rattle.fort_form_meaning.specs.Formed.{formed_run_part}
+use Rattle.fort_form_meaning.proofs.FormsFlats.{forms-Atom, forms-Postfix}
 use Rattle.fort_form_tasks.proofs.Steps.{one_seen}
 use Rattle.fort_form_tasks.proofs.units.see_run_part.Goals as goal
 

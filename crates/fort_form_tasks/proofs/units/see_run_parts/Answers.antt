@@ -1,4 +1,4 @@
-use Rattle.fort_formed.specs.Formed.{formed_run_part}
+use Rattle.fort_form_meaning.specs.Formed.{formed_run_part}
 use Rattle.fort_form_tasks.proofs.Steps.{one_more}
 use Rattle.fort_form_tasks.proofs.units.see_run_parts.Goals as goal
 

@@ -1,7 +1,7 @@
 use Rattle.std.proofs.Common.{take}
 use Rattle.std.specs.Prelude.{map}
-use Rattle.fort_formed.specs.Source.{Source}
-use Rattle.fort_formed.specs.Formed.{formed_run_part}
+use Rattle.fort_form_meaning.specs.Source.{Source}
+use Rattle.fort_form_meaning.specs.Formed.{formed_run_part}
 use Rattle.fort_form_tasks.specs.Tasks.{Sees}
 use Rattle.fort_form_tasks.proofs.units.see_run_parts.Given as goal
 

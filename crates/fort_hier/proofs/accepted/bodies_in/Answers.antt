@@ -2,7 +2,7 @@ use Rattle.std.proofs.Common.{None, Some, refl, sym, ap, ◌∙◌}
 use Rattle.std.specs.Prelude.{replicate}
 use Rattle.std.proofs.lemmas.Option.{slice_get_read}
 use Rattle.fort_hier.specs.declared.heads.TypeHead.{TypeHead}
-use Rattle.fort_builtin.specs.declared.types.TheConstants.{TYPE_COUNT}
+use Rattle.fort_types_builtin.specs.declared.types.TheConstants.{TYPE_COUNT}
 use Rattle.fort_hier.specs.Heads.{head_body}
 use Rattle.fort_hier.proofs.NumberLaws.{mapped_step, mapped_all}
 use Rattle.fort_hier.proofs.accepted.bodies_in.Goals as goal

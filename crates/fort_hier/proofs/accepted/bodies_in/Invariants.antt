@@ -1,6 +1,6 @@
 use Rattle.std.proofs.Common.{◌≡◌, ◌++◌, None, map, take}
 use Rattle.std.specs.Prelude.{replicate}
-use Rattle.fort_builtin.specs.declared.types.TheConstants.{TYPE_COUNT}
+use Rattle.fort_types_builtin.specs.declared.types.TheConstants.{TYPE_COUNT}
 use Rattle.fort_hier.specs.Heads.{head_body}
 use Rattle.fort_hier.proofs.accepted.bodies_in.Given as goal
 

@@ -1,7 +1,7 @@
 use Rattle.std.proofs.Common.{refl, sym, ap, ◌∙◌}
 use Rattle.std.proofs.lemmas.Option.{slice_get_read}
 use Rattle.fort_hier.specs.declared.heads.TypeHead.{TypeHead}
-use Rattle.fort_builtin.specs.Types.{declared_spellings}
+use Rattle.fort_types_builtin.specs.Types.{declared_spellings}
 use Rattle.fort_hier.specs.Names.{spelling}
 use Rattle.fort_hier.specs.Numbers.{head_spelling}
 use Rattle.fort_hier.proofs.NumberLaws.{mapped_step, mapped_all}

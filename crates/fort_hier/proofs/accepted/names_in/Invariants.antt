@@ -1,5 +1,5 @@
 use Rattle.std.proofs.Common.{◌≡◌, ◌++◌, map, take}
-use Rattle.fort_builtin.specs.Types.{declared_spellings}
+use Rattle.fort_types_builtin.specs.Types.{declared_spellings}
 use Rattle.fort_hier.specs.Numbers.{head_spelling}
 use Rattle.fort_hier.proofs.accepted.names_in.Given as goal
 

@@ -3,7 +3,7 @@ use Rattle.std.specs.Prelude.{replicate}
 use Rattle.fort_types.specs.Table.{HasRows}
 use Rattle.fort_hier.specs.declared.heads.TypeHead.{TypeHead}
 use Rattle.fort_base.specs.Places.{IsFirst}
-use Rattle.fort_builtin.specs.declared.types.TheConstants.{TYPE_COUNT}
+use Rattle.fort_types_builtin.specs.declared.types.TheConstants.{TYPE_COUNT}
 use Rattle.fort_hier.specs.Heads.{head_body}
 use Rattle.fort_hier.specs.Hierarchies.{IsRefusal, IsSentenceRefusal}
 use Rattle.fort_hier.specs.Lowest.{IsLowestFrom}

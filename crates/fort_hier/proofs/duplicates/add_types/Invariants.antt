@@ -1,5 +1,5 @@
 use Rattle.std.proofs.Common.{map, take}
-use Rattle.fort_builtin.specs.Types.{type_spellings}
+use Rattle.fort_types_builtin.specs.Types.{type_spellings}
 use Rattle.fort_hier.specs.Names.{type_called}
 use Rattle.fort_hier.specs.Seen.{HoldsSeen}
 use Rattle.fort_hier.proofs.duplicates.add_types.Given as goal

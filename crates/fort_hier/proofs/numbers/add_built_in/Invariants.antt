@@ -1,5 +1,5 @@
 use Rattle.std.proofs.Common.{take}
-use Rattle.fort_builtin.specs.Types.{declared_spellings}
+use Rattle.fort_types_builtin.specs.Types.{declared_spellings}
 use Rattle.fort_hier.specs.Numbers.{HoldsNumbers}
 use Rattle.fort_hier.proofs.numbers.add_built_in.Given as goal
 

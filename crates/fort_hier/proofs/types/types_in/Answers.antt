@@ -1,6 +1,6 @@
 use Rattle.std.proofs.Common.{refl}
 use Rattle.std.proofs.lemmas.Option.{slice_get_read}
-use Rattle.fort_builtin.specs.Types.{built_in_declared}
+use Rattle.fort_types_builtin.specs.Types.{built_in_declared}
 use Rattle.fort_hier.specs.Numbers.{declared_by}
 use Rattle.fort_hier.proofs.NumberLaws.{mapped_step}
 use Rattle.fort_hier.proofs.types.types_in.Goals as goal

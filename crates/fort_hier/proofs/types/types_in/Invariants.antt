@@ -1,6 +1,6 @@
 use Rattle.std.proofs.Common.{◌≡◌, ◌++◌, List, length, map, take}
 use Rattle.fort_hier.specs.Names.{Spelling}
-use Rattle.fort_builtin.specs.Types.{built_in_declared}
+use Rattle.fort_types_builtin.specs.Types.{built_in_declared}
 use Rattle.fort_hier.specs.Numbers.{HoldsNumbers, declared_by}
 use Rattle.fort_hier.proofs.types.types_in.Given as goal
 

@@ -1,5 +1,5 @@
 use Rattle.std.proofs.Common.{◌≡◌, drop}
-use Rattle.fort_scan.specs.Lists.{every}
+use Rattle.fort_lex_scan.specs.Lists.{every}
 use Rattle.fort_lex.specs.Spellings.{is_capital_or_bar}
 use Rattle.fort_lex.proofs.meaning.all_capitals_or_bars.Given as goal
 

@@ -1,12 +1,12 @@
 use Rattle.std.proofs.Common.{◌≡◌, ◌≤◌, ◌+◌, ◌-◌, length, drop, take, ℕ, ◌∙◌, List, arith, subst, ap, refl, length-drop, length-take}
 use mathlib.Core.Logic.{inl, inr}
-use Rattle.fort_scan.specs.declared.step.Step.{Step}
-use Rattle.fort_scan.specs.Gaps.{mark}
-use Rattle.fort_scan.specs.Places.{place_at}
-use Rattle.fort_scan.specs.Steps.{StepIs}
-use Rattle.fort_scan.specs.Tokens.{with_mark}
-use Rattle.fort_scan.proofs.Chains.{rest_is}
-use Rattle.fort_scan.proofs.Theorem.{list_is, fault_is, stuck_fault, many_is, stuck_many}
+use Rattle.fort_lex_scan.specs.declared.step.Step.{Step}
+use Rattle.fort_lex_scan.specs.Gaps.{mark}
+use Rattle.fort_lex_scan.specs.Places.{place_at}
+use Rattle.fort_lex_scan.specs.Steps.{StepIs}
+use Rattle.fort_lex_scan.specs.Tokens.{with_mark}
+use Rattle.fort_lex_scan.proofs.Chains.{rest_is}
+use Rattle.fort_lex_scan.proofs.Theorem.{list_is, fault_is, stuck_fault, many_is, stuck_many}
 use Rattle.fort_lex.proofs.ReadLaws.{read_more, count_read, few_read, scalars_part}
 use Rattle.fort_lex.proofs.source.text_tokens.Goals as goal
 

@@ -1,6 +1,6 @@
 use Rattle.std.proofs.Common.{◌≡◌, ◌≢◌, ℕ, Bool, true, false, List, length, refl, ap, ◌∙◌}
-use Rattle.fort_scan.specs.Lists.{same}
-use Rattle.fort_scan.proofs.Symbols.{same_is}
+use Rattle.fort_lex_scan.specs.Lists.{same}
+use Rattle.fort_lex_scan.proofs.Symbols.{same_is}
 use Rattle.fort_lex.proofs.text.is_ascii.Goals as goal
 
 other_length : (v w : List ℕ) → length v ≢ length w → (b : Bool) → same v w ≡ b → false ≡ b

@@ -1,5 +1,5 @@
 use Rattle.std.proofs.Common.{◌≡◌, map, take}
-use Rattle.fort_set.specs.Leaves.{is_leaf}
+use Rattle.fort_types_sets.specs.Leaves.{is_leaf}
 use Rattle.fort_member.proofs.checked.leaves_in.Given as goal
 
 abbrev pub invariant-loop-declared : goal.invariant-loop-declared

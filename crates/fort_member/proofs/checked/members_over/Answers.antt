@@ -1,7 +1,7 @@
 use Rattle.std.proofs.Common.{◌∙◌, ap, rules, arith}
 use Rattle.fort_hier.specs.Numbers.{all_types}
 use Rattle.fort_hier.proofs.NumberLaws.{all_long}
-use Rattle.fort_set.specs.Leaves.{leaves_of}
+use Rattle.fort_types_sets.specs.Leaves.{leaves_of}
 use Rattle.fort_member.proofs.checked.members_over.Goals as goal
 
 pub returns : goal.returns

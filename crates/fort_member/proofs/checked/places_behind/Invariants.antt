@@ -1,6 +1,6 @@
 use Rattle.std.proofs.Common.{◌≡◌, ◌++◌, None, Some, map, take}
 use Rattle.std.specs.Prelude.{replicate}
-use Rattle.fort_builtin.specs.declared.types.TheConstants.{TYPE_COUNT}
+use Rattle.fort_types_builtin.specs.declared.types.TheConstants.{TYPE_COUNT}
 use Rattle.fort_member.proofs.checked.places_behind.Given as goal
 
 abbrev pub invariant-loop-number : goal.invariant-loop-number

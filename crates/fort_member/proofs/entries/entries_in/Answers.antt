@@ -1,6 +1,6 @@
 use Rattle.fort_member.specs.Declarations.{declared_entries}
 use Rattle.fort_member.specs.BuiltIn.{built_in_entries}
-use Rattle.fort_field.proofs.Walking.{flat_more}
+use Rattle.fort_member_fields.proofs.Walking.{flat_more}
 use Rattle.fort_member.proofs.entries.entries_in.Goals as goal
 
 pub loop-declared-preserved : goal.loop-declared-preserved

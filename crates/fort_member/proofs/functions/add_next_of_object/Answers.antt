@@ -1,5 +1,5 @@
 use Rattle.fort_member.specs.Declarations.{next_object_parameter_type}
-use Rattle.fort_field.proofs.Walking.{map_more}
+use Rattle.fort_member_fields.proofs.Walking.{map_more}
 use Rattle.fort_member.proofs.functions.add_next_of_object.Goals as goal
 
 pub loop-next-preserved : goal.loop-next-preserved

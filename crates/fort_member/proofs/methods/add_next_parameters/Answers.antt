@@ -1,6 +1,6 @@
 use Rattle.fort_base.specs.declared.ty.Ty.TheVariants as a_type
 use Rattle.fort_member.specs.Declarations.{next_method_parameter_type}
-use Rattle.fort_field.proofs.Walking.{map_more}
+use Rattle.fort_member_fields.proofs.Walking.{map_more}
 use Rattle.fort_member.proofs.methods.add_next_parameters.Goals as goal
 
 pub loop-next-preserved : goal.loop-next-preserved

@@ -1,5 +1,5 @@
 use Rattle.fort_member.specs.Declarations.{object_entry}
-use Rattle.fort_field.proofs.Walking.{flat_more}
+use Rattle.fort_member_fields.proofs.Walking.{flat_more}
 use Rattle.fort_member.proofs.methods.add_object_methods.Goals as goal
 
 pub loop-entry-preserved : goal.loop-entry-preserved

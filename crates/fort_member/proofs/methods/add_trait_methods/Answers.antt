@@ -1,5 +1,5 @@
 use Rattle.fort_member.specs.Declarations.{trait_entry}
-use Rattle.fort_field.proofs.Walking.{flat_more}
+use Rattle.fort_member_fields.proofs.Walking.{flat_more}
 use Rattle.fort_member.proofs.methods.add_trait_methods.Goals as goal
 
 pub loop-entry-preserved : goal.loop-entry-preserved

@@ -1,6 +1,6 @@
 use Rattle.std.proofs.Common.{◌≡◌, ◌<◌, ℕ, true, Some}
 use Rattle.std.specs.List.{slice_get}
-use Rattle.fort_set.specs.declared.member.MemberSet.{MemberSet}
+use Rattle.fort_types_sets.specs.declared.member.MemberSet.{MemberSet}
 use Rattle.fort_member.specs.Sets.{same_key, key_of, set_key}
 use Rattle.fort_member.proofs.sets.place_of_set.Given as goal
 

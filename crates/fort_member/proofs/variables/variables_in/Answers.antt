@@ -1,6 +1,6 @@
 use Rattle.std.proofs.Common.{[]}
-use Rattle.fort_field.specs.Own.{declared_variables}
-use Rattle.fort_field.proofs.Walking.{flat_more}
+use Rattle.fort_member_fields.specs.Own.{declared_variables}
+use Rattle.fort_member_fields.proofs.Walking.{flat_more}
 use Rattle.fort_member.proofs.variables.variables_in.Goals as goal
 
 pub loop-declared-preserved : goal.loop-declared-preserved

@@ -1,5 +1,5 @@
 use Rattle.std.proofs.Common.{◌≡◌, rules}
-use Rattle.fort_set.specs.declared.member.MemberKind.TheVariants as a_kind
+use Rattle.fort_types_sets.specs.declared.member.MemberKind.TheVariants as a_kind
 use Rattle.fort_over.proofs.PlaceLaws.{declaration_owned}
 use Rattle.fort_over.proofs.uncovered.first_of.Goals as goal
 

@@ -1,6 +1,6 @@
 use Rattle.std.proofs.Common.{subst}
 use Rattle.std.proofs.lemmas.Result.{IfOk-weaker}
-use Rattle.fort_moves.specs.Turns.{ready_term}
+use Rattle.fort_frames_moves.specs.Turns.{ready_term}
 use Rattle.fort_plain.specs.Paths.{IsFound, whole}
 use Rattle.fort_plain.proofs.Attempting.{thread_there, acts_there, form_no_step, nothing_steps}
 use Rattle.fort_plain.proofs.act.step_at.Goals as goal

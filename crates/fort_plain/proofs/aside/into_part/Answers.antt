@@ -1,5 +1,5 @@
 use Rattle.std.proofs.Common.{subst}
-use Rattle.fort_moves.specs.Turns.{IsFoundAt}
+use Rattle.fort_frames_moves.specs.Turns.{IsFoundAt}
 use Rattle.fort_plain.proofs.Paths.{none_beside}
 use Rattle.fort_plain.proofs.aside.into_part.Goals as goal
 

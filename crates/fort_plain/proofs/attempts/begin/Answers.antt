@@ -1,8 +1,8 @@
 use Rattle.std.proofs.Common.{refl, sym, ◌∙◌, subst}
 use Rattle.fort_core.specs.declared.form.Mode.TheVariants as mode
-use Rattle.fort_effects.specs.Levels.{levels_of, seen}
+use Rattle.fort_store_effects.specs.Levels.{levels_of, seen}
 use Rattle.fort_machine.specs.Attempts.{fresh, slept}
-use Rattle.fort_carry.specs.Calls.{MayTry}
+use Rattle.fort_walk_course.specs.Calls.{MayTry}
 use Rattle.fort_machine.proofs.Ready.{form_ready}
 use Rattle.fort_plain.specs.Takes.{MustWait, term_round}
 use Rattle.fort_plain.proofs.Attempting.{sleeper_waits, may_try}

@@ -1,5 +1,5 @@
 use Rattle.std.proofs.Common.{◌≡◌, true, false, refl, sym, ◌∙◌}
-use Rattle.fort_effects.specs.Levels.{levels_of, seen}
+use Rattle.fort_store_effects.specs.Levels.{levels_of, seen}
 use Rattle.fort_machine.proofs.Standing.{is_open}
 use Rattle.fort_plain.specs.Takes.{term_round}
 use Rattle.fort_plain.proofs.Testing.{waits_not, waits_by}

@@ -1,4 +1,4 @@
-use Rattle.fort_effects.specs.Levels.{levels_of, seen}
+use Rattle.fort_store_effects.specs.Levels.{levels_of, seen}
 use Rattle.fort_plain.proofs.Watched.{there_sleeps, sleeps_there}
 use Rattle.fort_plain.proofs.awake.sleeps.Goals as goal
 

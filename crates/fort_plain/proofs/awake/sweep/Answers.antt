@@ -1,8 +1,8 @@
 use Rattle.std.proofs.Common.{◌≡◌, true, false, sym, ◌∙◌, subst}
 use Rattle.fort_machine.specs.Attempts.{Sleeps}
-use Rattle.fort_effects.specs.Levels.{levels_of, seen}
-use Rattle.fort_moves.specs.Turns.{IsStop}
-use Rattle.fort_moves.specs.Sweeps.{MissesNone}
+use Rattle.fort_store_effects.specs.Levels.{levels_of, seen}
+use Rattle.fort_frames_moves.specs.Turns.{IsStop}
+use Rattle.fort_frames_moves.specs.Sweeps.{MissesNone}
 use Rattle.fort_plain.specs.Paths.{whole}
 use Rattle.fort_plain.proofs.Sweeping.{from_left, thread_awake, form_awake, past_sleeper, past_group, sweep_ends}
 use Rattle.fort_plain.proofs.awake.sweep.Goals as goal

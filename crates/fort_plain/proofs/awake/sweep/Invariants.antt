@@ -1,4 +1,4 @@
-use Rattle.fort_effects.specs.Levels.{levels_of, seen}
+use Rattle.fort_store_effects.specs.Levels.{levels_of, seen}
 use Rattle.fort_plain.proofs.Sweeping.{SleepsSoFar}
 use Rattle.fort_plain.proofs.awake.sweep.Given as goal
 

@@ -1,6 +1,6 @@
 use Rattle.std.proofs.Common.{◌≡◌, ◌≤◌, length, true, false, refl, sym, ◌∙◌, subst, arith}
 use Rattle.std.proofs.lemmas.Option.{slice_get_read}
-use Rattle.fort_effects.specs.Levels.{levels_of, seen}
+use Rattle.fort_store_effects.specs.Levels.{levels_of, seen}
 use Rattle.fort_plain.proofs.Watched.{AllThere, one_there, one_more, all_there}
 use Rattle.fort_plain.proofs.awake.unchanged.Goals as goal
 

@@ -1,5 +1,5 @@
 use Rattle.std.proofs.Common.{take}
-use Rattle.fort_effects.specs.Levels.{levels_of, seen}
+use Rattle.fort_store_effects.specs.Levels.{levels_of, seen}
 use Rattle.fort_plain.proofs.Watched.{AllThere}
 use Rattle.fort_plain.proofs.awake.unchanged.Given as goal
 

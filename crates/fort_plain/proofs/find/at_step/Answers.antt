@@ -1,7 +1,7 @@
 use Rattle.std.proofs.Common.{◌≡◌, true, false, sym, ◌∙◌, subst}
 use Rattle.fort_machine.specs.Attempts.{Ready}
 use Rattle.fort_frames.specs.Frames.{Reaches, frames}
-use Rattle.fort_moves.specs.Turns.{ready_term}
+use Rattle.fort_frames_moves.specs.Turns.{ready_term}
 use Rattle.fort_plain.proofs.Finding.{form_sought}
 use Rattle.fort_plain.proofs.find.at_step.Goals as goal
 

@@ -1,5 +1,5 @@
 use Rattle.std.proofs.Common.{subst}
-use Rattle.fort_moves.proofs.Kept.{on_turn}
+use Rattle.fort_frames_moves.proofs.Kept.{on_turn}
 use Rattle.fort_plain.specs.Paths.{IsSought, whole}
 use Rattle.fort_plain.proofs.Finding.{found_on}
 use Rattle.fort_plain.proofs.find.find.Goals as goal

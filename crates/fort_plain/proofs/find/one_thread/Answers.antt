@@ -1,5 +1,5 @@
 use Rattle.std.proofs.Common.{subst}
-use Rattle.fort_moves.specs.Turns.{IsStop}
+use Rattle.fort_frames_moves.specs.Turns.{IsStop}
 use Rattle.fort_plain.specs.Paths.{whole}
 use Rattle.fort_plain.proofs.Finding.{own_step, step_sought, own_try, try_sought, own_group, group_sought, ends_sought}
 use Rattle.fort_plain.proofs.find.one_thread.Goals as goal

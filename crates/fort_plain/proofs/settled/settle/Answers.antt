@@ -1,5 +1,5 @@
 use Rattle.std.proofs.Common.{subst}
-use Rattle.fort_moves.specs.Turns.{IsStop}
+use Rattle.fort_frames_moves.specs.Turns.{IsStop}
 use Rattle.fort_plain.specs.Paths.{whole}
 use Rattle.fort_plain.proofs.Finding.{thread_unfinished, try_unfinished, odd_unfinished}
 use Rattle.fort_plain.proofs.settled.settle.Goals as goal

@@ -1,5 +1,5 @@
 use Rattle.std.proofs.Common.{inl, inr}
-use Rattle.fort_moves.specs.Turns.{ready_term}
+use Rattle.fort_frames_moves.specs.Turns.{ready_term}
 use Rattle.fort_plain.proofs.Stepping.{abort_wrong, abort_last, abort_passes, stops_here, abort_unclosed, abort_leaves}
 use Rattle.fort_plain.proofs.Testing.{is_so, none_named, not_so, too_dear}
 use Rattle.fort_plain.proofs.steps.abort_attempt.Goals as goal

@@ -1,6 +1,6 @@
 use Rattle.std.proofs.Common.{sym, ap, ◌∙◌}
 use Rattle.fort_core.specs.declared.term.Term.{Term, Throw}
-use Rattle.fort_moves.specs.Turns.{ready_term}
+use Rattle.fort_frames_moves.specs.Turns.{ready_term}
 use Rattle.fort_plain.proofs.Stepping.{abort_unthrown, throws_only}
 use Rattle.fort_plain.proofs.steps.aborts.Goals as goal
 

@@ -1,5 +1,5 @@
 use Rattle.std.proofs.Common.{◌≡◌, true, false, sym, ◌∙◌}
-use Rattle.fort_effects.specs.Levels.{levels_of, seen}
+use Rattle.fort_store_effects.specs.Levels.{levels_of, seen}
 use Rattle.fort_plain.proofs.Testing.{free_none, free_more, free_one}
 use Rattle.fort_plain.proofs.steps.are_free.Goals as goal
 

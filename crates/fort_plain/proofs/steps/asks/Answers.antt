@@ -1,7 +1,7 @@
 use Rattle.std.proofs.Common.{subst, sym, ap, ◌∙◌, Some}
-use Rattle.fort_deal.specs.Deals.{next_by}
-use Rattle.fort_carry.specs.Picked.{PicksStep}
-use Rattle.fort_moves.specs.Turns.{ready_term}
+use Rattle.fort_step_deal.specs.Deals.{next_by}
+use Rattle.fort_walk_course.specs.Picked.{PicksStep}
+use Rattle.fort_frames_moves.specs.Turns.{ready_term}
 use Rattle.fort_plain.proofs.Stepping.{asks_gone, asks_wrong, asks_last, asks_passes, may_ask, went_on}
 use Rattle.fort_plain.proofs.Testing.{none_named, too_dear}
 use Rattle.fort_plain.proofs.steps.asks.Goals as goal

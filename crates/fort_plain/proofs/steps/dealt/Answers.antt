@@ -1,6 +1,6 @@
 use Rattle.std.proofs.Common.{◌≡◌, true, false, sym, ◌∙◌, subst}
-use Rattle.fort_moves.specs.Turns.{ready_term}
-use Rattle.fort_acting.specs.Only.{IsDealt}
+use Rattle.fort_frames_moves.specs.Turns.{ready_term}
+use Rattle.fort_step_acting.specs.Only.{IsDealt}
 use Rattle.fort_plain.proofs.Stepping.{no_row}
 use Rattle.fort_plain.proofs.steps.dealt.Goals as goal
 

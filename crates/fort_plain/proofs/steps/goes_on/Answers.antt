@@ -1,6 +1,6 @@
 use Rattle.std.proofs.Common.{subst}
-use Rattle.fort_moves.specs.Turns.{ready_term}
-use Rattle.fort_acting.specs.Only.{IsDealt}
+use Rattle.fort_frames_moves.specs.Turns.{ready_term}
+use Rattle.fort_step_acting.specs.Only.{IsDealt}
 use Rattle.fort_plain.proofs.Dealing.{touches_store}
 use Rattle.fort_plain.proofs.Stepping.{turns_only, enters_only}
 use Rattle.fort_plain.proofs.steps.goes_on.Goals as goal

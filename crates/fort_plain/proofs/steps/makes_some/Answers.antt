@@ -1,10 +1,10 @@
 use Rattle.std.proofs.Common.{◌≡◌, ◌+◌, ◌<◌, ◌≤◌, ◌^◌, true, false, sym, ap, ◌∙◌, subst}
 use Rattle.fort_machine.specs.Effects.{making}
-use Rattle.fort_effects.specs.Calls.{AreFree}
-use Rattle.fort_effects.specs.Levels.{levels_of, seen}
-use Rattle.fort_carry.specs.Calls.{MayStep}
-use Rattle.fort_deal.specs.Deals.{making_cost, made_by, new_values}
-use Rattle.fort_moves.specs.Turns.{ready_term}
+use Rattle.fort_store_effects.specs.Calls.{AreFree}
+use Rattle.fort_store_effects.specs.Levels.{levels_of, seen}
+use Rattle.fort_walk_course.specs.Calls.{MayStep}
+use Rattle.fort_step_deal.specs.Deals.{making_cost, made_by, new_values}
+use Rattle.fort_frames_moves.specs.Turns.{ready_term}
 use Rattle.fort_plain.proofs.Stepping.{makes_wrong, makes_last, makes_passes, may_make, free_all, went_on}
 use Rattle.fort_plain.proofs.Testing.{too_dear}
 use Rattle.fort_plain.proofs.steps.makes_some.Goals as goal

@@ -1,9 +1,9 @@
 use Rattle.std.proofs.Common.{subst, sym, ap, ◌∙◌}
 use Rattle.fort_core.specs.declared.term.Term as term
 use Rattle.fort_core.specs.declared.value.Value.{Value}
-use Rattle.fort_effects.specs.Levels.{levels_of, seen}
-use Rattle.fort_carry.specs.Picked.{PicksStep}
-use Rattle.fort_moves.specs.Turns.{ready_term}
+use Rattle.fort_store_effects.specs.Levels.{levels_of, seen}
+use Rattle.fort_walk_course.specs.Picked.{PicksStep}
+use Rattle.fort_frames_moves.specs.Turns.{ready_term}
 use Rattle.fort_plain.proofs.Stepping.{sets_gone, sets_wrong, sets_last, sets_passes, may_set, went_on}
 use Rattle.fort_plain.proofs.Testing.{none_named, too_dear, some_seen, none_seen}
 use Rattle.fort_plain.proofs.steps.sets.Goals as goal

@@ -1,6 +1,6 @@
 use Rattle.std.proofs.Common.{subst}
-use Rattle.fort_moves.specs.Turns.{ready_term}
-use Rattle.fort_acting.specs.Only.{IsDealt}
+use Rattle.fort_frames_moves.specs.Turns.{ready_term}
+use Rattle.fort_step_acting.specs.Only.{IsDealt}
 use Rattle.fort_plain.proofs.Dealing.{no_other}
 use Rattle.fort_plain.proofs.Stepping.{dealt_turns}
 use Rattle.fort_plain.proofs.steps.touches.Goals as goal

@@ -1,6 +1,6 @@
 use Rattle.std.proofs.Common.{subst, sym}
-use Rattle.fort_carry.specs.Picked.{PicksStep}
-use Rattle.fort_moves.specs.Turns.{ready_term}
+use Rattle.fort_walk_course.specs.Picked.{PicksStep}
+use Rattle.fort_frames_moves.specs.Turns.{ready_term}
 use Rattle.fort_plain.proofs.Stepping.{wrong_place, turn_last, turn_passes, may_turn, went_on}
 use Rattle.fort_plain.proofs.Testing.{none_named, too_dear}
 use Rattle.fort_plain.proofs.steps.turns.Goals as goal

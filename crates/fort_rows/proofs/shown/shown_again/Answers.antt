@@ -1,4 +1,4 @@
-use Rattle.fort_canonical.proofs.Showing.{numbered}
+use Rattle.fort_lex_canonical.proofs.Showing.{numbered}
 use Rattle.fort_rows.proofs.shown.shown_again.Goals as goal
 
 pub shown-requires : goal.shown-requires

@@ -1,9 +1,9 @@
 use Rattle.std.proofs.Common.{sym, subst}
-use Rattle.fort_carry.specs.Calls.{IsRun}
+use Rattle.fort_walk_course.specs.Calls.{IsRun}
 use Rattle.fort_disp.specs.Rows.{AreRows, GoesThrough}
 use Rattle.fort_machine.specs.Written.{WrittenProgram}
-use Rattle.fort_turns.specs.Defined.{AlwaysOne}
-use Rattle.fort_turns.specs.Stops.{StopsShort}
+use Rattle.fort_walk_turns.specs.Defined.{AlwaysOne}
+use Rattle.fort_walk_turns.specs.Stops.{StopsShort}
 use Rattle.fort_run.proofs.run.run_program.Goals as goal
 
 pub walk-requires-clause-written : goal.walk-requires-clause-written

@@ -1,6 +1,6 @@
 use Rattle.std.proofs.Common.{refl}
 use Rattle.std.proofs.lemmas.Result.{IfOk-weaker}
-use Rattle.fort_canonical.proofs.Showing.{numbered}
+use Rattle.fort_lex_canonical.proofs.Showing.{numbered}
 use Rattle.fort_run.specs.Reply.{Shows}
 use Rattle.fort_run.proofs.Refused.{grammar_unshown}
 use Rattle.fort_run.proofs.show.show_tokens.Goals as goal

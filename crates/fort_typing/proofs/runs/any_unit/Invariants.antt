@@ -1,5 +1,5 @@
 use Rattle.std.proofs.Common.{◌≡◌, drop}
-use Rattle.fort_typing_whole.specs.Whole.{any_unit}
+use Rattle.fort_typing_meaning.specs.Whole.{any_unit}
 use Rattle.fort_typing.proofs.runs.any_unit.Given as goal
 
 abbrev pub invariant-loop-member : goal.invariant-loop-member

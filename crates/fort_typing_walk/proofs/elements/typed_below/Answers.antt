@@ -1,4 +1,4 @@
-use Rattle.fort_known.specs.Read.{facts}
+use Rattle.fort_typing_known.specs.Read.{facts}
 use Rattle.fort_typing_walk.proofs.Wanted.{is_typed_below}
 use Rattle.fort_typing_walk.proofs.elements.typed_below.Goals as goal
 

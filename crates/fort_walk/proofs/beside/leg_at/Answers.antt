@@ -1,6 +1,6 @@
 use Rattle.std.proofs.Common.{◌≡◌, ◌+◌, ◌≤◌, true, false, ap, sym, ◌∙◌, subst}
-use Rattle.fort_effects.specs.Levels.{levels_of, seen}
-use Rattle.fort_leg.specs.Goes.{Goes, MayGo}
+use Rattle.fort_store_effects.specs.Levels.{levels_of, seen}
+use Rattle.fort_walk_rounds.specs.Goes.{Goes, MayGo}
 use Rattle.fort_walk.proofs.Rounding.{may_go, next_leg}
 use Rattle.fort_walk.proofs.beside.leg_at.Goals as goal
 

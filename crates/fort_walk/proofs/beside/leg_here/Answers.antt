@@ -1,7 +1,7 @@
 use Rattle.std.proofs.Common.{◌≡◌, false, IfOk, IfSome, sym, subst}
 use Rattle.fort_machine.specs.Ends.{has_stepped}
 use Rattle.fort_frames.specs.States.{term_at}
-use Rattle.fort_carry.specs.Courses.{StandsAt}
+use Rattle.fort_walk_course.specs.Courses.{StandsAt}
 use Rattle.fort_walk.specs.Rounds.{IsNextLeg}
 use Rattle.fort_walk.proofs.beside.leg_here.Goals as goal
 

@@ -1,5 +1,5 @@
 use Rattle.std.proofs.Common.{refl}
-use Rattle.fort_turns.proofs.Past.{picked_form}
+use Rattle.fort_walk_turns.proofs.Past.{picked_form}
 use Rattle.fort_walk.proofs.Rounding.{may_take}
 use Rattle.fort_walk.proofs.beside.take_in.Goals as goal
 

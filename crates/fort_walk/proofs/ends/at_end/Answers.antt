@@ -1,8 +1,8 @@
 use Rattle.std.proofs.Common.{subst}
 use Rattle.fort_machine.specs.Attempts.{goes}
 use Rattle.fort_frames.specs.States.{term_at}
-use Rattle.fort_carry.specs.Courses.{HasCome}
-use Rattle.fort_turns.specs.Idles.{IsAtEndOf}
+use Rattle.fort_walk_course.specs.Courses.{HasCome}
+use Rattle.fort_walk_turns.specs.Idles.{IsAtEndOf}
 use Rattle.fort_walk.proofs.ends.at_end.Goals as goal
 
 pub at_value-requires : goal.at_value-requires

@@ -1,8 +1,8 @@
 use Rattle.std.proofs.Common.{◌≡◌, true, false, sym, ◌∙◌, subst}
 use Rattle.fort_core.specs.declared.term.Term as term
 use Rattle.fort_machine.specs.Attempts.{goes}
-use Rattle.fort_carry.specs.Courses.{HasCome}
-use Rattle.fort_turns.specs.Idles.{Follows}
+use Rattle.fort_walk_course.specs.Courses.{HasCome}
+use Rattle.fort_walk_turns.specs.Idles.{Follows}
 use Rattle.fort_walk.proofs.Ending.{value_stuck}
 use Rattle.fort_walk.proofs.ends.at_value.Goals as goal
 

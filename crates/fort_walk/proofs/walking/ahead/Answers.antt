@@ -1,5 +1,5 @@
 use Rattle.std.proofs.Common.{subst}
-use Rattle.fort_turns.specs.Idles.{Follows}
+use Rattle.fort_walk_turns.specs.Idles.{Follows}
 use Rattle.fort_walk.proofs.walking.ahead.Goals as goal
 
 pub returns : goal.returns

@@ -1,6 +1,6 @@
 use Rattle.std.proofs.Common.{◌∙◌, sym, subst}
 use Rattle.fort_core.specs.declared.term.Term.{Term}
-use Rattle.fort_turns.specs.Idles.{IsAtPlace}
+use Rattle.fort_walk_turns.specs.Idles.{IsAtPlace}
 use Rattle.fort_walk.proofs.Moving.{steps_at, groups_at, tries_at, ends_at, odd_at}
 use Rattle.fort_walk.proofs.walking.go.Goals as goal
 

@@ -1,5 +1,5 @@
 use Rattle.std.proofs.Common.{subst}
-use Rattle.fort_turns.specs.Walks.{Walks}
+use Rattle.fort_walk_turns.specs.Walks.{Walks}
 use Rattle.fort_walk.proofs.walking.walk.Goals as goal
 
 pub returns : goal.returns

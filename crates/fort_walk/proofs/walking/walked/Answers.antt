@@ -1,7 +1,7 @@
 use Rattle.std.proofs.Common.{◌∙◌, subst}
-use Rattle.fort_turns.specs.Idles.{Follows}
-use Rattle.fort_turns.specs.Walks.{Walks}
-use Rattle.fort_turns.proofs.Begins.{sweep_begins, not_waking}
+use Rattle.fort_walk_turns.specs.Idles.{Follows}
+use Rattle.fort_walk_turns.specs.Walks.{Walks}
+use Rattle.fort_walk_turns.proofs.Begins.{sweep_begins, not_waking}
 use Rattle.fort_walk.proofs.walking.walked.Goals as goal
 
 pub loop-turn-init : goal.loop-turn-init

@@ -1,5 +1,5 @@
 use Rattle.std.proofs.Common.{◌≡◌}
-use Rattle.fort_turns.specs.Idles.{IsWalking}
+use Rattle.fort_walk_turns.specs.Idles.{IsWalking}
 use Rattle.fort_walk.proofs.walking.walked.Given as goal
 
 abbrev pub invariant-loop-turn : goal.invariant-loop-turn

@@ -3,7 +3,7 @@ use Rattle.std.proofs.lemmas.List.{get_or_default}
 use Rattle.fort_base.specs.declared.refusal.Gap.TheVariants as gap
 use Rattle.fort_tree.specs.declared.spot.Spot.{Spot}
 use Rattle.fort_tree.specs.declared.spot.NextName.{NextName}
-use Rattle.fort_token.specs.declared.marks.Mark.TheVariants as mark
+use Rattle.fort_lex_token.specs.declared.marks.Mark.TheVariants as mark
 use Rattle.fort_tree.specs.Tokens.{marked, named}
 use Rattle.fort_yield.proofs.More.{one_more_name, behind}
 use Rattle.fort_yield.proofs.put.put_next_names.Goals as goal

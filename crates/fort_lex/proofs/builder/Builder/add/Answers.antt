@@ -1,7 +1,7 @@
 use Rattle.std.proofs.Common.{refl, ap, ◌∙◌, ◌++◌, ◌∷◌, []}
 use Rattle.fort_base.specs.declared.refusal.Place.{Place}
 use Rattle.fort_base.specs.declared.refusal.Gap.{Gap}
-use Rattle.fort_scan.specs.Places.{place_after, gap_kind}
+use Rattle.fort_lex_scan.specs.Places.{place_after, gap_kind}
 use Rattle.fort_lex.proofs.FileLaws.{holds_last}
 use Rattle.fort_lex.proofs.builder.Builder.add.Goals as goal
 

@@ -1,16 +1,16 @@
 use Rattle.std.proofs.Common.{◌≡◌, ◌-◌, ◌++◌, ◌∷◌, [], true, sym, arith, refl, ◌∙◌}
-use Rattle.fort_token.specs.declared.marks.Mark.TheVariants as mark
-use Rattle.fort_token.specs.declared.reserved.Reserved.TheVariants as reserved
+use Rattle.fort_lex_token.specs.declared.marks.Mark.TheVariants as mark
+use Rattle.fort_lex_token.specs.declared.reserved.Reserved.TheVariants as reserved
 use Rattle.fort_tree.specs.declared.delimited.BlockItem.{out-BlockItem}
 use Rattle.fort_tree.specs.declared.delimited.CaseClause.{out-CaseClause}
 use Rattle.fort_tree.specs.declared.delimited.TypeClause.{out-TypeClause}
-use Rattle.fort_reading.specs.Parser.{next_of}
-use Rattle.fort_reading.specs.Words.{sees, is_mark, is_word}
-use Rattle.fort_first.specs.Beginnings.{begins_flat_part, begins_run_part, begins_item, begins_case_clause, begins_type_clause}
+use Rattle.fort_parse_reading.specs.Parser.{next_of}
+use Rattle.fort_parse_reading.specs.Words.{sees, is_mark, is_word}
+use Rattle.fort_parse_first.specs.Beginnings.{begins_flat_part, begins_run_part, begins_item, begins_case_clause, begins_type_clause}
 use Rattle.fort_parse.specs.Flats.{flat_part, flat_parts, next_expr, next_exprs}
 use Rattle.fort_parse.specs.Blocks.{is_ended, block, block_item, case_clause, case_list, type_clause, type_clause_list, also_block, also_blocks, elif, elifs, next_generator, next_generators}
 use Rattle.fort_parse.specs.Runs.{run_at, run_part, run_parts}
-use Rattle.fort_reading.proofs.Loops.{no_front, goes_on}
+use Rattle.fort_parse_reading.proofs.Loops.{no_front, goes_on}
 use Rattle.fort_parse.proofs.Ended.{ended_is}
 use Rattle.fort_parse.proofs.grammar.Grammar.type_clause_list.Goals as goal
 

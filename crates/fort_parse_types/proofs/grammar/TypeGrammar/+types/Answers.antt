@@ -1,8 +1,8 @@
 use Rattle.std.proofs.Common.{◌≡◌, ℕ, suc, ◌-◌, ◌<◌, true, ap, arith}
-use Rattle.fort_token.specs.declared.marks.Mark.TheVariants as mark
-use Rattle.fort_reading.specs.Parser.{next_of}
-use Rattle.fort_reading.specs.Words.{is_mark, sees}
-use Rattle.fort_reading.proofs.Loops.{no_front, goes_on}
+use Rattle.fort_lex_token.specs.declared.marks.Mark.TheVariants as mark
+use Rattle.fort_parse_reading.specs.Parser.{next_of}
+use Rattle.fort_parse_reading.specs.Words.{is_mark, sees}
+use Rattle.fort_parse_reading.proofs.Loops.{no_front, goes_on}
 use Rattle.fort_parse_types.specs.Types.{type_tree, next_type, next_types}
 use Rattle.fort_parse_types.proofs.grammar.TypeGrammar.+types.Goals as goal
 

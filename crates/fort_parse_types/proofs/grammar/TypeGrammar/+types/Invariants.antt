@@ -1,8 +1,8 @@
 use Rattle.std.proofs.Common.{◌≡◌, ◌-◌, ◌+◌, ◌*◌, true}
-use Rattle.fort_token.specs.declared.marks.Mark.TheVariants as mark
-use Rattle.fort_reading.specs.Parser.{many_run}
-use Rattle.fort_reading.specs.Words.{is_mark, sees}
-use Rattle.fort_reading.proofs.Loops.{with_front}
+use Rattle.fort_lex_token.specs.declared.marks.Mark.TheVariants as mark
+use Rattle.fort_parse_reading.specs.Parser.{many_run}
+use Rattle.fort_parse_reading.specs.Words.{is_mark, sees}
+use Rattle.fort_parse_reading.proofs.Loops.{with_front}
 use Rattle.fort_parse_types.specs.Types.{type_tree, next_type, next_types}
 use Rattle.fort_parse_types.proofs.grammar.TypeGrammar.+types.Given as goal
 

@@ -1,8 +1,8 @@
 use Rattle.std.proofs.Common.{◌≡◌, ◌-◌, true, arith}
-use Rattle.fort_token.specs.declared.marks.Mark.TheVariants as mark
-use Rattle.fort_reading.specs.Parser.{next_of}
-use Rattle.fort_reading.specs.Words.{is_mark, sees}
-use Rattle.fort_reading.proofs.Loops.{no_front, goes_on}
+use Rattle.fort_lex_token.specs.declared.marks.Mark.TheVariants as mark
+use Rattle.fort_parse_reading.specs.Parser.{next_of}
+use Rattle.fort_parse_reading.specs.Words.{is_mark, sees}
+use Rattle.fort_parse_reading.proofs.Loops.{no_front, goes_on}
 use Rattle.fort_parse_types.specs.Types.{next_parameter, next_parameters}
 use Rattle.fort_parse_types.proofs.grammar.TypeGrammar.next_parameters.Goals as goal
 

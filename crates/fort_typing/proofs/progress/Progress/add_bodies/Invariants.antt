@@ -1,6 +1,6 @@
 use Rattle.std.proofs.Common.{◌≡◌, drop}
-use Rattle.fort_known.specs.Read.{facts}
-use Rattle.fort_typing_whole.specs.Whole.{judged_bodies}
+use Rattle.fort_typing_known.specs.Read.{facts}
+use Rattle.fort_typing_meaning.specs.Whole.{judged_bodies}
 use Rattle.fort_typing.specs.Typing.{whole_of}
 use Rattle.fort_typing.proofs.progress.Progress.add_bodies.Given as goal
 

@@ -1,5 +1,5 @@
 use Rattle.std.proofs.Common.{◌≡◌}
-use Rattle.fort_known.specs.Read.{facts}
+use Rattle.fort_typing_known.specs.Read.{facts}
 use Rattle.fort_typing_tasks.specs.Tasks.{run}
 use Rattle.fort_typing_walk.specs.Walks.{state}
 use Rattle.fort_typing_walk.proofs.walk.Walk.run.Given as goal

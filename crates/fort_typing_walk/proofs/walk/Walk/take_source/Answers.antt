@@ -1,5 +1,5 @@
 use Rattle.std.proofs.Common.{rules}
-use Rattle.fort_known.specs.Read.{facts}
+use Rattle.fort_typing_known.specs.Read.{facts}
 use Rattle.fort_typing_walk.proofs.Sources.{source_taken}
 use Rattle.fort_typing_walk.specs.Walks.{state}
 use Rattle.fort_typing_walk.proofs.walk.Walk.take_source.Goals as goal

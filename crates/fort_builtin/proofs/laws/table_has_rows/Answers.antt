@@ -1,5 +1,0 @@
-use Rattle.fort_builtin.proofs.TableLaws.{has_rows}
-use Rattle.fort_builtin.proofs.laws.table_has_rows.Goals as goal
-
-pub returns : goal.returns
-returns c = has_rows

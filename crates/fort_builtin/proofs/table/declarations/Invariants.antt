@@ -1,6 +1,0 @@
-use Rattle.std.proofs.Common.{◌≡◌, map, take}
-use Rattle.fort_builtin.specs.Declarations.{declaration_of}
-use Rattle.fort_builtin.proofs.table.declarations.Given as goal
-
-abbrev pub invariant-loop-row : goal.invariant-loop-row
-invariant-loop-row l = l.list ≡ map declaration_of (take l.row-index l.row-items)

@@ -1,5 +1,0 @@
-mod Alongs
-pub mod Positions
-pub mod CallTypes
-pub mod Walking
-pub mod Answering

@@ -1,9 +1,0 @@
-use Rattle.std.proofs.Common.{◌≡◌, drop}
-use Rattle.fort_known.specs.Read.{facts}
-use Rattle.fort_called.specs.Fitting.{all_suit}
-use Rattle.fort_called.proofs.fitting.all_suit.Given as goal
-
-abbrev pub invariant-loop-ty : goal.invariant-loop-ty
-invariant-loop-ty l =
-    all_suit (facts l.known) l.types l.parameters
-    ≡ all_suit (facts l.known) (drop l.ty-index l.types) l.rest

@@ -1,9 +1,0 @@
-use Rattle.std.proofs.Common.{◌≡◌, drop}
-use Rattle.fort_known.specs.Read.{facts}
-use Rattle.fort_called.specs.Fitting.{is_over}
-use Rattle.fort_called.proofs.fitting.is_over.Given as goal
-
-abbrev pub invariant-loop-other : goal.invariant-loop-other
-invariant-loop-other l =
-    is_over (facts l.known) l.widening l.types l.one l.members
-    ≡ is_over (facts l.known) l.widening l.types l.one (drop l.other-index l.members)

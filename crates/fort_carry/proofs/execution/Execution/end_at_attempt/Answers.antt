@@ -1,8 +1,0 @@
-use Rattle.fort_carry.proofs.Ended.{attempt_is_last}
-use Rattle.fort_carry.proofs.execution.Execution.end_at_attempt.Goals as goal
-
-pub out_of_fuel-requires : goal.out_of_fuel-requires
-out_of_fuel-requires c =
-    attempt_is_last c.args.program.now c.args.self c.args.place.now c.in_ok-copy.field-0
-    c.new.result c.args.mode c.args.body.now c.requires.may c.requires.passes c.in_ok-copy.ensures
-    c.new.ensures

@@ -1,9 +1,0 @@
-use Rattle.std.proofs.Common.{arith}
-use Rattle.fort_translation.specs.Read.{given_of}
-use Rattle.fort_constants.proofs.Widening.{all_widened}
-use Rattle.fort_constants.proofs.calls.widened.Goals as goal
-
-pub returns : goal.returns
-returns c =
-    all_widened (given_of c.args.known.now) c.args.flags.now c.args.terms.now c.loop-i.all
-    c.loop-i.i (omega arith) c.loop-i.invariant

@@ -1,5 +1,0 @@
-pub mod Bounds
-pub mod Store
-pub mod Keeps
-pub mod Passes
-pub mod Reaches

@@ -1,5 +1,0 @@
-use Rattle.fort_course.proofs.Passes.{attempt_passes}
-use Rattle.fort_course.proofs.laws.attempt_passes.Goals as goal
-
-pub returns : goal.returns
-returns c = attempt_passes

@@ -1,5 +1,0 @@
-use Rattle.fort_course.proofs.Reaches.{bare_here}
-use Rattle.fort_course.proofs.laws.bare_here.Goals as goal
-
-pub returns : goal.returns
-returns c = bare_here

@@ -1,5 +1,0 @@
-use Rattle.fort_course.proofs.Passes.{completed_run}
-use Rattle.fort_course.proofs.laws.completed_run.Goals as goal
-
-pub returns : goal.returns
-returns c = completed_run

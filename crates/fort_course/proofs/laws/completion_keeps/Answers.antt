@@ -1,5 +1,0 @@
-use Rattle.fort_course.proofs.Keeps.{completion_keeps}
-use Rattle.fort_course.proofs.laws.completion_keeps.Goals as goal
-
-pub returns : goal.returns
-returns c = completion_keeps

@@ -1,5 +1,0 @@
-use Rattle.fort_course.proofs.Keeps.{failure_keeps}
-use Rattle.fort_course.proofs.laws.failure_keeps.Goals as goal
-
-pub returns : goal.returns
-returns c = failure_keeps

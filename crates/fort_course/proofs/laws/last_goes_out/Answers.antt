@@ -1,5 +1,0 @@
-use Rattle.fort_course.proofs.Passes.{last_goes_out}
-use Rattle.fort_course.proofs.laws.last_goes_out.Goals as goal
-
-pub returns : goal.returns
-returns c = last_goes_out

@@ -1,5 +1,0 @@
-use Rattle.fort_course.proofs.Keeps.{moves_keep}
-use Rattle.fort_course.proofs.laws.moves_keep.Goals as goal
-
-pub returns : goal.returns
-returns c = moves_keep

@@ -1,5 +1,0 @@
-use Rattle.fort_course.proofs.Keeps.{step_keeps}
-use Rattle.fort_course.proofs.laws.step_keeps.Goals as goal
-
-pub returns : goal.returns
-returns c = step_keeps

@@ -1,5 +1,0 @@
-use Rattle.fort_course.proofs.Passes.{uncaught_run}
-use Rattle.fort_course.proofs.laws.uncaught_run.Goals as goal
-
-pub returns : goal.returns
-returns c = uncaught_run

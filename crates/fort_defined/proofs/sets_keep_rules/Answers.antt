@@ -1,5 +1,0 @@
-use Rattle.fort_defined.proofs.sets_keep_rules.Goals as goal
-use Rattle.fort_defined.proofs.Sets.{sets_keep_rules}
-
-pub returns : goal.returns
-returns c = sets_keep_rules

@@ -1,6 +1,0 @@
-use Rattle.fort_field.specs.Walks.{HasOther}
-use Rattle.fort_field.proofs.Searches.{NoneTo}
-use Rattle.fort_field.proofs.duplicates.differ.Given as goal
-
-abbrev pub invariant-loop-field : goal.invariant-loop-field
-invariant-loop-field l = NoneTo (HasOther l.own l.others) l.fields l.field-index

@@ -1,5 +1,0 @@
-use Rattle.fort_field.proofs.LackLaws.{LacksNoneTo}
-use Rattle.fort_field.proofs.lacking.lacks_field.Given as goal
-
-abbrev pub invariant-loop-t : goal.invariant-loop-t
-invariant-loop-t l = LacksNoneTo l.types l.table l.must l.own l.a l.t

@@ -1,9 +1,0 @@
-use Rattle.std.proofs.Common.{◌≡◌, ◌++◌, List, length, map, take}
-use Rattle.fort_hier.specs.Names.{Spelling}
-use Rattle.fort_hier.specs.Numbers.{HoldsNumbers}
-use Rattle.fort_field.specs.Own.{next_field}
-use Rattle.fort_field.proofs.own.add_next_parameters.Given as goal
-
-abbrev pub invariant-loop-next : goal.invariant-loop-next
-invariant-loop-next l = (list : List Spelling) → HoldsNumbers list l.numbers → length list ≡ l.size
-    → l.fields ≡ l.initial.fields ++ map (next_field list l.names) (take l.next-index l.others)

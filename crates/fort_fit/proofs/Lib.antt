@@ -1,3 +1,0 @@
-mod Known
-mod FieldLaws
-pub mod AcceptedLaws

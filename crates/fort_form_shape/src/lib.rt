@@ -1,2 +1,0 @@
-//! The shapes of forms that the grammar gives: definitions.
-#![tactic(auto)]

@@ -1,5 +1,0 @@
-use Rattle.fort_forms.proofs.Orders.{SoFar}
-use Rattle.fort_forms.proofs.groupings.in_order.Given as goal
-
-abbrev pub invariant-loop-at : goal.invariant-loop-at
-invariant-loop-at l = SoFar l.groups l.at

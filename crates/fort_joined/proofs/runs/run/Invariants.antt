@@ -1,9 +1,0 @@
-use Rattle.std.proofs.Common.{◌≡◌, ◌-◌, length}
-use Rattle.fort_known.specs.Read.{facts}
-use Rattle.fort_judge.specs.Joining.{run_within}
-use Rattle.fort_joined.proofs.runs.run.Given as goal
-
-abbrev pub invariant-loop-count : goal.invariant-loop-count
-invariant-loop-count l =
-    run_within (facts l.known) (length l.fn.parts) l.fn.found l.fn.parts
-    ≡ run_within (facts l.known) (length l.fn.parts - l.count) l.first l.rest

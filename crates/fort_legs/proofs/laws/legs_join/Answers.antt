@@ -1,5 +1,0 @@
-use Rattle.fort_legs.proofs.Legs.{legs_join}
-use Rattle.fort_legs.proofs.laws.legs_join.Goals as goal
-
-pub returns : goal.returns
-returns c = legs_join

@@ -1,0 +1,13 @@
+//! Laws of the tokens of a file.
+ghost use Rattle.fort_lex_law_tokens.specs.Numerals.{FileNumbersFit};
+ghost use Rattle.fort_lex_law_tokens.specs.Apart.{TokensStandApart};
+
+/// A law: each number among the tokens of a file is a ZZ64. The chapter is "Tokens".
+pub fn file_numbers_fit()
+    ensures { FileNumbersFit }
+{}
+
+/// A law: no two tokens of a file stand at one place. The chapter is "Tokens".
+pub fn tokens_stand_apart()
+    ensures { TokensStandApart }
+{}

@@ -1,5 +1,0 @@
-use Rattle.fort_tree.proofs.MeasuresFlats.{run_measures}
-use Rattle.fort_limits.proofs.places.place_of_run.Goals as goal
-
-pub returns : goal.returns
-returns c = rw run_measures (cc)

@@ -1,5 +1,0 @@
-use Rattle.fort_limits.proofs.DeclarationWalks.{trait_walks}
-use Rattle.fort_limits.proofs.walk.Walk.trait_.Goals as goal
-
-pub returns : goal.returns
-returns c = rw trait_walks (cc)

@@ -1,0 +1,16 @@
+pub mod Picked
+pub mod OverflowRun
+pub mod TwoThreadsRun
+pub mod LetterRun
+pub mod Forms
+pub mod Acting
+pub mod Inverted
+pub mod FailingRun
+pub mod LeftOut
+pub mod SleepingRun
+pub mod Waiting
+pub mod PassingRun
+pub mod WrittenForms
+pub mod AsWritten
+pub mod Finding
+pub mod Guarded

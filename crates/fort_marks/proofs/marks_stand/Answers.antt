@@ -1,5 +1,0 @@
-use Rattle.fort_marks.proofs.Kept.{marks_stand}
-use Rattle.fort_marks.proofs.marks_stand.Goals as goal
-
-pub returns : goal.returns
-returns c = marks_stand

@@ -1,0 +1,10 @@
+use Rattle.fort_member_fields.specs.Own.{trait_field}
+use Rattle.fort_member_fields.proofs.Walking.{flat_more}
+use Rattle.fort_member_fields.proofs.own.add_trait_fields.Goals as goal
+
+pub loop-entry-preserved : goal.loop-entry-preserved
+loop-entry-preserved c =
+    λ list h e. flat_more (trait_field list c.args.names.now) c.args.members.now
+    c.loop-entry.entry-index c.entry-item.result c.args.fields.now _ _ c.loop-entry-test.true
+    c.entry-item.is (c.loop-entry.invariant list h e)
+    (c.in_ok-add_trait_member.ensures list h e)

@@ -1,5 +1,0 @@
-use Rattle.std.proofs.Common.{length}
-use Rattle.fort_pair.proofs.listing.+all_ways.Given as goal
-
-abbrev pub decreases-all_ways : goal.decreases-all_ways
-decreases-all_ways l = length l.lists.now

@@ -1,0 +1,15 @@
+use Rattle.std.proofs.Common.{◌≡◌, ◌-◌}
+use Rattle.fort_parse_reading.specs.Parser.{many_run}
+use Rattle.fort_parse_reading.proofs.Loops.{with_front}
+use Rattle.fort_parse.specs.Blocks.{is_ended}
+use Rattle.fort_parse_first.specs.Declarations.{begins_trait_entry}
+use Rattle.fort_parse_declarations.specs.Declarations.{trait_entry, trait_entries}
+use Rattle.fort_parse_declarations.proofs.syntax.Syntax.trait_entries.Given as goal
+
+abbrev pub invariant-loop-turn : goal.invariant-loop-turn
+invariant-loop-turn l =
+    with_front l.found
+    (many_run begins_trait_entry (λ ready e. is_ended e.semicolon)
+    (λ ready. trait_entry l.self.names.now l.self.depth) (l._turn-end - l._turn) l.ready
+    l.tokens)
+    ≡ (trait_entries l.self.names.now l.self.depth).run l.fn.tokens

@@ -1,5 +1,0 @@
-use Rattle.fort_phases.proofs.Groupings.{groupings_once}
-use Rattle.fort_phases.proofs.laws.one_grouping.Goals as goal
-
-pub returns : goal.returns
-returns c = groupings_once

@@ -1,5 +1,0 @@
-use Rattle.fort_phases.proofs.Hierarchies.{hierarchy_once}
-use Rattle.fort_phases.proofs.laws.one_hierarchy.Goals as goal
-
-pub returns : goal.returns
-returns c = hierarchy_once

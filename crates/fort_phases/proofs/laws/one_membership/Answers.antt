@@ -1,5 +1,0 @@
-use Rattle.fort_phases.proofs.Memberships.{members_once}
-use Rattle.fort_phases.proofs.laws.one_membership.Goals as goal
-
-pub returns : goal.returns
-returns c = members_once

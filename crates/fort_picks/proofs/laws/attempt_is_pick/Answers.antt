@@ -1,5 +1,0 @@
-use Rattle.fort_picks.proofs.Picks.{attempt_is_pick}
-use Rattle.fort_picks.proofs.laws.attempt_is_pick.Goals as goal
-
-pub returns : goal.returns
-returns c = attempt_is_pick

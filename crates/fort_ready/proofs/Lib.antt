@@ -1,4 +1,0 @@
-pub mod Groupings
-pub mod Names
-pub mod Declarations
-pub mod Ready

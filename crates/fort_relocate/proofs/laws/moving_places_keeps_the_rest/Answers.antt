@@ -1,6 +1,0 @@
-use Rattle.fort_relocate.proofs.DeclarationsSaid.{yield_moves, obeys_moves}
-use Rattle.fort_relocate.proofs.DeclarationsMeasured.{crowded_moves}
-use Rattle.fort_relocate.proofs.laws.moving_places_keeps_the_rest.Goals as goal
-
-pub returns : goal.returns
-returns c = record { tokens = yield_moves; gaps = obeys_moves; limits = crowded_moves }

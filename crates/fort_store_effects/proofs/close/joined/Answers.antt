@@ -1,0 +1,11 @@
+use Rattle.std.proofs.Common.{◌≡◌, arith}
+use Rattle.indexmap.specs.IndexMap.{index_map_len}
+use Rattle.fort_store_effects.proofs.Popped.{joined_all}
+use Rattle.fort_store_effects.proofs.close.joined.Goals as goal
+
+pub returns : goal.returns
+returns c =
+    let none : index_map_len c.loop-at.cells ≡ 0 =
+    omega (arith, c.loop-at.invariant.3, c.loop-at-test.false, c.len-count.ensures.len) in
+    joined_all c.args.closing c.args.parent c.loop-at.whole c.args.cells c.loop-at.cells none
+    c.loop-at.invariant.0 c.loop-at.invariant.1 c.loop-at.invariant.2

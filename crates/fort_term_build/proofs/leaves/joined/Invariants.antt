@@ -1,9 +1,0 @@
-use Rattle.std.proofs.Common.{◌≡◌, [], ◌∷◌, ◌++◌, length}
-use Rattle.fort_translation.specs.Calls.{joined}
-use Rattle.fort_term_build.proofs.leaves.joined.Given as goal
-
-abbrev pub invariant-terms : goal.invariant-terms
-invariant-terms l = joined l.set (l.terms ++ l.last ∷ []) ≡ joined l.set l.fn.terms
-
-abbrev pub decreases-terms : goal.decreases-terms
-decreases-terms l = length l.terms

@@ -1,7 +1,0 @@
-use Rattle.std.proofs.Common.{◌≡◌, ◌++◌, drop}
-use Rattle.fort_translation.specs.Choices.{with_types}
-use Rattle.fort_term_build.proofs.lists.with_types.Given as goal
-
-abbrev pub invariant-loop-at : goal.invariant-loop-at
-invariant-loop-at l =
-    l.list ++ with_types (drop l.at l.terms) (drop l.at l.types) ≡ with_types l.terms l.types

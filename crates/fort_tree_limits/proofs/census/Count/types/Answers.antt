@@ -1,0 +1,14 @@
+use Rattle.std.proofs.Common.{sym}
+use Rattle.fort_tree.specs.Limits.{type_places}
+use Rattle.fort_tree_limits.proofs.CensusLaws.{counted_none, one_more_of_all}
+use Rattle.fort_tree_limits.proofs.census.Count.types.Goals as goal
+
+pub loop-declared-init : goal.loop-declared-init
+loop-declared-init c = sym (counted_none _)
+
+pub loop-declared-preserved : goal.loop-declared-preserved
+loop-declared-preserved c =
+    one_more_of_all (λ d. type_places d.declaration) c.as_slice-declared-items.result.now
+    c.loop-declared.declared-index c.declared-item.result c.args.self.now c.loop-declared.self
+    c.type_.new.self c.loop-declared-test.true c.declared-item.is c.loop-declared.invariant
+    c.type_.ensures

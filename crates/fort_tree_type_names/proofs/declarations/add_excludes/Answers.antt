@@ -1,0 +1,9 @@
+use Rattle.std.proofs.Common.{Option, ap}
+use Rattle.fort_tree.specs.declared.declarations.Excludes.{Excludes}
+use Rattle.fort_tree_type_names.specs.TypeNames.{excluded}
+use Rattle.fort_tree_type_names.proofs.Steps.{one_added}
+use Rattle.fort_tree_type_names.proofs.declarations.add_excludes.Goals as goal
+
+pub returns-in_ok-add_names : goal.returns-in_ok-add_names
+returns-in_ok-add_names c =
+    one_added _ c.in_ok-add_names.ensures (ap (λ (o : Option Excludes). excluded o) c.in-Some.is)

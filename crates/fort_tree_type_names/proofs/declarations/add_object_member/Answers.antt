@@ -1,0 +1,15 @@
+use Rattle.std.proofs.Common.{ap}
+use Rattle.fort_tree.specs.declared.declarations.ObjectMember.{ObjectMember}
+use Rattle.fort_tree_type_names.specs.TypeNames.{mentioned_object_member}
+use Rattle.fort_tree_type_names.proofs.Steps.{one_added}
+use Rattle.fort_tree_type_names.proofs.declarations.add_object_member.Goals as goal
+
+pub returns-in_ok-add_variable-in-Variable : goal.returns-in_ok-add_variable-in-Variable
+returns-in_ok-add_variable-in-Variable c =
+    one_added _ c.in_ok-add_variable-in-Variable.ensures (ap (λ
+    (x : ObjectMember). mentioned_object_member x) c.in-Variable.is)
+
+pub returns-in_ok-add_method-in-Method : goal.returns-in_ok-add_method-in-Method
+returns-in_ok-add_method-in-Method c =
+    one_added _ c.in_ok-add_method-in-Method.ensures (ap (λ
+    (x : ObjectMember). mentioned_object_member x) c.in-Method.is)

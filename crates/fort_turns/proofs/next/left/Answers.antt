@@ -1,5 +1,0 @@
-use Rattle.std.proofs.Common.{refl}
-use Rattle.fort_turns.proofs.next.left.Goals as goal
-
-pub returns : goal.returns
-returns c = (c.requires, refl)

@@ -1,9 +1,0 @@
-use Rattle.std.proofs.Common.{Option, ap}
-use Rattle.fort_tree.specs.declared.declarations.Comprises.{Comprises}
-use Rattle.fort_type_names.specs.TypeNames.{comprised}
-use Rattle.fort_type_names.proofs.Steps.{one_added}
-use Rattle.fort_type_names.proofs.declarations.add_comprises.Goals as goal
-
-pub returns-in_ok-add_names : goal.returns-in_ok-add_names
-returns-in_ok-add_names c =
-    one_added _ c.in_ok-add_names.ensures (ap (λ (o : Option Comprises). comprised o) c.in-Some.is)

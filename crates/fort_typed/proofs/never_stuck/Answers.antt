@@ -1,5 +1,0 @@
-use Rattle.fort_typed.proofs.Laws.{never_stuck}
-use Rattle.fort_typed.proofs.never_stuck.Goals as goal
-
-pub returns : goal.returns
-returns c = never_stuck

@@ -1,5 +1,0 @@
-use Rattle.fort_typed.proofs.Laws.{one_definition}
-use Rattle.fort_typed.proofs.one_definition.Goals as goal
-
-pub returns : goal.returns
-returns c = one_definition

@@ -1,5 +1,0 @@
-use Rattle.fort_typed.proofs.Laws.{reached_is_typed}
-use Rattle.fort_typed.proofs.reached_is_typed.Goals as goal
-
-pub returns : goal.returns
-returns c = reached_is_typed

@@ -1,5 +1,0 @@
-use Rattle.fort_typed.proofs.OneSided.{relation_from_one}
-use Rattle.fort_typed.proofs.relation_from_one.Goals as goal
-
-pub returns : goal.returns
-returns c = relation_from_one

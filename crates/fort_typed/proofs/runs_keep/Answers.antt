@@ -1,5 +1,0 @@
-use Rattle.fort_typed.proofs.Laws.{runs_keep}
-use Rattle.fort_typed.proofs.runs_keep.Goals as goal
-
-pub returns : goal.returns
-returns c = runs_keep

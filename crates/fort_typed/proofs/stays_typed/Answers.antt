@@ -1,5 +1,0 @@
-use Rattle.fort_typed.proofs.Laws.{stays_typed}
-use Rattle.fort_typed.proofs.stays_typed.Goals as goal
-
-pub returns : goal.returns
-returns c = stays_typed

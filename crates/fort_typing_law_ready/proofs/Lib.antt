@@ -1,0 +1,7 @@
+mod Known
+mod FieldLaws
+pub mod AcceptedLaws
+pub mod Groupings
+pub mod Names
+pub mod Declarations
+pub mod Ready

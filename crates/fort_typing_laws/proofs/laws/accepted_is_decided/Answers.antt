@@ -1,5 +1,0 @@
-use Rattle.fort_typing_laws.proofs.Deciding as deciding
-use Rattle.fort_typing_laws.proofs.laws.accepted_is_decided.Goals as goal
-
-pub returns : goal.returns
-returns c = deciding.is_decided

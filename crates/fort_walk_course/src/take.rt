@@ -1,0 +1,72 @@
+//! Steps that were taken beside the run.
+ghost use Rattle.std.specs.Prelude.{◌≡◌, ◌+◌, ◌<◌, ◌≤◌, ◌^◌, IfOk};
+ghost use Rattle.fort_machine.specs.Effects.{FitsAll};
+ghost use Rattle.fort_store_effects.specs.Levels.{effect_of, levels_of, seen, spent as all_spent};
+ghost use Rattle.fort_walk_legs.specs.Legs.{AreSteps};
+ghost use Rattle.fort_walk_course.specs.Courses.{StandsAt};
+ghost use Rattle.fort_walk_course.specs.Taken.{MayTakeIn, PicksMore, TakesIn};
+
+use crate::execution::Execution;
+use crate::steps::{higher, risen};
+use fort_base::{List, Memory, Shared};
+use fort_core::{Pick, Program, Term};
+use fort_frames::Place;
+use fort_store_effects::Layer;
+use fort_walk_legs::all_under;
+use std::alloc::Global;
+
+impl Execution {
+    /// Steps that the threads of the form at a place took beside the run, over the layers as they
+    /// are, are picks of its innermost machine: what they did is done in the layers, and the form
+    /// becomes what they made of it. They touched no location with the number `fresh` or a higher
+    /// one. It takes time for each step and for each location that they touched.
+    ///
+    /// # Errors
+    ///
+    /// `Memory` where memory is wanting, or where the numbers of the clock are at their end.
+    pub fn take(
+        self,
+        alloc: Global,
+        program: &Program,
+        place: &Place,
+        next: &Shared<Term>,
+        done: Layer,
+        picks: List<Pick>,
+        fresh: u64,
+    ) -> Result<Execution, Memory>
+        requires may { MayTakeIn program.now self place.now next.now (effect_of done) picks fresh }
+        requires affords { self.spent + (effect_of done).cost ≤ self.fuel }
+        ensures stands { IfOk result (λ course. StandsAt program.now course place.now next.now) }
+        ensures fuel { IfOk result (λ course. course.fuel ≡ self.fuel) }
+        ensures picks { IfOk result (PicksMore self place.now picks) }
+    {
+        let _program = program;
+        let _next = next;
+        self.taken(alloc, place, done, picks, fresh)
+    }
+
+    // The steps as picks, and what they did.
+    fn taken(
+        self,
+        alloc: Global,
+        place: &Place,
+        done: Layer,
+        picks: List<Pick>,
+        fresh: u64,
+    ) -> Result<Execution, Memory>
+        requires steps { AreSteps picks }
+        requires fits { FitsAll (effect_of done) (seen (levels_of self.layers)) }
+        requires spent { self.spent ≡ all_spent (levels_of self.layers) }
+        requires affords { self.spent + (effect_of done).cost ≤ self.fuel }
+        ensures { IfOk result (TakesIn self place.now (effect_of done) picks fresh) }
+    {
+        let mut course = self.into_course();
+        let spent = course.with(done.cost());
+        course.layers = course.layers.take(done)?;
+        course.picks.append(all_under(alloc, &place.path, picks)?)?;
+        course.clock = risen(course.clock)?;
+        course.spent = spent;
+        course.fresh = higher(course.fresh, fresh);
+        Execution::of(alloc, course)
+    }
+}

@@ -1,0 +1,5 @@
+use Rattle.fort_walk_law_course.proofs.Picks.{step_is_next}
+use Rattle.fort_walk_law_course.proofs.laws.step_is_next.Goals as goal
+
+pub returns : goal.returns
+returns c = step_is_next

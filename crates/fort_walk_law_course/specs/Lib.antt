@@ -1,0 +1,4 @@
+pub mod Picks
+pub mod Course
+pub mod Ends
+pub mod Laws

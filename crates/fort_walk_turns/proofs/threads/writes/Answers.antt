@@ -1,0 +1,23 @@
+use Rattle.std.proofs.Common.{◌∙◌, ap, refl}
+use Rattle.fort_core.specs.declared.term.Term as term
+use Rattle.fort_core.specs.declared.value.Value.{Value}
+use Rattle.fort_machine.specs.Acts as acts
+use Rattle.fort_walk_turns.proofs.Taking.{writes_passes, too_dear, follows_by}
+use Rattle.fort_walk_turns.proofs.threads.writes.Goals as goal
+
+pub out_at-requires : goal.out_at-requires
+out_at-requires c =
+    writes_passes c.args.program.now c.args.course c.args.place (term.Value acts.unit) c.args.loc.0
+    c.args.value (c.requires.may (term.Value acts.unit) refl) c.requires.there
+    (too_dear c.args.course.spent 1 c.args.course.fuel c.affords.result c.affords.ensures
+    c.if-not-affords.true)
+
+pub write-requires-clause-may : goal.write-requires-clause-may
+write-requires-clause-may c =
+    c.requires.may c.in_ok-next.next (c.in_ok-next.ensures ∙ ap (λ
+    (v : Value). term.Value v) c.in_ok-unit.ensures)
+
+pub returns : goal.returns
+returns c =
+    follows_by c.args.program.now c.args.course.fuel c.in_ok-course.course.fuel c.picked.result
+    c.in_ok-course.ensures.fuel c.picked.ensures

@@ -1,5 +1,0 @@
-use Rattle.fort_worked.proofs.OverflowRun.{sum_is_part_zero}
-use Rattle.fort_worked.proofs.overflow.sum_is_part_zero.Goals as goal
-
-pub returns : goal.returns
-returns c = sum_is_part_zero

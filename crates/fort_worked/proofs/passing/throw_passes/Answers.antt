@@ -1,5 +1,0 @@
-use Rattle.fort_worked.proofs.PassingRun.{throw_passes}
-use Rattle.fort_worked.proofs.passing.throw_passes.Goals as goal
-
-pub returns : goal.returns
-returns c = throw_passes

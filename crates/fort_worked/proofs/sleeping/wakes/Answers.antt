@@ -1,5 +1,0 @@
-use Rattle.fort_worked.proofs.sleeping.wakes.Goals as goal
-use Rattle.fort_worked.proofs.SleepingRun.{wakes}
-
-pub returns : goal.returns
-returns c = wakes
