@@ -1,6 +1,6 @@
-"""Proves and builds the program by `rt ci` on a copy of the crates that it stands on, without their
-tests and wrong bodies, as many side by side as there are processors. What was proved on this machine
-before isn't proved again, where the toolchain keeps it.
+"""Proves and builds the program by `rt ci` on a copy of the crates that it stands on, without
+their tests and wrong bodies, as many side by side as there are processors. What was proved on this
+machine before isn't proved again, where the toolchain keeps it.
 """
 import contextlib
 import os
@@ -85,8 +85,9 @@ def copy(crates, top):
 
 
 def end(run):
-    """Ends the toolchain: an interrupt from the terminal has reached it too, and else it is asked."""
-    for asked, seconds in ((None, 1), (signal.SIGINT, 10), (signal.SIGTERM, 5), (signal.SIGKILL, 5)):
+    """Ends the toolchain, which an interrupt from the terminal has reached too."""
+    asks = (None, 1), (signal.SIGINT, 10), (signal.SIGTERM, 5), (signal.SIGKILL, 5)
+    for asked, seconds in asks:
         if asked:
             run.send_signal(asked)
         with contextlib.suppress(subprocess.TimeoutExpired):
@@ -138,7 +139,7 @@ def build():
 
 
 def keep(program, sources):
-    """Writes a program and its manifest into .build, each whole or not at all, the manifest last."""
+    """Writes a program and its manifest into .build, each whole or not at all."""
     text = manifest.manifest_of(program, sources)
     for name, data in ((NAME, program), ("MANIFEST", text.encode())):
         made = BUILD / f"{name}.new"
