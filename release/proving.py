@@ -21,6 +21,7 @@ PROGRAM = pathlib.Path("crates", NAME, "out", NAME)
 BUILD = manifest.TOP / ".build"
 LOG = BUILD / "log"
 TESTS = "#[cfg(test)]\nmod tests;\n"
+ENDS = signal.SIGINT, signal.SIGTERM, signal.SIGHUP
 
 
 class NotBuilt(Exception):
@@ -84,6 +85,11 @@ def copy(crates, top):
             (folder / "src" / "tests.rt").unlink()
 
 
+def let_end():
+    """Lets the signals through that end this process."""
+    signal.pthread_sigmask(signal.SIG_UNBLOCK, ENDS)
+
+
 def end(run):
     """Ends the toolchain, which an interrupt from the terminal has reached too."""
     asks = (None, 1), (signal.SIGINT, 10), (signal.SIGTERM, 5), (signal.SIGKILL, 5)
@@ -99,8 +105,12 @@ def prove(top, count):
     """Proves and builds the crates of a folder."""
     failed = None
     how = {"stdout": subprocess.PIPE, "stderr": subprocess.STDOUT, "stdin": subprocess.DEVNULL}
-    run = subprocess.Popen(["rt", "ci"], cwd=top, text=True, errors="replace", **how)
+    # None may come between the start of the toolchain and the lines that see to its end.
+    signal.pthread_sigmask(signal.SIG_BLOCK, ENDS)
+    how |= {"text": True, "errors": "replace", "preexec_fn": let_end}
+    run = subprocess.Popen(["rt", "ci"], cwd=top, **how)
     try:
+        let_end()
         with Progress(count) as progress, open(LOG, "w") as log:
             for line in run.stdout:
                 log.write(line)
