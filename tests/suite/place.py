@@ -21,7 +21,7 @@ low tests_may=Threads+Wait:
 aside: low
 fortress may_wait=1: low
 """
-NO_TOOLCHAIN = "`rt`, which proves and builds them, isn't in the path"
+NO_TOOLCHAIN = "`rt`, which proves and builds the sources, isn't in the path"
 
 # What `rt ci` does after it was called: it builds, fails, or sleeps until it is ended.
 BUILDS = """echo built >> "$CALLS"; cp "$SHELL" p; echo more >> p
