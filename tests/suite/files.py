@@ -1,0 +1,72 @@
+"""The examples, the cases, and the records of their runs.
+
+An example NAME.fss is run by `run` and has to print NAME.expected; NAME.shown is what `show`
+writes of it. A case NAME.fss has its words and what comes of them in NAME.expect:
+
+    args: run FILE --fuel 4      the words; FILE stands for the source's name
+    status: 6
+    note: out of fuel            what stands on standard error, without its line feed
+    out:
+    ..                           the exact bytes of standard output
+"""
+import functools
+import pathlib
+import tempfile
+
+from suite.checks import TOP
+
+EXAMPLES = TOP / "examples"
+CASES = TOP / "tests/cases"
+
+
+def examples(program):
+    checks = []
+    for source in sorted(EXAMPLES.glob("*.fss")):
+        for suffix, command in ((".expected", "run"), (".shown", "show")):
+            wanted = source.with_suffix(suffix)
+            if wanted.exists():
+                answers = 0, wanted.read_bytes(), ""
+                words = [command, source.name]
+                call = functools.partial(program.compare, source.stem, words, EXAMPLES, answers)
+                checks.append(call)
+    return checks
+
+
+def read_cases():
+    """Each case: its name, its words, and the status, the output and the note that it wants."""
+    for expect in sorted(CASES.glob("*.expect")):
+        head, _, out = expect.read_bytes().partition(b"\nout:\n")
+        fields = dict(line.partition(":")[::2] for line in head.decode().splitlines())
+        source = expect.with_suffix(".fss").name
+        words = [source if word == "FILE" else word for word in fields["args"].split()]
+        note = fields["note"].strip()
+        if note.startswith("FILE:"):
+            note = source + note[4:]
+        yield expect.stem, words, (int(fields["status"]), out, note + "\n" if note else "")
+
+
+def cases(program):
+    rows = read_cases()
+    return [functools.partial(program.compare, name, words, CASES, it) for name, words, it in rows]
+
+
+def is_recorded(program, words, folder, status, out):
+    """`record` ends as `run` does, and the audit of what it writes prints what `run` prints."""
+    source = next(word for word in words if word.endswith(".fss"))
+    ended, record, _ = program.run(["record", *words], folder)
+    if ended != status:
+        return f"{source}: `record` ended with {ended}, and `run` ends with {status}"
+    with tempfile.NamedTemporaryFile() as kept:
+        pathlib.Path(kept.name).write_bytes(record)
+        return program.compare(source, ["audit", source, kept.name], folder, (0, out, ""))
+
+
+def records(program):
+    """Of each run among the examples and the cases that has a record."""
+    runs = []
+    for source in sorted(EXAMPLES.glob("*.fss")):
+        runs.append(([source.name], EXAMPLES, 0, source.with_suffix(".expected").read_bytes()))
+    for _, (command, *words), (status, out, _) in read_cases():
+        if command == "run" and status in (0, 5, 6):
+            runs.append((words, CASES, status, out))
+    return [functools.partial(is_recorded, program, *run) for run in runs]
