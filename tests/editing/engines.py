@@ -19,6 +19,7 @@ class Oniguruma:
     name = "Oniguruma"
 
     def __init__(self):
+        """Finds the library, or raises OSError."""
         name = ctypes.util.find_library("onig")
         if not name:
             raise OSError("Oniguruma isn't installed")
@@ -79,6 +80,7 @@ class Python:
     name = "Python"
 
     def __init__(self):
+        """Nothing is compiled yet."""
         self.compiled = {}
 
     def compile(self, pattern):

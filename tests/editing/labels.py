@@ -6,7 +6,8 @@ from editing import lexical
 
 WORDS = {
     "declaration": "component export trait object extends excludes comprises opr var fn array",
-    "control": "do also if then elif else while for seq case typecase of try catch finally throw end",
+    "control": "do also if then elif else while for seq case typecase of try catch finally throw"
+               " end",
     "atomic": "atomic tryatomic",
     "reduction": "BIG SUM PROD",
     "unused": "import api spawn",
@@ -44,8 +45,8 @@ SHOWN = {
     "name": ("variable.other", "fssName"),
     None: (None, ""),
 }
-FAULTS = {"invalid.illegal.character", "invalid.illegal.escape", "fssFault", "fssHidden", "fssJoined",
-          "fssTextFault"}
+FAULTS = {"invalid.illegal.character", "invalid.illegal.escape",
+          "fssFault", "fssHidden", "fssJoined", "fssTextFault"}
 
 
 def label_of_symbol(text):

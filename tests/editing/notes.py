@@ -21,7 +21,7 @@ class Note:
 
 
 def answer(program, command, source):
-    """The status, the standard output and the note of a command on a source; a note of no rule is None."""
+    """The status, the standard output and the rule's note, if it is one, of a command on a source."""
     with tempfile.TemporaryDirectory() as folder:
         (pathlib.Path(folder) / "T.fss").write_bytes(source)
         done = subprocess.run([program, command, "T.fss"], cwd=folder, capture_output=True)
@@ -35,5 +35,5 @@ def notes(program):
     """Refused sources, with their notes: those of the pages of rules, and some beyond ASCII."""
     texts = dict(sources.page_sources())
     texts.update({f"unicode_{at}.fss": text for at, text in enumerate(UNICODE)})
-    found = {name: (text, answer(program, "check", text.encode())[2]) for name, text in texts.items()}
-    return {name: (text, note) for name, (text, note) in found.items() if note}
+    told = {name: answer(program, "check", text.encode())[2] for name, text in texts.items()}
+    return {name: (texts[name], note) for name, note in told.items() if note}

@@ -21,8 +21,8 @@ def syntax(count, texts, folder):
 
 def indentation(count, folder):
     """The examples, with all white space at the front of lines gone, are indented as they were."""
-    texts = {path.name: path.read_text() for path in sorted((sources.TOP / "examples").glob("*.fss"))
-             if path.name not in UNLIKE}
+    paths = sorted((sources.TOP / "examples").glob("*.fss"))
+    texts = {it.name: it.read_text() for it in paths if it.name not in UNLIKE}
     asked = {name: sources.unindented(text).encode() for name, text in texts.items()}
     for name, lines in vim.each(folder, "Indented", asked).items():
         wanted = texts[name].removesuffix("\n").split("\n")
@@ -31,7 +31,7 @@ def indentation(count, folder):
 
 
 def quickfix(count, notes, folder, program):
-    """`:make` lists each note at its place, in bytes; other notes as they are; and no `accepted`."""
+    """`:make` lists each note at its place, in bytes, and other notes; but not `accepted`."""
     asked = {name: text.encode() for name, (text, _) in notes.items()}
     asked["a name:1:2.fss"] = b" *"
     asked["good.fss"] = (sources.TOP / "examples/hello.fss").read_bytes()

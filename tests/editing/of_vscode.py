@@ -1,6 +1,8 @@
 """The files of editors/vscode: the grammar on all sources, and what package.json names."""
 import json
 import re
+import shutil
+import subprocess
 
 from editing import engines, labels, lexical, sources, textmate
 
@@ -67,8 +69,9 @@ def snippets(count):
 
 
 def reindented(text, rules, engine):
-    """A source as "Reindent Lines" of VS Code leaves it, lines that begin in comments as they are."""
+    """A source as VS Code's "Reindent Lines" leaves it; lines that begin in comments stay."""
     def fits(name, line):
+        """Whether a pattern of the rules fits a line."""
         return engine.search(rules[name]["pattern"], line, 0) is not None
     lines, depth, now = [], 0, 0
     for line, kept in zip(sources.unindented(text).split("\n"), text.split("\n")):
@@ -83,6 +86,33 @@ def reindented(text, rules, engine):
         else:
             now = now + 1 if fits("indentNextLinePattern", line) else depth
     return "\n".join(lines)
+
+
+# Reads patterns, flags and lines, and writes for each pattern whether it fits each line.
+SCRIPT = """const [patterns, lines] = JSON.parse(require('fs').readFileSync(0));
+console.log(JSON.stringify(patterns.map(([pattern, flags]) => {
+  const made = new RegExp(pattern, flags); return lines.map(line => made.test(line)); })));"""
+
+
+def javascript(count, texts, notes, engine):
+    """JavaScript, which VS Code asks of all but the grammar, reads these patterns as Python does."""
+    parts = read("language-configuration.json")
+    patterns = {name: (it["pattern"], it["flags"]) for name, it in parts["indentationRules"].items()}
+    patterns["wordPattern"] = (parts["wordPattern"]["pattern"], parts["wordPattern"]["flags"])
+    (matcher_,) = read("package.json")["contributes"]["problemMatchers"]
+    patterns["problemMatcher"] = (matcher_["pattern"]["regexp"], "")
+    lines = [line for text in texts.values() for line in text.split("\n")]
+    lines += [note.text.strip() for _, note in notes.values()]
+    if not shutil.which("node"):
+        count.skip("the patterns of JavaScript", "node isn't here")
+        return
+    done = subprocess.run(["node", "-e", SCRIPT], capture_output=True, text=True,
+                          input=json.dumps([list(patterns.values()), lines]))
+    told = json.loads(done.stdout) if done.returncode == 0 else [[]] * len(patterns)
+    for (name, (pattern, _)), got in zip(patterns.items(), told):
+        wanted = [engine.search(pattern, line, 0) is not None for line in lines]
+        count.take(f"JavaScript reads {name}", "" if got == wanted and any(got) else
+                   done.stderr[:300] or "it fits other lines than by Python")
 
 
 def indentation(count, engine):
@@ -122,4 +152,5 @@ def tries(count, texts, notes):
     matcher(count, notes)
     snippets(count)
     indentation(count, engines.Python())
+    javascript(count, texts, notes, engines.Python())
     manifest(count)

@@ -1,4 +1,4 @@
-"""The sources that both editors are tried on: examples, cases, the pages of rules, and tricky ones."""
+"""The sources that both editors are tried on: examples, cases, pages of rules, and tricky ones."""
 import pathlib
 import re
 
@@ -9,7 +9,8 @@ LONGEST_LINE = 2000
 
 TRICKY = [
     "1<-2", "x-=1", "a->b", "a=>=b", "a====b", "x:=-1", "ends", "[\\\\]", "a - b-c", "a <= b<c",
-    "(* a (* b *) c *) d", "(* (*) *) *) x", "(*) (* a\nb", "(* (*(* *)*)*) end", "(* a\nb *) do (*",
+    "(* a (* b *) c *) d", "(* (*) *) *) x", "(*) (* a\nb", "(* (*(* *)*)*) end",
+    "(* a\nb *) do (*",
     "(*) end (*\ndo (* \" *) if \"(*\" then", "x(*)y\n(z)", "f(x) f (x) f(* c *)(x) f(*) c\n(x)",
     "FOO AB A_B A__AB AAB", "A AA A_A _AB AB_ AB1 ÄB ABÄ", "AND NOT ANDNOT and BIG MAX BIGMAX",
     "a·b a· ·b (a)·(b) \"a\"·x 2 · 3 end·x ·x(y)", "SUMx ∑x ∏ PROD SUM[i<-0#9]i",
@@ -18,7 +19,7 @@ TRICKY = [
     "component T export Executable", "trait A extends { B, C } excludes D comprises { E }",
     "trait  A\tend trait\nB end object C(x: ZZ32) end object (* c *) D end",
     "traits objects Trait array[\\ZZ32\\](3).fill(0)",
-    "import api spawn imports", "self selfish true truex false", "println(x) x.length print lengths",
+    "import api spawn imports", "self selfish true truex false", "println(x) x.length print",
     "abort() abort tryatomic atomic atomical", "Array[\\Any, ZZ32\\] ZZ32x ZZ64 Zz32",
     "opr ≤(a: A, b: A): Boolean = a ≤ b", "f(): ()=>()", "fn (x) => x; fn(x)⇒x", "a^b^c 2x^2"[:5],
     "\ta\f b\r\n c", "", "\n\n", "end", "a ", "  do  ",
@@ -26,14 +27,15 @@ TRICKY = [
 
 # A source, and the place of the character that both editors show as a fault.
 FAULTY = [("*", 0), ("a=/b", 2), ("a / b", 2), ("12x", 2), ("2·3", 1), ("2é", 1), ('"\\q" x', 1),
-          ('"a\tb"', 2), ('"a\u0085b"', 2), ("a\u00a0b", 1), ("a | b", 2), ("f ! x", 2), ("a\\b", 1),
+          ('"a\tb"', 2), ('"a\u0085b"', 2), ("a\u00a0b", 1), ("a | b", 2), ("f ! x", 2),
+          ("a\\b", 1),
           ("a\u2212b", 1), ("a \u00f7 b", 2), ("`", 0), ("\u200b", 0), ("a\ufeff", 1), ("'a'", 0)]
 
 
 def every_word():
     """A source with each word, sign and built-in name of docs/LANGUAGE.md, one a line."""
-    names = [*lexical.WORDS, *lexical.OPERATORS, *lexical.SYMBOLS, *lexical.PAIRS, *lexical.BUILT_IN]
-    return "\n".join(sorted(names)) + "\n"
+    signs = [*lexical.OPERATORS, *lexical.SYMBOLS, *lexical.PAIRS]
+    return "\n".join(sorted([*lexical.WORDS, *lexical.BUILT_IN, *signs])) + "\n"
 
 
 def page_sources():

@@ -1,5 +1,5 @@
-"""What a TextMate grammar makes of a source, as VS Code reads one: line by line, with a stack of the
-rules that are open; of the patterns the one that matches first, and of these the first one listed.
+"""What a TextMate grammar makes of a source, as VS Code reads one: line by line, with a stack of
+open rules; of the patterns the one that matches first, and of these the first one listed.
 What this grammar hasn't isn't here: `while`, `contentName`, references to `begin` in `end`."""
 import json
 import pathlib
@@ -11,6 +11,7 @@ class Grammar:
     """A grammar of one file."""
 
     def __init__(self, path, engine):
+        """Reads and checks the file."""
         self.data, self.engine = json.loads(pathlib.Path(path).read_text()), engine
         self.check(self.data["patterns"])
         for rule in self.data["repository"].values():
@@ -50,6 +51,7 @@ class Grammar:
     def paint(self, scopes, offset, spans, rule):
         """Gives the characters of a match the names of its rule and of its captures."""
         def put(span, name):
+            """Adds a name over a span."""
             for at in range(*span) if span and name else ():
                 scopes[offset + at] = scopes[offset + at] + (name,)
         put(spans[0], rule.get("name"))

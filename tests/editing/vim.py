@@ -66,11 +66,11 @@ def quoted(text):
 
 
 def run(folder, script, program="fortress"):
-    """Runs a script in a folder, with the settings above, and answers what it wrote to `answers`."""
+    """Runs a script in a folder with the settings above, and reads what it wrote to `answers`."""
     settings = SETTINGS.replace("{files}", quoted(FILES)).replace("{program}", quoted(program))
     (folder / "settings.vim").write_text(settings)
-    (folder / "script.vim").write_text(f"try\n{script}\ncatch\ncall writefile(['\"' .. escape("
-                                       "v:exception, '\"\\') .. '\"'], 'answers', 'a')\nendtry\nqa!\n")
+    caught = "call writefile([json_encode(v:exception)], 'answers', 'a')"
+    (folder / "script.vim").write_text(f"try\n{script}\ncatch\n{caught}\nendtry\nqa!\n")
     (folder / "answers").unlink(missing_ok=True)
     words = ["vim", "-es", "-u", "settings.vim", "-i", "NONE", "-S", "script.vim"]
     subprocess.run(words, cwd=folder, stdin=subprocess.DEVNULL, stdout=subprocess.DEVNULL,

@@ -1,5 +1,5 @@
-" Indents a line by the one above: deeper behind a line that opens a block or ends with `=`, and less
-" deep at an `end` and at what goes on with a form. Lines inside comments stay where they are.
+" Indents a line by the one above: deeper behind a line that opens a block or ends with `=`, and
+" less deep at an `end` and at what goes on with a form. Lines inside comments stay where they are.
 if exists('b:did_indent')
   finish
 endif
