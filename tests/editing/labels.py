@@ -1,5 +1,5 @@
-"""How the two editors show each kind of token: a label for each character of a source, and for each
-label the scope of VS Code and the group of Vim."""
+"""How the two editors show each kind of token: a label for each character of a source, and for
+each label the scope of VS Code and the group of Vim."""
 import re
 
 from editing import lexical

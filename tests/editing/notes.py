@@ -21,7 +21,7 @@ class Note:
 
 
 def answer(program, command, source):
-    """The status, the standard output and the rule's note, if it is one, of a command on a source."""
+    """The status, the standard output and the rule's note, if any, of a command on a source."""
     with tempfile.TemporaryDirectory() as folder:
         (pathlib.Path(folder) / "T.fss").write_bytes(source)
         done = subprocess.run([program, command, "T.fss"], cwd=folder, capture_output=True)

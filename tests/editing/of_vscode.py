@@ -61,7 +61,8 @@ def matcher(count, notes):
 
 def snippets(count):
     """Each Unicode spelling has a snippet, under its ASCII one."""
-    made = {sign: (it["prefix"], it["body"]) for sign, it in read("snippets/fortress.json").items()}
+    listed = read("snippets/fortress.json")
+    made = {sign: (it["prefix"], it["body"]) for sign, it in listed.items()}
     wanted = {sign: (first, sign) for sign, first in lexical.PAIRS.items()}
     for sign in sorted(made.keys() | wanted.keys()):
         count.take(f"the snippet of {sign}", "" if made.get(sign) == wanted.get(sign) else
@@ -95,10 +96,10 @@ console.log(JSON.stringify(patterns.map(([pattern, flags]) => {
 
 
 def javascript(count, texts, notes, engine):
-    """JavaScript, which VS Code asks of all but the grammar, reads these patterns as Python does."""
+    """JavaScript, which VS Code asks of all but the grammar, reads them as Python does."""
     parts = read("language-configuration.json")
-    patterns = {name: (it["pattern"], it["flags"]) for name, it in parts["indentationRules"].items()}
-    patterns["wordPattern"] = (parts["wordPattern"]["pattern"], parts["wordPattern"]["flags"])
+    asked = {**parts["indentationRules"], "wordPattern": parts["wordPattern"]}
+    patterns = {name: (it["pattern"], it["flags"]) for name, it in asked.items()}
     (matcher_,) = read("package.json")["contributes"]["problemMatchers"]
     patterns["problemMatcher"] = (matcher_["pattern"]["regexp"], "")
     lines = [line for text in texts.values() for line in text.split("\n")]

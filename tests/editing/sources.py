@@ -59,7 +59,7 @@ def all_sources():
 
 
 def unindented(text):
-    """A source without white space at the front of lines, but for those that begin in a comment."""
+    """A source without white space before its lines, but for those that begin in a comment."""
     parts, _ = lexical.read(text)
     inside = [range(it.start + 1, it.stop) for it in parts if it.kind == "comment"]
     at, lines = 0, []
