@@ -8,7 +8,8 @@ from editing.of_vscode import UNLIKE, difference
 def syntax(count, texts, folder):
     """The syntax groups of all sources."""
     faulty = {f"faulty_{at}.fss": text for at, (text, _) in enumerate(sources.FAULTY)}
-    asked = {name: text.encode() for name, text in {**texts, **faulty}.items()}
+    behind = {f"recovered_{at}.fss": text for at, text in enumerate(sources.RECOVERED)}
+    asked = {name: text.encode() for name, text in {**texts, **faulty, **behind}.items()}
     rows = vim.each(folder, "Groups", asked)
     for name, text in texts.items():
         wanted = [labels.SHOWN[it][1] for it in labels.labels(text)[0]]
@@ -17,6 +18,10 @@ def syntax(count, texts, folder):
         shown = vim.groups(text, rows[name])[at]
         count.take(f"Vim on the fault of {text!r}",
                    "" if shown in labels.FAULTS else f"it is shown as {shown}")
+    for name, text in behind.items():
+        shown = vim.groups(text, rows[name])[-1]
+        count.take(f"Vim behind the fault of {text!r}",
+                   "" if shown == "fssControl" else f"`end` is shown as {shown}")
 
 
 def indentation(count, folder):

@@ -41,6 +41,10 @@ def grammar(count, texts, engine):
         shown = innermost(made.scopes(text)[at])
         count.take(f"VS Code ({engine.name}) on the fault of {text!r}",
                    "" if shown in labels.FAULTS else f"it is shown as {shown}")
+    for text in sources.RECOVERED:
+        shown = innermost(made.scopes(text)[-1])
+        count.take(f"VS Code ({engine.name}) behind the fault of {text!r}",
+                   "" if shown == "keyword.control" else f"`end` is shown as {shown}")
 
 
 def matcher(count, notes):

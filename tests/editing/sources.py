@@ -31,6 +31,9 @@ FAULTY = [("*", 0), ("a=/b", 2), ("a / b", 2), ("12x", 2), ("2·3", 1), ("2é", 
           ("a\\b", 1),
           ("a\u2212b", 1), ("a \u00f7 b", 2), ("`", 0), ("\u200b", 0), ("a\ufeff", 1), ("'a'", 0)]
 
+# Sources with a fault, behind which the last line is an `end` again.
+RECOVERED = ['"open\nend', '"open\\\nend', '"a\\"\nend', "12x\nend", "*\nend", "(* a *) *)\nend"]
+
 
 def every_word():
     """A source with each word, sign and built-in name of docs/LANGUAGE.md, one a line."""
