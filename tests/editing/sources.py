@@ -8,7 +8,8 @@ TOP = pathlib.Path(__file__).resolve().parents[2]
 LONGEST_LINE = 2000
 
 TRICKY = [
-    "1<-2", "x-=1", "a->b", "a=>=b", "a====b", "x:=-1", "ends", "[\\\\]", "a - b-c", "a <= b<c",
+    "1<-2", "x-=1", "a->b", "a=>=b", "a====b", "x:=-1", "a===>b=/=>c<=>d",
+    "ends", "[\\\\]", "a - b-c", "a <= b<c",
     "(* a (* b *) c *) d", "(* (*) *) *) x", "(*) (* a\nb", "(* (*(* *)*)*) end",
     "(* a\nb *) do (*",
     "(*) end (*\ndo (* \" *) if \"(*\" then", "x(*)y\n(z)", "f(x) f (x) f(* c *)(x) f(*) c\n(x)",
