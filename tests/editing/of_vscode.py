@@ -123,12 +123,12 @@ def javascript(count, texts, notes, engine):
 def indentation(count, engine):
     """The examples are indented as the rules say, but where a line ends with `=`."""
     rules = read("language-configuration.json")["indentationRules"]
-    for path in sorted((sources.TOP / "examples").glob("*.fss")):
-        text = path.read_text()
-        if path.name not in UNLIKE and not re.search(r"=$", text, re.M):
+    texts = {it.name: it.read_text() for it in sorted((sources.TOP / "examples").glob("*.fss"))}
+    for name, text in {**texts, "each form": sources.INDENTED}.items():
+        if name not in UNLIKE and not re.search(r"=$", text, re.M):
             wanted, got = text.split("\n"), reindented(text, rules, engine).split("\n")
             wrong = [f"{want!r} becomes {is_!r}" for want, is_ in zip(wanted, got) if want != is_]
-            count.take(f"VS Code's indentation of {path.name}", "; ".join(wrong[:3]))
+            count.take(f"VS Code's indentation of {name}", "; ".join(wrong[:3]))
 
 
 def manifest(count):

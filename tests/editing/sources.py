@@ -35,6 +35,36 @@ FAULTY = [("*", 0), ("a=/b", 2), ("a / b", 2), ("12x", 2), ("2·3", 1), ("2é", 
 # Sources with a fault, behind which the last line is an `end` again.
 RECOVERED = ['"open\nend', '"open\\\nend', '"a\\"\nend', "12x\nend", "*\nend", "(* a *) *)\nend"]
 
+INDENTED = """component T
+run(): () = do
+  if a then
+    b
+  elif c then (*) if
+    d
+  else
+    case e of
+      1 => f
+      else => do
+        g
+      end
+    end
+  end
+  do
+    h
+  also do
+    i
+  end
+  try
+    j
+  catch e
+    Exception => k
+  finally
+    l
+  end
+end
+end
+"""
+
 
 def every_word():
     """A source with each word, sign and built-in name of docs/LANGUAGE.md, one a line."""
