@@ -337,3 +337,33 @@ one_place (f ∷ fs) (g ∷ gs) a b e p ra rb =
         let i = ih m.1 (cc) in
         let fg = back m.0 m.2 in
         (cc (fg, i.0), i.1)
+
+-- A place below another one's path is that place, where no open part stands in what is there.
+pub place_below : (fs gs : List Frame) (a b : Term) (more : List ℕ) → plug fs a ≡ plug gs b
+    → road gs ≡ road fs ++ more → Ready a → Ready b
+    → ((f : Frame) (x : Term) → standing x ≡ open_yet → a ≡ on f x → ⊥) → (fs ≡ gs) × (a ≡ b)
+place_below [] [] a b more e p ra rb whole = (refl, e)
+place_below [] (g ∷ gs) a b more e p ra rb whole =
+    absurd (whole g (plug gs b) (plug_open gs b (ready_open b rb)) e)
+place_below (f ∷ fs) [] a b more e p ra rb whole =
+    absurd (not_waiting f fs (plug fs a) (plug_open fs a (ready_open a ra))
+    (rb.no_part f (plug fs a) (sym e)) (sym (no_front (road (f ∷ fs)) more p)))
+place_below (f ∷ fs) (g ∷ gs) a b more e p ra rb whole =
+    go (compare f g (plug fs a) (plug gs b) (plug_open fs a (ready_open a ra))
+    (plug_open gs b (ready_open b rb)) e)
+    (λ h k. place_below fs gs a b more h k ra rb whole)
+  where
+    go : Compared f g (plug fs a) (plug gs b)
+        → (plug fs a ≡ plug gs b → road gs ≡ road fs ++ more → (fs ≡ gs) × (a ≡ b))
+        → (f ∷ fs ≡ g ∷ gs) × (a ≡ b)
+    go (same h k n m) ih =
+        let i = ih k (sym (ap (λ x. x ++ road gs) m) ∙ p
+        ∙ ap (λ x. (x ++ road fs) ++ more) n) in
+        (cc (h, i.0), i.1)
+    go (parts bef beh bef2 beh2 n n2 l back) ih =
+        let q : length bef2 ∷ road gs ≡ length bef ∷ (road fs ++ more) =
+        sym (ap (λ x. x ++ road gs) n2) ∙ p ∙ ap (λ x. (x ++ road fs) ++ more) n in
+        let m = same_middle bef beh bef2 beh2 (plug fs a) (plug gs b) (cc) l in
+        let i = ih m.1 (cc) in
+        let fg = back m.0 m.2 in
+        (cc (fg, i.0), i.1)

@@ -233,3 +233,13 @@ form_ready a m body (fresh e) =
 form_ready a m body (slept marks n e) =
     layer_ready a (Term-F.Asleep marks body) (ap out-Term e
     ∙ outs-Asleep marks body) refl (no_frame_asleep marks body)
+
+-- In an atomic form stands no open part.
+pub form_whole : (a : Term) (m : Mode) (body : Term) → Form a m body → (f : Frame) (b : Term)
+    → standing b ≡ open_yet → a ≡ on f b → ⊥
+form_whole a m body (fresh e) f b o q =
+    no_frame_atomic m body f b (sym (ap out-Term e ∙ outs-Atomic m body) ∙ ap out-Term q
+    ∙ out_on f b o)
+form_whole a m body (slept marks n e) f b o q =
+    no_frame_asleep marks body f b (sym (ap out-Term e ∙ outs-Asleep marks body) ∙ ap out-Term q
+    ∙ out_on f b o)
