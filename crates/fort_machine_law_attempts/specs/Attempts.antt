@@ -44,14 +44,18 @@ pub record IsAttemptOf (p : Program) (s : Store) (pick : Pick) (fs : List Frame)
   pub is_form : Form a tried.mode tried.body
   pub found : tried.before ≡ s
 
--- In a run, the next pick, where it is at or below the path of an atomic form, asleep or not, is
--- one attempt of that very form at its path. A run may be parted before each of its picks, so this
--- is said of all of them.
-abbrev pub GoesOnByAttempts : Type 0
-GoesOnByAttempts = (p : Program) (inner strict : Bool) (s : Store) (pick : Pick) (rest : List Pick)
-    (t : Term) (r : Ended) (d : Effect) → Runs p inner strict s (pick ∷ rest) t r d
+-- In each run of a program, the next pick, where it is at or below the path of an atomic form,
+-- asleep or not, is one attempt of that very form at its path. A run may be parted before each of
+-- its picks, so this is said of all of them.
+abbrev pub GoesInWhole : Program → Type 0
+GoesInWhole p = (inner strict : Bool) (s : Store) (pick : Pick) (rest : List Pick) (t : Term)
+    (r : Ended) (d : Effect) → Runs p inner strict s (pick ∷ rest) t r d
     → (fs : List Frame) (a body : Term) (m : Mode) → t ≡ plug fs a → Form a m body
     → (more : List ℕ) → path_of pick ≡ road fs ++ more → IsAttemptOf p s pick fs a
+
+-- So it is of every program.
+abbrev pub GoesOnByAttempts : Type 0
+GoesOnByAttempts = (p : Program) → GoesInWhole p
 
 -- The attempts of a run, each before those within it.
 abbrev pub attempts_of : {p : Program} {inner strict : Bool} {s : Store} {picks : List Pick}
