@@ -16,7 +16,7 @@ use Rattle.fort_group.proofs.Rules.{breaks_none}
 use Rattle.fort_syntax.specs.Answer as grammar
 use Rattle.fort_syntax.specs.Answer.{TooDeep, Syntax, TooMany}
 use Rattle.fort_tree_type_names.specs.TypeNames.{type_names}
-use Rattle.fort_hier.specs.Hierarchies.{Broken, IsReported, declares}
+use Rattle.fort_hier.specs.Hierarchies.{declares}
 use Rattle.fort_hier.proofs.AcceptedLaws.{accepted_sound}
 use Rattle.fort_types_sets.specs.declared.member.Members.{Members}
 use Rattle.fort_member_fields.specs.Rules as fields
@@ -24,7 +24,7 @@ use Rattle.fort_member.specs.Answers.{AreMembers}
 use Rattle.fort_over.specs.Answers as overloads
 use Rattle.fort_front.proofs.Overloaded.{none_reported}
 use Rattle.fort_front.proofs.Same.{ready, same_report, typed_once}
-use Rattle.fort_front.specs.Front.{IsFormed, in_grammar, in_grouping, in_hierarchy, in_fields, in_overloads, in_typing, known, forms, NeverBoth, NeverBothInGrammar}
+use Rattle.fort_front.specs.Front.{IsFormed, IsAcceptedTree, in_grammar, in_tree, in_grouping, in_hierarchy, in_fields, in_overloads, in_typing, known, forms, NeverBoth, NeverBothInGrammar, NeverBothOfTree}
 
 -- Where no token stands too deep, no first one does.
 none_deep : (ts : List Token) (place : Place) → AllShallow ts → FirstDeep ts place → ⊥
@@ -60,57 +60,32 @@ in_grammar_never tokens rule at c is (TooMany shallow d tree breaks) =
 pub never_in_grammar : NeverBothInGrammar
 never_in_grammar tokens rule at g breaks = in_grammar_never tokens rule.0 at g.component g.is breaks
 
-in_grouping_never : (tokens : Tokens) (rule : Rule) (at : Place) (c : Component) → IsFormed tokens
-    → grammar.IsComponent tokens c → IsFirstBreak (flats c) rule at → ⊥
-in_grouping_never tokens rule at c f is first =
-    let same : f.component ≡ c = is.only f.component f.is.tree in
-    let has : HasGroups (flats c) f.groups =
-    subst (λ (x : Component). HasGroups (flats x) f.groups) same f.grouped in
-    all_grouped first.earlier first.it first.later f.groups rule at
-    (subst (λ rows. HasGroups rows f.groups) first.order has) first.breaks
-
-in_hierarchy_never : (tokens : Tokens) (rule : Rule) (at : Place) (c : Component) → IsFormed tokens
-    → grammar.IsComponent tokens c
-    → IsReported c (type_names c) rule.0 at → ⊥
-in_hierarchy_never tokens rule at c f is reported =
-    let same : c ≡ f.component = f.is.only c is.tree in
-    f.typed.kept rule.0 at (subst (λ
-    (x : Component). Broken x (type_names x) rule.0 at) same reported.earliest.breaks)
-
-in_fields_never : (tokens : Tokens) (rule : Rule) (at : Place) (c : Component) → IsFormed tokens
-    → grammar.IsComponent tokens c
-    → fields.IsReported c rule.0 at → ⊥
-in_fields_never tokens rule at c f is reported =
-    let same : c ≡ f.component = f.is.only c is.tree in
-    f.belong.fields.kept rule.0 at (subst (λ
-    (x : Component). fields.Broken x rule.0 at) same reported.earliest.breaks)
-
-in_overloads_never : (tokens : Tokens) (rule : Rule) (at : Place) (c : Component)
-    (members : Members) → IsFormed tokens → grammar.IsComponent tokens c
+in_overloads_never : (c : Component) (rule : Rule) (at : Place) (members : Members) → (f : IsFormed c)
     → AreMembers c members → overloads.IsReported (declares c) members rule.0 at → ⊥
-in_overloads_never tokens rule at c members f is belong reported =
-    let same : c ≡ f.component = f.is.only c is.tree in
-    let other : AreMembers f.component members =
-    subst (λ (x : Component). AreMembers x members) same belong in
-    none_reported (declares f.component)
-    (accepted_sound f.component (type_names f.component) f.types f.typed) f.members members
-    rule.0 at
-    (other.sets ∙ sym f.belong.sets) f.ruled (subst (λ
-    (x : Component). overloads.IsReported (declares x) members rule.0 at) same reported)
+in_overloads_never c rule at members f belong reported =
+    none_reported (declares c) (accepted_sound c (type_names c) f.types f.typed) f.members members
+    rule.0 at (belong.sets ∙ sym f.belong.sets) f.ruled reported
+
+pub never_of_tree : NeverBothOfTree
+never_of_tree c program rule at a (in_grouping first) =
+    let f = a.formed in
+    all_grouped first.earlier first.it first.later f.groups rule at
+    (subst (λ rows. HasGroups rows f.groups) first.order f.grouped) first.breaks
+never_of_tree c program rule at a (in_hierarchy groups grouped reported) =
+    a.formed.typed.kept rule.0 at reported.earliest.breaks
+never_of_tree c program rule at a (in_fields groups types grouped typed reported) =
+    a.formed.belong.fields.kept rule.0 at reported.earliest.breaks
+never_of_tree c program rule at a (in_overloads groups types members grouped typed belong reported) =
+    in_overloads_never c rule at members a.formed belong reported
+never_of_tree c program rule at a (in_typing g reported) =
+    typed_once.never_both (known c a.formed) (forms c a.formed) (ready c a.formed) a.typed
+    a.has_types (record { rule = rule; place = at })
+    (same_report c g a.formed (record { rule = rule; place = at }) reported)
 
 pub never : NeverBoth
 never tokens program rule at a (in_grammar breaks) =
-    in_grammar_never tokens rule.0 at a.formed.component a.formed.is breaks
-never tokens program rule at a (in_grouping c is first) =
-    in_grouping_never tokens rule at c a.formed is first
-never tokens program rule at a (in_hierarchy c groups is grouped reported) =
-    in_hierarchy_never tokens rule at c a.formed is reported
-never tokens program rule at a (in_fields c groups types is grouped typed reported) =
-    in_fields_never tokens rule at c a.formed is reported
-never tokens program rule at a
-    (in_overloads c groups types members is grouped typed belong reported) =
-    in_overloads_never tokens rule at c members a.formed is belong reported
-never tokens program rule at a (in_typing g reported) =
-    typed_once.never_both (known tokens a.formed) (forms tokens a.formed) (ready tokens a.formed)
-    a.typed a.has_types (record { rule = rule; place = at })
-    (same_report tokens g a.formed (record { rule = rule; place = at }) reported)
+    in_grammar_never tokens rule.0 at a.component a.is breaks
+never tokens program rule at a (in_tree c is breaks) =
+    let same : a.component ≡ c = is.only a.component a.is.tree in
+    never_of_tree c program rule at
+    (subst (λ (x : Component). IsAcceptedTree x program) same a.keeps) breaks

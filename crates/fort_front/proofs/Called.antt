@@ -7,15 +7,15 @@ use Rattle.fort_member.proofs.WellMadeLaws.{sets_well_made}
 use Rattle.fort_front.specs.Calls.{ExactlyOne, NeverAbstract}
 
 pub exactly_one_called : ExactlyOne
-exactly_one_called tokens f n s e types solid i d a b =
-    exactly_one (declares f.component) f.types.table
-    (accepted_sound f.component (type_names f.component) f.types f.typed) f.typed.rows s
-    (sets_well_made f.component f.types f.typed f.members f.belong n s e) (f.ruled n s e) types
+exactly_one_called c f n s e types solid i d a b =
+    exactly_one (declares c) f.types.table
+    (accepted_sound c (type_names c) f.types f.typed) f.typed.rows s
+    (sets_well_made c f.types f.typed f.members f.belong n s e) (f.ruled n s e) types
     solid i d a b
 
 pub never_abstract_called : NeverAbstract
-never_abstract_called tokens f n s e types solid values k best =
-    never_abstract (declares f.component) f.types.table
-    (accepted_sound f.component (type_names f.component) f.types f.typed) f.typed.rows s
-    (sets_well_made f.component f.types f.typed f.members f.belong n s e) (f.ruled n s e) types
+never_abstract_called c f n s e types solid values k best =
+    never_abstract (declares c) f.types.table
+    (accepted_sound c (type_names c) f.types f.typed) f.typed.rows s
+    (sets_well_made c f.types f.typed f.members f.belong n s e) (f.ruled n s e) types
     solid values k best

@@ -1,9 +1,8 @@
--- What tokens that keep the rules before typing give to typing is one: their component, its
--- groupings, its hierarchy and its members; so their types and program are one.
+-- What a component that keeps the rules before typing gives to typing is one: its groupings, its
+-- hierarchy and its members; so its types and program are one, and those of tokens are.
 use Rattle.std.proofs.Common.{◌≡◌, List, true, subst}
 use Rattle.fort_types.specs.Types.{IsNumbered}
 use Rattle.fort_core.specs.declared.program.Program.{Program}
-use Rattle.fort_lex_token.specs.declared.token.Tokens.{Tokens}
 use Rattle.fort_tree.specs.declared.declarations.Component.{Component}
 use Rattle.fort_tree.specs.declared.grouped.FlatGrouping.{FlatGrouping}
 use Rattle.fort_tree.specs.Limits.{flats}
@@ -31,7 +30,7 @@ use Rattle.fort_front_law_phases.proofs.Groupings.{groupings_once}
 use Rattle.fort_front_law_phases.proofs.Hierarchies.{hierarchy_once}
 use Rattle.fort_front_law_phases.proofs.Memberships.{members_once}
 use Rattle.fort_front_law_phases.proofs.Programs.{program_once}
-use Rattle.fort_front.specs.Front.{IsFormed, known, forms, OneProgram}
+use Rattle.fort_front.specs.Front.{IsFormed, IsAcceptedTree, known, forms, OneProgram, OneProgramOfTree}
 
 -- ---- the laws of typing, of components
 
@@ -48,62 +47,57 @@ is_exact = component_exact are_ready component.typing_is_exact
 pub typed_once : OneOfTwo
 typed_once = component.one_of_two
 
-pub ready : (tokens : Tokens) (f : IsFormed tokens) → IsReady (known tokens f) (forms tokens f)
-ready tokens f =
-    are_ready f.component f.types f.members (record { list = f.groups }) f.typed f.belong f.ruled
-    f.grouped
+pub ready : (c : Component) (f : IsFormed c) → IsReady (known c f) (forms c f)
+ready c f =
+    are_ready c f.types f.members (record { list = f.groups }) f.typed f.belong f.ruled f.grouped
 
-pub exact : (tokens : Tokens) (f : IsFormed tokens) → IsExactly (known tokens f) (forms tokens f)
-exact tokens f =
-    is_exact f.component f.types f.members (record { list = f.groups }) f.typed f.belong f.ruled
-    f.grouped
+pub exact : (c : Component) (f : IsFormed c) → IsExactly (known c f) (forms c f)
+exact c f =
+    is_exact c f.types f.members (record { list = f.groups }) f.typed f.belong f.ruled f.grouped
 
 -- ---- what is given to typing is one
 
--- what is so of what tokens give to typing is so however they are said to keep the rules
-moved : (P : Component → Hierarchy → Members → List FlatGrouping → Type 0) (tokens : Tokens)
-    (g f : IsFormed tokens)
-    → P g.component g.types g.members g.groups → P f.component f.types f.members f.groups
-moved P tokens g f has =
-    let c : g.component ≡ f.component = f.is.only g.component g.is.tree in
+-- What is so of what a component gives to typing is so however it is said to keep the rules.
+moved : (P : Hierarchy → Members → List FlatGrouping → Type 0) (c : Component) (g f : IsFormed c)
+    → P g.types g.members g.groups → P f.types f.members f.groups
+moved P c g f has =
     let groups : g.groups ≡ f.groups =
-    groupings_once (flats f.component) g.groups f.groups (subst (λ
-    (x : Component). HasGroups (flats x) g.groups) c g.grouped) f.grouped in
-    let types : g.types ≡ f.types =
-    hierarchy_once f.component g.types f.types (subst (λ
-    (x : Component). IsHierarchy x (type_names x) g.types) c g.typed) f.typed in
+    groupings_once (flats c) g.groups f.groups g.grouped f.grouped in
+    let types : g.types ≡ f.types = hierarchy_once c g.types f.types g.typed f.typed in
     let members : g.members ≡ f.members =
-    members_once f.component g.members f.members (subst (λ
-    (x : Component). AreMembers x g.members) c g.belong) f.belong in
-    subst (λ (x : List FlatGrouping). P f.component f.types f.members x) groups
-    (subst (λ (x : Members). P f.component f.types x g.groups) members
-    (subst (λ (x : Hierarchy). P f.component x g.members g.groups) types
-    (subst (λ (x : Component). P x g.types g.members g.groups) c has)))
+    members_once c g.members f.members g.belong f.belong in
+    subst (λ (x : List FlatGrouping). P f.types f.members x) groups
+    (subst (λ (x : Members). P f.types x g.groups) members
+    (subst (λ (x : Hierarchy). P x g.members g.groups) types has))
 
-abbrev Reports : Fault → Component → Hierarchy → Members → List FlatGrouping → Type 0
-Reports x c h m groups = IsReported (known_of c h m) (forms_of c (record { list = groups })) x
+abbrev Reports : Component → Fault → Hierarchy → Members → List FlatGrouping → Type 0
+Reports c x h m groups = IsReported (known_of c h m) (forms_of c (record { list = groups })) x
 
-pub same_report : (tokens : Tokens) (g f : IsFormed tokens) (x : Fault)
-    → IsReported (known tokens g) (forms tokens g) x
-    → IsReported (known tokens f) (forms tokens f) x
-same_report tokens g f x = moved (Reports x) tokens g f
+pub same_report : (c : Component) (g f : IsFormed c) (x : Fault)
+    → IsReported (known c g) (forms c g) x → IsReported (known c f) (forms c f) x
+same_report c g f x = moved (Reports c x) c g f
 
-abbrev Types : Typed → Component → Hierarchy → Members → List FlatGrouping → Type 0
-Types typed c h m groups = HasTypes (known_of c h m) (forms_of c (record { list = groups })) typed
+abbrev Types : Component → Typed → Hierarchy → Members → List FlatGrouping → Type 0
+Types c typed h m groups = HasTypes (known_of c h m) (forms_of c (record { list = groups })) typed
 
-abbrev Becomes : Typed → Program → Component → Hierarchy → Members → List FlatGrouping → Type 0
-Becomes typed program c h m groups = IsProgramOf h m c.texts typed program
+abbrev Becomes : Component → Typed → Program → Hierarchy → Members → List FlatGrouping → Type 0
+Becomes c typed program h m groups = IsProgramOf h m c.texts typed program
+
+pub one_program_of_tree : OneProgramOfTree
+one_program_of_tree c p q a b =
+    let f = b.formed in
+    let has : HasTypes (known c f) (forms c f) a.typed =
+    moved (Types c a.typed) c a.formed f a.has_types in
+    let same : a.typed ≡ b.typed =
+    typed_once.one_typing (known c f) (forms c f) (ready c f) a.typed b.typed has b.has_types in
+    let becomes : IsProgramOf f.types f.members c.texts a.typed p =
+    moved (Becomes c a.typed p) c a.formed f a.becomes in
+    program_once f.types f.members c.texts b.typed p q (subst (λ
+    (t : Typed). IsProgramOf f.types f.members c.texts t p) same becomes)
+    b.becomes
 
 pub one_program : OneProgram
 one_program tokens p q a b =
-    let f = b.formed in
-    let has : HasTypes (known tokens f) (forms tokens f) a.typed =
-    moved (Types a.typed) tokens a.formed f a.has_types in
-    let same : a.typed ≡ b.typed =
-    typed_once.one_typing (known tokens f) (forms tokens f) (ready tokens f) a.typed b.typed has
-    b.has_types in
-    let becomes : IsProgramOf f.types f.members f.component.texts a.typed p =
-    moved (Becomes a.typed p) tokens a.formed f a.becomes in
-    program_once f.types f.members f.component.texts b.typed p q (subst (λ
-    (t : Typed). IsProgramOf f.types f.members f.component.texts t p) same becomes)
-    b.becomes
+    let same : a.component ≡ b.component = b.is.only a.component a.is.tree in
+    one_program_of_tree b.component p q
+    (subst (λ (c : Component). IsAcceptedTree c p) same a.keeps) b.keeps

@@ -2,7 +2,7 @@
 -- code asks none of this.
 use Rattle.std.specs.Prelude.{◌≡◌, ◌≢◌, ℕ, List, slice_get, Some}
 use Rattle.fort_base.specs.declared.ty.Ty.{Ty}
-use Rattle.fort_lex_token.specs.declared.token.Tokens.{Tokens}
+use Rattle.fort_tree.specs.declared.declarations.Component.{Component}
 use Rattle.fort_hier.specs.Hierarchies.{declares}
 use Rattle.fort_types_sets.specs.declared.member.Member.{Member}
 use Rattle.fort_types_sets.specs.declared.member.MemberKind.TheVariants as a_kind
@@ -15,16 +15,16 @@ use Rattle.fort_front.specs.Front.{IsFormed}
 -- In a component that keeps the rules, of each overload set exactly one declaration is most
 -- specific for all solid types to which one of its declarations is applicable.
 abbrev pub ExactlyOne : Type 0
-ExactlyOne = (tokens : Tokens) (f : IsFormed tokens) (n : ℕ) (s : MemberSet)
+ExactlyOne = (c : Component) (f : IsFormed c) (n : ℕ) (s : MemberSet)
     → slice_get f.members.sets n ≡ Some s → (types : List Ty) → AreSolid types
-    → (i : ℕ) (d : Member) → StandsAt s i d → IsApplicable (declares f.component) d types
-    → (k : ℕ) × IsMostSpecific (declares f.component) s types k
-    × ((j : ℕ) → IsMostSpecific (declares f.component) s types j → j ≡ k)
+    → (i : ℕ) (d : Member) → StandsAt s i d → IsApplicable (declares c) d types
+    → (k : ℕ) × IsMostSpecific (declares c) s types k
+    × ((j : ℕ) → IsMostSpecific (declares c) s types j → j ≡ k)
 
 -- There the most specific declaration for types of values isn't abstract.
 abbrev pub NeverAbstract : Type 0
-NeverAbstract = (tokens : Tokens) (f : IsFormed tokens) (n : ℕ) (s : MemberSet)
+NeverAbstract = (c : Component) (f : IsFormed c) (n : ℕ) (s : MemberSet)
     → slice_get f.members.sets n ≡ Some s → (types : List Ty) → AreSolid types
-    → AreOfValues (declares f.component) types
-    → (k : ℕ) (best : IsMostSpecific (declares f.component) s types k)
+    → AreOfValues (declares c) types
+    → (k : ℕ) (best : IsMostSpecific (declares c) s types k)
     → best.chosen.kind ≢ a_kind.Abstract

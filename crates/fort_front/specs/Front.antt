@@ -44,12 +44,9 @@ GrammarAnswers tokens (Ok u) = IsGrammatical tokens
 GrammarAnswers tokens (Err (Refused rule at)) = BreaksGrammar tokens rule at
 GrammarAnswers tokens (Err Memory) = Unit {0}
 
--- The tokens are those of one component, which passes no limit, each of its flat expressions has
--- its grouping, its declared types are a hierarchy, it has these members, and each of its overload
--- sets keeps the rules.
-pub record IsFormed (tokens : Tokens) : Type 0 where
-  pub component : Component
-  pub is : grammar.IsComponent tokens component
+-- Each flat expression of the component has its grouping, its declared types are a hierarchy, it
+-- has these members, and each of its overload sets keeps the rules.
+pub record IsFormed (component : Component) : Type 0 where
   pub groups : List FlatGrouping
   pub grouped : HasGroups (flats component) groups
   pub types : Hierarchy
@@ -58,56 +55,65 @@ pub record IsFormed (tokens : Tokens) : Type 0 where
   pub belong : AreMembers component members
   pub ruled : KeepAllRules (declares component) members
 
--- what is known of such a component where its expressions are typed
-abbrev pub known : (tokens : Tokens) → IsFormed tokens → Knows
-known tokens f = known_of f.component f.types f.members
+-- What is known of such a component where its expressions are typed.
+abbrev pub known : (c : Component) → IsFormed c → Knows
+known c f = known_of c f.types f.members
 
--- the forms of its expressions
-abbrev pub forms : (tokens : Tokens) → IsFormed tokens → Forms
-forms tokens f = forms_of f.component (record { list = f.groups })
+-- The forms of its expressions.
+abbrev pub forms : (c : Component) → IsFormed c → Forms
+forms c f = forms_of c (record { list = f.groups })
 
--- The tokens are those of one component that keeps all the rules: those before typing, and its
--- forms have these types; and this is its program.
-pub record IsAccepted (tokens : Tokens) (program : Program) : Type 0 where
-  pub formed : IsFormed tokens
+-- The component keeps all the rules behind the grammar: those before typing, and its forms have
+-- these types; and this is its program.
+pub record IsAcceptedTree (c : Component) (program : Program) : Type 0 where
+  pub formed : IsFormed c
   pub typed : Typed
-  pub has_types : HasTypes (known tokens formed) (forms tokens formed) typed
-  pub becomes : IsProgramOf formed.types formed.members formed.component.texts typed program
+  pub has_types : HasTypes (known c formed) (forms c formed) typed
+  pub becomes : IsProgramOf formed.types formed.members c.texts typed program
 
--- The token list breaks this rule, at this place: one of 202, 201 and 203; or, where it is a
--- component, the first of 301 to 304 that one of its flat expressions breaks; or, where each has
--- its grouping, the lowest of 401 to 407 that its types break; or, where these are a hierarchy, the
--- lower of 451 and 452 that its fields break; or, where it has members, the first of 501 to 507
--- that its overload sets break; or, where these keep the rules, the one of 601 to 614 that is
--- reported of its forms.
-pub data Breaks (tokens : Tokens) (rule : Rule) (at : Place) : Type 0 where
-  in_grammar : BreaksGrammar tokens rule at → Breaks tokens rule at
-  in_grouping : (c : Component) → grammar.IsComponent tokens c → IsFirstBreak (flats c) rule at
-      → Breaks tokens rule at
-  in_hierarchy : (c : Component) (groups : List FlatGrouping) → grammar.IsComponent tokens c
-      → HasGroups (flats c) groups
-      → IsReported c (type_names c) rule.0 at → Breaks tokens rule at
-  in_fields : (c : Component) (groups : List FlatGrouping) (types : Hierarchy)
-      → grammar.IsComponent tokens c → HasGroups (flats c) groups
-      → IsHierarchy c (type_names c) types → fields.IsReported c rule.0 at → Breaks tokens rule at
-  in_overloads : (c : Component) (groups : List FlatGrouping) (types : Hierarchy)
-      (members : Members) → grammar.IsComponent tokens c
+-- The component breaks this rule, at this place: the first of 301 to 304 that one of its flat
+-- expressions breaks; or, where each has its grouping, the lowest of 401 to 407 that its types
+-- break; or, where these are a hierarchy, the lower of 451 and 452 that its fields break; or, where
+-- it has members, the first of 501 to 507 that its overload sets break; or, where these keep the
+-- rules, the one of 601 to 614 that is reported of its forms.
+pub data BreaksTree (c : Component) (rule : Rule) (at : Place) : Type 0 where
+  in_grouping : IsFirstBreak (flats c) rule at → BreaksTree c rule at
+  in_hierarchy : (groups : List FlatGrouping) → HasGroups (flats c) groups
+      → IsReported c (type_names c) rule.0 at → BreaksTree c rule at
+  in_fields : (groups : List FlatGrouping) (types : Hierarchy) → HasGroups (flats c) groups
+      → IsHierarchy c (type_names c) types → fields.IsReported c rule.0 at → BreaksTree c rule at
+  in_overloads : (groups : List FlatGrouping) (types : Hierarchy) (members : Members)
       → HasGroups (flats c) groups → IsHierarchy c (type_names c) types → AreMembers c members
-      → overloads.IsReported (declares c) members rule.0 at
-      → Breaks tokens rule at
-  in_typing : (f : IsFormed tokens)
-      → typing.IsReported (known tokens f) (forms tokens f) (record { rule = rule; place = at })
-      → Breaks tokens rule at
+      → overloads.IsReported (declares c) members rule.0 at → BreaksTree c rule at
+  in_typing : (f : IsFormed c)
+      → typing.IsReported (known c f) (forms c f) (record { rule = rule; place = at })
+      → BreaksTree c rule at
 
 -- The component is accepted, with this program; or this is the rule that is reported.
+abbrev pub ChecksTree : Component → Result Program CheckFault → Type 0
+ChecksTree c (Ok program) = IsAcceptedTree c program
+ChecksTree c (Err (Refused rule at)) = BreaksTree c rule at
+ChecksTree c (Err Memory) = Unit {0}
+
+-- The tokens are those of one component, which passes no limit and keeps all the rules behind the
+-- grammar; and this is its program.
+pub record IsAccepted (tokens : Tokens) (program : Program) : Type 0 where
+  pub component : Component
+  pub is : grammar.IsComponent tokens component
+  pub keeps : IsAcceptedTree component program
+
+-- The token list breaks this rule, at this place: one of 202, 201 and 203; or, where it is a
+-- component, the one that this breaks.
+pub data Breaks (tokens : Tokens) (rule : Rule) (at : Place) : Type 0 where
+  in_grammar : BreaksGrammar tokens rule at → Breaks tokens rule at
+  in_tree : (c : Component) → grammar.IsComponent tokens c → BreaksTree c rule at
+      → Breaks tokens rule at
+
+-- The same of a token list.
 abbrev pub Checks : Tokens → Result Program CheckFault → Type 0
 Checks tokens (Ok program) = IsAccepted tokens program
 Checks tokens (Err (Refused rule at)) = Breaks tokens rule at
 Checks tokens (Err Memory) = Unit {0}
-
--- The same of the tokens of a component.
-abbrev pub ChecksTree : Component → Result Program CheckFault → Type 0
-ChecksTree c found = (tokens : Tokens) → grammar.IsComponent tokens c → Checks tokens found
 
 -- No token list keeps the rules of the grammar and breaks one of them.
 abbrev pub NeverBothInGrammar : Type 0
@@ -122,3 +128,12 @@ NeverBoth = (tokens : Tokens) (program : Program) (rule : Rule) (at : Place)
 -- Tokens that are accepted have one program.
 abbrev pub OneProgram : Type 0
 OneProgram = (tokens : Tokens) (p q : Program) → IsAccepted tokens p → IsAccepted tokens q → p ≡ q
+
+-- No component is accepted and breaks a rule.
+abbrev pub NeverBothOfTree : Type 0
+NeverBothOfTree = (c : Component) (program : Program) (rule : Rule) (at : Place)
+    → IsAcceptedTree c program → BreaksTree c rule at → ⊥
+
+-- A component that is accepted has one program.
+abbrev pub OneProgramOfTree : Type 0
+OneProgramOfTree = (c : Component) (p q : Program) → IsAcceptedTree c p → IsAcceptedTree c q → p ≡ q

@@ -48,8 +48,8 @@ pub fn check(alloc: Global, tokens: &Tokens) -> Result<Program, CheckFault>
     Ok(program)
 }
 
-/// Asks the rules behind the grammar of a component of a file's tokens, as `check` does, and makes
-/// its program.
+/// Asks the rules behind the grammar of a component, as `check` does, and makes its program. What
+/// `check` answers of tokens is what this answers of their one component.
 pub fn check_tree(alloc: Global, component: &Component) -> Result<Program, CheckFault>
     ensures { ChecksTree component.now result }
 {

@@ -1,12 +1,13 @@
-ghost use Rattle.fort_front.specs.Front.{NeverBoth, NeverBothInGrammar, OneProgram};
+ghost use Rattle.fort_front.specs.Front.{NeverBoth, NeverBothInGrammar, NeverBothOfTree, OneProgram, OneProgramOfTree};
 ghost use Rattle.fort_front.specs.Calls.{ExactlyOne, NeverAbstract};
-ghost use Rattle.fort_front.specs.Written.{AcceptedIsWritten};
+ghost use Rattle.fort_front.specs.Written.{AcceptedIsWritten, AcceptedTreeIsWritten};
 
 use fort_elab_law_matched::component_is_written;
 
-/// A law of token lists: none is accepted and breaks a rule too.
+/// A law: no token list is accepted and breaks a rule too, and no component.
 pub fn never_both()
-    ensures { NeverBoth }
+    ensures tokens { NeverBoth }
+    ensures tree { NeverBothOfTree }
 {}
 
 /// A law of token lists: none keeps the rules of the grammar and breaks one of them too.
@@ -14,16 +15,18 @@ pub fn never_both_in_grammar()
     ensures { NeverBothInGrammar }
 {}
 
-/// A law of token lists that are accepted: such a one is one program.
+/// A law: a token list that is accepted is one program, and a component is.
 pub fn one_program()
-    ensures { OneProgram }
+    ensures tokens { OneProgram }
+    ensures tree { OneProgramOfTree }
 {}
 
-/// A law of token lists whose tokens stand at places of their own, as those of a file do: the
-/// program of such a one that is accepted is as it is written. The chapter is "Programs as
-/// written" of docs/MACHINE.md.
+/// A law of token lists whose tokens stand at places of their own, as those of a file do, and of
+/// the components whose tokens they are: the program of such a one that is accepted is as it is
+/// written. The chapter is "Programs as written" of docs/MACHINE.md.
 pub fn accepted_is_written()
-    ensures { AcceptedIsWritten }
+    ensures tokens { AcceptedIsWritten }
+    ensures tree { AcceptedTreeIsWritten }
 {
     component_is_written();
 }

@@ -38,6 +38,8 @@ run_recorded name file fuel j output end text is_text (Runs p is tells) = Runs p
   is_written = subst (λ o. IsRecordText text j o) tells.is_written is_text;
   tells = tells.tells;
   one = tells.one;
+  whole = tells.whole;
+  gives_back = tells.gives_back;
 })
 run_recorded name file fuel j output end text is_text (Refuses rule place broken e) =
     absurd (no_refusal end (ap (λ (x : Reply). x.status) e))

@@ -1,10 +1,12 @@
 -- What is said of a run tells it.
-use Rattle.std.proofs.Common.{◌≢◌, ℕ, subst, sym}
+use Rattle.std.proofs.Common.{◌≢◌, ℕ, true, false, subst, sym}
 use Rattle.fort_core.specs.declared.journal.Ending.TheVariants.{NotRun}
 use Rattle.fort_core.specs.declared.program.Program.{Program}
 use Rattle.fort_core.specs.declared.term.Term.{Term}
 use Rattle.fort_machine.specs.Effects.{Effect}
-use Rattle.fort_machine.specs.Journals.{Ends, Records}
+use Rattle.fort_machine.specs.Attempts.{goes}
+use Rattle.fort_machine.specs.Journals.{Ends, Records, opening_store}
+use Rattle.fort_machine_law_attempts.proofs.Attempts.{goes_on, give_back}
 use Rattle.fort_walk_course.specs.Calls.{IsRun}
 use Rattle.fort_walk_course.specs.declared.ending.Ran.{Ran}
 use Rattle.fort_walk_turns.specs.Defined.{AlwaysOne}
@@ -26,15 +28,21 @@ has_end p fuel ran is none =
 pub run_told : (p : Program) (fuel : ℕ) (ran : Ran) (end : Told) → IsRun p fuel ran → AlwaysOne p
     → TellsEnding p ran.journal.ending (status_of end) (note_of end)
     → TellsRun its_output p fuel (said (answer.Ran ran.journal ran.output end))
-run_told p fuel ran end is one tells = record {
-  term = is.run.term;
-  effect = is.run.effect;
-  records =
-      subst (λ n. Records p
-      (record { fuel = n; picks = ran.journal.picks; ending = ran.journal.ending }) is.run.term
-      is.run.effect) (sym is.is_fuel) is.run.records;
-  is_fuel = is.is_fuel;
-  is_written = is.run.is_output;
-  tells = tells;
-  one = one;
-}
+run_told p fuel ran end is one tells =
+    let records : Records p ran.journal is.run.term is.run.effect =
+    subst (λ n. Records p
+    (record { fuel = n; picks = ran.journal.picks; ending = ran.journal.ending }) is.run.term
+    is.run.effect) (sym is.is_fuel) is.run.records in
+    record {
+      term = is.run.term;
+      effect = is.run.effect;
+      records = records;
+      is_fuel = is.is_fuel;
+      is_written = is.run.is_output;
+      tells = tells;
+      one = one;
+      whole = goes_on p;
+      gives_back =
+          give_back p false true (opening_store p) ran.journal.picks p.first (goes is.run.term)
+          is.run.effect records.is_run.runs;
+    }

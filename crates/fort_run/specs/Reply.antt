@@ -26,6 +26,7 @@ use Rattle.fort_core.specs.declared.program.Program.{Program}
 use Rattle.fort_core.specs.declared.term.Term.{Term}
 use Rattle.fort_machine.specs.Effects.{Effect}
 use Rattle.fort_machine.specs.Journals.{Records}
+use Rattle.fort_machine_law_attempts.specs.Attempts.{GoesInWhole, GiveBack}
 use Rattle.fort_audit_record.specs.Text.{IsFormFault, IsRecordText}
 use Rattle.fort_audit_record.specs.declared.reading.Record as a_record
 use Rattle.fort_walk_turns.specs.Defined.{AlwaysOne}
@@ -91,8 +92,10 @@ TellsEnding p (Uncaught v) status note = (status ≡ 5) × (note ≡ uncaught p 
 TellsEnding p (OutOfFuel pick) status note = (status ≡ 6) × (note ≡ out_of_fuel)
 
 -- The reply tells a run of a program with this fuel: its journal is the run's, what is written is
--- of that journal and what the run printed, and status and note tell how the run ended; and in each
--- of its terms each call has its one declaration.
+-- of that journal and what the run printed, and status and note tell how the run ended; in each of
+-- its terms each call has its one declaration; each atomic form goes on by whole attempts of it
+-- alone, each one pick; and each attempt in the journal, within others too, that fails or is
+-- aborted gives back every location older than itself.
 pub record TellsRun (writes : Writing) (p : Program) (fuel : ℕ) (reply : Reply) : Type 0 where
   pub term : Term
   pub effect : Effect
@@ -101,6 +104,8 @@ pub record TellsRun (writes : Writing) (p : Program) (fuel : ℕ) (reply : Reply
   pub is_written : Writes writes reply.journal effect.output reply.out
   pub tells : TellsEnding p reply.journal.ending reply.status reply.note
   pub one : AlwaysOne p
+  pub whole : GoesInWhole p
+  pub gives_back : GiveBack records.is_run.runs
 
 -- What is said of a file to run with this fuel.
 pub data RunSays (writes : Writing) (name file : List ℕ) (fuel : ℕ) (reply : Reply) : Type 0 where

@@ -27,7 +27,7 @@ use Rattle.fort_sound_typed.specs.Sound.{Sound, Defined, Typed as TypedBy}
 use Rattle.fort_sound_typed.specs.Goes.{Complete, Goes}
 use Rattle.fort_elab_meaning.specs.Programs.{IsProgramOf}
 use Rattle.fort_elab_law_matched.specs.Component.{StandApart}
-use Rattle.fort_front.specs.Front.{IsAccepted}
+use Rattle.fort_front.specs.Front.{IsAccepted, IsAcceptedTree}
 use Rattle.fort_lex.specs.Files.{HasTokens}
 use Rattle.fort_lex_law_tokens.specs.Numerals.{Fits}
 
@@ -59,6 +59,12 @@ abbrev pub KeepersAreSound : Type 0
 KeepersAreSound = (tokens : Tokens) (c : Component) (h : Hierarchy) (m : Members) (groups : Groups)
     (typed : Typed) (p : Program) → KeepsAll tokens c h m groups typed p → IsFounded p
 
+-- So is the program of an accepted component, where it is the tree of tokens that stand apart and
+-- whose numbers are ZZ64 at most.
+abbrev pub AcceptedTreeIsSound : Type 0
+AcceptedTreeIsSound = (tokens : Tokens) (c : Component) (p : Program) → StandApart tokens.list
+    → AllByRecursion Fits tokens.list → HasTree tokens c → IsAcceptedTree c p → IsFounded p
+
 -- So is the program of a file whose tokens are accepted.
 abbrev pub AcceptedIsSound : Type 0
 AcceptedIsSound = (bytes : List ℕ) (tokens : Tokens) (p : Program) → HasTokens bytes tokens
@@ -73,8 +79,14 @@ pub record IsWell (p : Program) (inner : Bool) (s : Store) (t : Term) : Type 0 w
   pub one : IsOne p t
   pub goes : Goes p inner s t
 
--- So it is wherever a machine of the program of an accepted file comes to, the root's or an
+-- So it is wherever a machine of the program of such a component comes to, the root's or an
 -- attempt's.
+abbrev pub AcceptedTreeRunsWell : Type 0
+AcceptedTreeRunsWell = (tokens : Tokens) (c : Component) (p : Program) → StandApart tokens.list
+    → AllByRecursion Fits tokens.list → HasTree tokens c → IsAcceptedTree c p
+    → (inner : Bool) (s : Store) (t : Term) → Reached p inner s t → IsWell p inner s t
+
+-- And of the program of an accepted file.
 abbrev pub AcceptedRunsWell : Type 0
 AcceptedRunsWell = (bytes : List ℕ) (tokens : Tokens) (p : Program) → HasTokens bytes tokens
     → IsAccepted tokens p → (inner : Bool) (s : Store) (t : Term) → Reached p inner s t

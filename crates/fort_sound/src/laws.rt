@@ -1,4 +1,4 @@
-ghost use Rattle.fort_sound.specs.Accepted.{AcceptedIsSound, AcceptedRunsWell, KeepersAreSound};
+ghost use Rattle.fort_sound.specs.Accepted.{AcceptedIsSound, AcceptedRunsWell, AcceptedTreeIsSound, AcceptedTreeRunsWell, KeepersAreSound};
 
 use fort_elab_law_matched::component_is_written;
 use fort_form_law_figures::forms_have_figures;
@@ -29,6 +29,14 @@ pub fn keepers_are_sound()
     forms_have_figures();
 }
 
+/// A law: so it is of the program of a component that the check accepts, where it is the tree of
+/// tokens that stand at places of their own and whose numbers are ZZ64 at most.
+pub fn accepted_tree_is_sound()
+    ensures { AcceptedTreeIsSound }
+{
+    keepers_are_sound();
+}
+
 /// A law: so it is of the program of a file whose tokens the check accepts.
 pub fn accepted_is_sound()
     ensures { AcceptedIsSound }
@@ -36,6 +44,17 @@ pub fn accepted_is_sound()
     keepers_are_sound();
     tokens_stand_apart();
     file_numbers_fit();
+}
+
+/// A law of such a component: wherever a machine of its program comes to, the term is typed, each
+/// call of values in it has exactly one declaration that it runs, and it isn't stuck.
+pub fn accepted_tree_runs_well()
+    ensures { AcceptedTreeRunsWell }
+{
+    accepted_tree_is_sound();
+    reached_is_typed();
+    reached_is_one();
+    no_run_is_stuck();
 }
 
 /// A law: so wherever a machine of an accepted program comes to, the term is typed, each call of

@@ -5,4 +5,7 @@
 
 mod laws;
 
-pub use laws::{accepted_is_sound, accepted_runs_well, keepers_are_sound};
+pub use laws::{
+    accepted_is_sound, accepted_runs_well, accepted_tree_is_sound, accepted_tree_runs_well,
+    keepers_are_sound,
+};

@@ -2,6 +2,7 @@
 //! program's name.
 #![tactic(auto)]
 
+use fort_diag::fixed;
 use fort_port::{FileShelf, IdleGate, StreamSink};
 use fort_run::fortress;
 use std::process::ExitCode;
@@ -37,6 +38,6 @@ fn main(rt: HostRuntime) -> ExitCode {
 
 /// The end of a call that found too little memory for its words.
 fn want_of_memory(rt: &impl Eprint) -> ExitCode {
-    let _ = rt.eprintln("want of memory");
+    let _ = rt.eprint(fixed(WANTS_MEMORY));
     ExitCode::from(WANTS_MEMORY)
 }

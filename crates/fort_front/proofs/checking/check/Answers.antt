@@ -1,10 +1,14 @@
-use Rattle.std.proofs.Common.{◌≡◌, Err, rules}
+use Rattle.std.proofs.Common.{◌≡◌, Ok, Err, rules}
+use Rattle.fort_front.proofs.Refused.{of_tokens}
 use Rattle.fort_front.proofs.checking.check.Goals as goal
 
 pub returns-in_err-program : goal.returns-in_err-program
 returns-in_err-program c =
     let e : c.from_residual-in_err-program.result ≡ Err c.in_err-program.field-0.0 = search rules in
-    rw e (c.in_err-program.ensures c.args.tokens.now c.in_ok-parsed.ensures)
+    rw e (of_tokens c.args.tokens.now c.in_ok-parsed.parsed.component
+    (Err c.in_err-program.field-0.0) c.in_ok-parsed.ensures c.in_err-program.ensures)
 
 pub returns : goal.returns
-returns c = c.in_ok-program.ensures c.args.tokens.now c.in_ok-parsed.ensures
+returns c =
+    of_tokens c.args.tokens.now c.in_ok-parsed.parsed.component (Ok c.in_ok-program.program)
+    c.in_ok-parsed.ensures c.in_ok-program.ensures

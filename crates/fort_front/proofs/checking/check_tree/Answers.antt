@@ -6,28 +6,28 @@ use Rattle.fort_front.proofs.Same.{exact}
 use Rattle.fort_front.proofs.checking.check_tree.Goals as goal
 
 pub returns-in_err-groups : goal.returns-in_err-groups
-returns-in_err-groups c tokens is =
+returns-in_err-groups c =
     let e : c.from_residual.result ≡ Err c.in_err-groups.field-0.0 = search rules in
-    rw e (refused tokens c.args.component.now c.in_err-groups.field-0.0 is c.in_err-groups.ensures)
+    rw e (refused c.args.component.now c.in_err-groups.field-0.0 c.in_err-groups.ensures)
 
 pub returns-in_err-types : goal.returns-in_err-types
-returns-in_err-types c tokens is =
+returns-in_err-types c =
     let e : c.from_residual-in_err-types.result ≡ Err c.in_err-types.field-0.0 = search rules in
-    rw e (types_refused tokens c.args.component.now c.in_ok-groups.groups.list
-    c.in_err-types.field-0.0 is c.in_ok-groups.ensures c.in_err-types.ensures.err)
+    rw e (types_refused c.args.component.now c.in_ok-groups.groups.list
+    c.in_err-types.field-0.0 c.in_ok-groups.ensures c.in_err-types.ensures.err)
 
 pub returns-in_err-members : goal.returns-in_err-members
-returns-in_err-members c tokens is =
+returns-in_err-members c =
     let e : c.from_residual-in_err-members.result ≡ Err c.in_err-members.field-0.0 = search rules in
-    rw e (fields_refused tokens c.args.component.now c.in_ok-groups.groups.list c.in_ok-types.types
-    c.in_err-members.field-0.0 is
+    rw e (fields_refused c.args.component.now c.in_ok-groups.groups.list c.in_ok-types.types
+    c.in_err-members.field-0.0
     c.in_ok-groups.ensures c.in_ok-types.ensures.ok c.in_err-members.ensures.err)
 
 pub returns-in_err-overloads : goal.returns-in_err-overloads
-returns-in_err-overloads c tokens is =
+returns-in_err-overloads c =
     let e : c.from_residual-in_err-overloads.result ≡ Err c.in_err-overloads.field-0.0 =
     search rules in
-    rw e (overloads_refused tokens c.args.component.now c.in_ok-groups.groups.list
+    rw e (overloads_refused c.args.component.now c.in_ok-groups.groups.list
     c.in_ok-types.types c.in_ok-members.members c.in_err-overloads.field-0.0 is
     c.in_ok-groups.ensures c.in_ok-types.ensures.ok c.in_ok-members.ensures.ok
     (c.in_err-overloads.ensures.err (declares c.args.component.now)
@@ -35,11 +35,9 @@ returns-in_err-overloads c tokens is =
     c.in_ok-types.ensures.ok c.in_ok-members.ensures.ok)))
 
 pub returns-in_err-typed : goal.returns-in_err-typed
-returns-in_err-typed c tokens is =
+returns-in_err-typed c =
     let e : c.from_residual-in_err-typed.result ≡ Err c.in_err-typed.field-0.0 = search rules in
-    let formed : IsFormed tokens = record {
-      component = c.args.component.now;
-      is = is;
+    let formed : IsFormed c.args.component.now = record {
       groups = c.in_ok-groups.groups.list;
       grouped = c.in_ok-groups.ensures;
       types = c.in_ok-types.types;
@@ -50,14 +48,12 @@ returns-in_err-typed c tokens is =
           (are_over c.args.component.now c.in_ok-types.types c.in_ok-members.members
           c.in_ok-types.ensures.ok c.in_ok-members.ensures.ok);
     } in
-    rw e (typing_refused tokens formed c.in_err-typed.field-0.0
+    rw e (typing_refused c.args.component.now formed c.in_err-typed.field-0.0
     (rw (← c.in_ok-forms.ensures) (rw c.as_slice.ensures at c.in_err-typed.ensures.fault)))
 
 pub returns : goal.returns
-returns c tokens is =
-    let formed : IsFormed tokens = record {
-      component = c.args.component.now;
-      is = is;
+returns c =
+    let formed : IsFormed c.args.component.now = record {
       groups = c.in_ok-groups.groups.list;
       grouped = c.in_ok-groups.ensures;
       types = c.in_ok-types.types;
@@ -72,7 +68,7 @@ returns c tokens is =
       formed = formed;
       typed = c.in_ok-typed.typed;
       has_types =
-          (exact tokens formed).has_types c.in_ok-typed.typed
+          (exact c.args.component.now formed).has_types c.in_ok-typed.typed
           (rw (← c.in_ok-forms.ensures) (rw c.as_slice.ensures at c.in_ok-typed.ensures.ok));
       becomes = rw c.as_slice-2.ensures at c.in_ok-program.ensures;
     }

@@ -6,9 +6,9 @@ pub returns-in-Ok-clause-answers : goal.returns-in-Ok-clause-answers
 returns-in-Ok-clause-answers g c =
     let laws : Fronts =
     record {
-      apart = c.never_both.ensures;
+      apart = c.never_both.ensures.tokens;
       grammar = c.never_both_in_grammar.ensures;
-      one = c.one_program.ensures;
+      one = c.one_program.ensures.tokens;
       one_record = c.one_record.ensures;
       one_answer = c.one_answer.ensures;
     } in
