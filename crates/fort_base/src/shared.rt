@@ -24,6 +24,9 @@ impl<T> Model for Shared<T> {
 }
 
 impl<T> Shared<T> {
+    ghost use Rattle.std.specs.Borrow.{LendsIf, sem};
+    ghost use Rattle.fort_base.specs.contracts.shared.Shared.{the_row};
+
     /// The value, lent.
     pub fn get(&self) -> &T
         ensures { result.now ≡ self.now }
@@ -61,6 +64,16 @@ impl<T> Shared<T> {
             Some(place) => Ok(mem::replace(place, value)),
             None => Err(value),
         }
+    }
+
+    /// The value, lent to be changed, where this is its only owner; else `None`, and nothing
+    /// changes. It takes no memory.
+    pub fn lent(&mut self) -> Option<&mut T>
+        ensures* writes_back { sem 𝓛
+            (LendsIf (the_row T.row) T.row self.entry result (λ w. w) self.entry.now) }
+        ensures value { IfSome result (λ v. v.now ≡ self.old) }
+    {
+        Arc::get_mut(&mut self.inner)
     }
 
     /// The value, where this was its last owner; else this owner is given up.
