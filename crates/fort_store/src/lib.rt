@@ -1,7 +1,8 @@
-//! The store of a run: a finite map from locations to values. The chapter "Store and effects" of
-//! docs/MACHINE.md.
+//! The store of a run: a finite map from locations to values, which is shared in constant time. The
+//! chapter "Store and effects" of docs/MACHINE.md.
 #![tactic(auto)]
 
 mod store;
+mod tree;
 
 pub use store::Store;
