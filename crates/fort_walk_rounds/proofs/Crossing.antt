@@ -43,7 +43,9 @@ use Rattle.fort_disp.specs.contracts.rows.Tables as tables
 use Rattle.fort_store_effects.specs.contracts.cell.Cell as cell
 use Rattle.fort_store_effects.specs.contracts.layer.Layer as layer
 use Rattle.fort_store_effects.specs.contracts.layers.Layers as layers
+use Rattle.fort_store.proofs.tree.Tree.TheLaws.TheKnot as trees
 use Rattle.fort_store.specs.contracts.store.Store as store
+use Rattle.fort_store.specs.contracts.tree.Tree as tree
 use Rattle.fort_walk_rounds.proofs.leg.Room.TheSendSync as rooms
 use Rattle.fort_walk_rounds.proofs.leg.Team.TheSendSync as teams
 use Rattle.fort_walk_rounds.specs.contracts.leg.Leg as leg
@@ -147,11 +149,42 @@ cell_send = search (sendable, value_send) depth 20
 cell_sync : IsSync cell.the_row
 cell_sync = search (sendable, value_sync) depth 20
 
+option_send : (A : RattleType) → IsSend A → IsSend (option.the_row A)
+option_send A a = search sendable depth 9
+
+value_row_send : IsSend value.the_row
+value_row_send = as_row_send value.the_field value_send
+
+value_row_sync : IsSync value.the_row
+value_row_sync = as_row_sync value.the_field value_sync
+
+-- A tree's values and branches, each of which stands in a row.
+tree_sync : IsSync tree.the_field.row
+tree_sync =
+    trees.both_sync-Tree
+    (std_crossing.Vec-send _ (option_send _ value_row_send))
+    (std_crossing.Vec-sync _ (option_sync _ value_row_sync))
+    (λ h s y. std_crossing.Vec-send _ (option_send _ (shared.the_send h s y)))
+    (λ h s y. std_crossing.Vec-sync _ (option_sync _ (shared.the_sync h s y)))
+
+tree_send : IsSend tree.the_field.row
+tree_send =
+    trees.both_send-Tree
+    (std_crossing.Vec-send _ (option_send _ value_row_send))
+    (std_crossing.Vec-sync _ (option_sync _ value_row_sync))
+    (λ h s y. std_crossing.Vec-send _ (option_send _ (shared.the_send h s y)))
+    (λ h s y. std_crossing.Vec-sync _ (option_sync _ (shared.the_sync h s y)))
+
 store_sync : IsSync store.the_row
 store_sync =
     declared_sync store.the_type (
       search (sendable, index_map.the_sync, std_crossing.crosses, value_sync) depth 9,
-      tt,
+      (
+        std_crossing.Vec-sync _
+            (option_sync _ (shared.the_sync _ (as_row_send tree.the_field tree_send)
+            (as_row_sync tree.the_field tree_sync))),
+        tt,
+      ),
     )
 
 layer_send : IsSend layer.the_row
