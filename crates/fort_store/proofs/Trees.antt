@@ -12,8 +12,7 @@ use Rattle.fort_store.proofs.Rows.{read_at, set_at}
 
 -- what a layer of a tree keeps
 abbrev pub layered : Tree-F Tree → Store
-layered x = λ n. if nat_lt n 32 then placed x.own.items n
-    else branches x.below.items (way n) (rest n)
+layered x = λ n. if nat_lt n 32 then placed x.own.items n else branches x.below.items (way n) (rest n)
 
 -- a function that gives the stores of trees, where there are trees
 abbrev GivesKept : (Option Tree → Option Store) → Type 0
@@ -104,7 +103,7 @@ put_other i m v row j k ne = go (i == j) refl
         ap (λ c. if c then Some v else row j k) (ne_eqb m k (ne (eqb-true i j e)))
     go false e = refl
 
--- a value is put where two numbers tell a third one
+-- the same of numbers that two others tell
 pub put_told : (f g : ℕ → ℕ) → ((n k : ℕ) → f n ≡ f k → g n ≡ g k → n ≡ k) → (n k : ℕ) (v : Value)
     (row : ℕ → Store)
     → put_in (f n) (g n) v row (f k) (g k) ≡ (if n == k then Some v else row (f k) (g k))
@@ -141,8 +140,7 @@ puts_below t x n v i m many w c r q =
         ne_eqb n k (λ s. omega (arith, many, s, ltb-true k 32 e)) in
         rw apart (ap (λ xs. placed xs k) r)
     go k false e =
-        ap (λ (s : ℕ → Store). s (way k) (rest k)) put_there
-        ∙ put_told way rest same_number n k v old
+        ap (λ (s : ℕ → Store). s (way k) (rest k)) put_there ∙ put_told way rest same_number n k v old
 
 -- nothing is put
 pub same_tree : (t : Tree) (x : Tree-F Tree)
