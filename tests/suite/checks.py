@@ -7,7 +7,7 @@ import subprocess
 import sys
 
 TOP = pathlib.Path(__file__).resolve().parent.parent.parent
-SECONDS = 120
+SECONDS = 600
 
 
 class Program:

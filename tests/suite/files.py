@@ -15,19 +15,25 @@ import tempfile
 
 from suite.checks import TOP
 
-EXAMPLES = TOP / "examples"
+EXAMPLES = TOP / "examples", TOP / "examples/exercises"
 CASES = TOP / "tests/cases"
+
+
+def sources():
+    """The examples, and the solutions of the exercises."""
+    return [source for folder in EXAMPLES for source in sorted(folder.glob("*.fss"))]
 
 
 def examples(program):
     checks = []
-    for source in sorted(EXAMPLES.glob("*.fss")):
+    for source in sources():
         for suffix, command in ((".expected", "run"), (".shown", "show")):
             wanted = source.with_suffix(suffix)
             if wanted.exists():
                 answers = 0, wanted.read_bytes(), ""
                 words = [command, source.name]
-                call = functools.partial(program.compare, source.stem, words, EXAMPLES, answers)
+                row = source.stem, words, source.parent, answers
+                call = functools.partial(program.compare, *row)
                 checks.append(call)
     return checks
 
@@ -64,8 +70,9 @@ def is_recorded(program, words, folder, status, out):
 def records(program):
     """Of each run among the examples and the cases that has a record."""
     runs = []
-    for source in sorted(EXAMPLES.glob("*.fss")):
-        runs.append(([source.name], EXAMPLES, 0, source.with_suffix(".expected").read_bytes()))
+    for source in sources():
+        wanted = source.with_suffix(".expected").read_bytes()
+        runs.append(([source.name], source.parent, 0, wanted))
     for _, (command, *words), (status, out, _) in read_cases():
         if command == "run" and status in (0, 5, 6):
             runs.append((words, CASES, status, out))

@@ -16,7 +16,7 @@ uname xargs"""
 PYTHON = next(it for it in ("/usr/bin/python3", sys.executable) if pathlib.Path(it).exists())
 SCRIPTS = "build check make manifest.py program proving.py sources".split()
 WHICH = ["-c", "readlink /proc/$$/exe"]
-CRATES = """# lowest first
+CRATES = """# the crates
 low tests_may=Threads+Wait:
 aside: low
 fortress may_wait=1: low
