@@ -28,7 +28,7 @@ returns-in_err-overloads c =
     let e : c.from_residual-in_err-overloads.result ≡ Err c.in_err-overloads.field-0.0 =
     search rules in
     rw e (overloads_refused c.args.component.now c.in_ok-groups.groups.list
-    c.in_ok-types.types c.in_ok-members.members c.in_err-overloads.field-0.0 is
+    c.in_ok-types.types c.in_ok-members.members c.in_err-overloads.field-0.0
     c.in_ok-groups.ensures c.in_ok-types.ensures.ok c.in_ok-members.ensures.ok
     (c.in_err-overloads.ensures.err (declares c.args.component.now)
     (are_over c.args.component.now c.in_ok-types.types c.in_ok-members.members
