@@ -108,7 +108,7 @@ class Place:
     def run(self, *words, **how):
         """The status, the standard output and the notes of a call of the launcher."""
         with self.start(*words, **how) as run:
-            out, notes = run.communicate(timeout=60)
+            out, notes = run.communicate(timeout=600)
         return run.returncode, out, notes
 
     def runs(self, program, words=WHICH, notes=""):
