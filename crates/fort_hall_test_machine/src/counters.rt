@@ -45,7 +45,7 @@ impl<G: Gate + Drop> Machine for Counters<G> {
     ghost use Rattle.std.specs.Prelude.{◌≡◌, ◌==◌, ◌<◌, ◌≤◌, List, ℕ, length};
     ghost use Rattle.fort_hall_test_machine.specs.declared.book.Entry.{Entry as It};
     ghost use Rattle.fort_hall_test_machine.specs.Runs.{Runs, letters, four_zeros};
-    ghost use Rattle.fort_hall_test_machine.proofs.Raising.{letters_grow};
+    ghost use Rattle.fort_hall_test_machine.specs.Laws.{letters_grow};
 
     type Book = Book;
 

@@ -67,8 +67,11 @@ impl<M: Machine> Outcome<M> {
             },
             Submitted::Stale(next) => Outcome {
                 done: false,
+                offer: Offer {
+                    woken: next.is_none(),
+                    ..Offer::NONE
+                },
                 next: lent_on(book, next),
-                offer: Offer::NONE,
                 waste,
             },
             Submitted::Gone => Outcome {

@@ -1,5 +1,5 @@
 //! The root's book, as the turn hands it round.
-ghost use Rattle.std.specs.Prelude.{◌≡◌, ◌≤◌, length, take, drop, MatchResult};
+ghost use Rattle.std.specs.Prelude.{◌≡◌, ◌≤◌, ◌<◌, ◌^◌, length, take, drop, MatchResult};
 ghost use Rattle.fort_hall_work.specs.Grown.{HasGrown};
 
 use crate::hall::ROOT;
@@ -63,6 +63,13 @@ impl<M: Machine> Rooted<M> {
         ensures { M.keeps self.now }
     {
         let _book = &self.book;
+    }
+
+    /// The history has fewer entries than there are numbers.
+    pub fn counted(&self)
+        ensures { length (M.history self.now) < 2 ^ 64 }
+    {
+        let _count = M::length(&self.book);
     }
 
     /// Lends a task.

@@ -1,7 +1,6 @@
 //! A worker's seat in the turn: with it the worker works on the root's book, one hold for each call.
-ghost use Rattle.std.specs.Prelude.{◌≡◌, ◌≤◌, length, take, drop, Some};
-ghost use mathlib.Core.List.{IsPrefix};
-ghost use Rattle.fort_turn.specs.Passes.{number_of, seen_by};
+ghost use Rattle.std.specs.Prelude.{◌≡◌};
+ghost use Rattle.fort_turn.specs.Passes.{number_of};
 ghost use Rattle.fort_hall_work.specs.Seats.{IsSeated};
 
 use crate::lent::{Back, Lent};
@@ -103,41 +102,15 @@ pub fn submit<M: Machine, R: Wait>(
     ensures seated { IsSeated M.history M.by turn.now seat.new.pass seat.new.legs }
     ensures number { number_of seat.new.pass ≡ number_of seat.old.pass }
 {
-    let Some(more) = seat.legs.checked_add(1) else {
-        return Err(Memory);
-    };
     let mut rooted = turn.take(rt, &mut seat.pass);
     let number = seat.pass.number();
     let answer = rooted.submit(machine, leg, number, wanted);
     let ended = rooted.ended(machine);
+    rooted.counted();
     turn.give(&mut seat.pass, rooted);
     let outcome = answer?;
     if outcome.done {
-        seat.legs = more;
+        seat.legs += 1;
     }
     Ok((outcome, ended))
-}
-
-/// Copies the next bytes of the output that the root's book has by now, and says how many.
-pub fn read_output<M: Machine, R: Wait>(
-    rt: &R,
-    machine: &M,
-    turn: &Turn<Rooted<M>>,
-    seat: &mut Seat<M>,
-    from: u64,
-    into: &mut [u8],
-) -> usize
-    requires seated { IsSeated M.history M.by turn.now seat.old.pass seat.old.legs }
-    requires seen { (a : M.Book) × (seen_by seat.old.pass ≡ Some a) × M.keeps a × (from ≤ length (M.output a)) }
-    ensures seated { IsSeated M.history M.by turn.now seat.new.pass seat.new.legs }
-    ensures number { (number_of seat.new.pass ≡ number_of seat.old.pass) × (seat.new.legs ≡ seat.old.legs) }
-    ensures count { result ≤ length into.old }
-    ensures seen { (b : M.Book) × (seen_by seat.new.pass ≡ Some b) × M.keeps b × (take result into.new ≡ take result (drop from (M.output b)))
-        × ((a : M.Book) → seen_by seat.old.pass ≡ Some a → M.keeps a → IsPrefix (M.output a) (M.output b)) }
-{
-    let rooted = turn.take(rt, &mut seat.pass);
-    rooted.kept();
-    let n = rooted.output_at(machine, from, into);
-    turn.give(&mut seat.pass, rooted);
-    n
 }

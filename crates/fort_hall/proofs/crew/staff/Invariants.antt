@@ -12,8 +12,9 @@ invariant-loop-own g l = record {
   numbers : numbers_of l.first ≡ numbers_of l.initial.first;
   seen : seen_by l.first ≡ seen_by l.initial.first;
   workers : EachWorker 0 (λ n w. IsSeated g.M.Machine.history g.M.Machine.by l.turn w.seat.pass w.seat.legs × (number_of w.seat.pass ≡ n + 1)) l.workers.items;
-  long : length l.workers.items + length l.decks.items ≡ length l.initial.decks.items;
+  long : length l.workers.items + length l.owns.items ≡ length l.initial.owns.items;
+  rights : length l.rights.items ≡ length l.owns.items;
 }
 
 abbrev pub decreases-loop-own : goal.decreases-loop-own
-decreases-loop-own g l = length l.decks.items
+decreases-loop-own g l = length l.owns.items
