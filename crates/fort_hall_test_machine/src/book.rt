@@ -130,7 +130,9 @@ impl Book {
     }
 
     /// Whether a task can be lent.
-    pub fn is_free(&self, n: usize) -> bool {
+    pub fn is_free(&self, n: usize) -> bool
+        ensures { result ≡ true → n < length self.now.tasks.items }
+    {
         n < self.tasks.len() && !self.tasks[n].lent && self.tasks[n].left > 0
     }
 }

@@ -150,6 +150,7 @@ impl<G: Gate + Drop> Machine for Counters<G> {
         Ok((Made::Leg(leg), room.from))
     }
 
+    #[tactic(auto, using(crate::proofs::Raising::runs_on))]
     fn submit(
         &self,
         book: &mut Book,
@@ -218,6 +219,7 @@ impl<G: Gate + Drop> Machine for Counters<G> {
         Book::new(self.alloc, cells, task, at.depth.saturating_add(1))
     }
 
+    #[tactic(auto, using(crate::proofs::Raising::runs_long, crate::proofs::Raising::runs_rise))]
     fn finish(&self, at: State, book: Book) -> Result<Option<Leg>, Memory> {
         if self.lost == Some(at.number) {
             return Ok(None);
@@ -233,6 +235,7 @@ impl<G: Gate + Drop> Machine for Counters<G> {
         }))
     }
 
+    #[tactic(auto, using(crate::proofs::Raising::letter_at, crate::proofs::Raising::front_set))]
     fn output_at(&self, book: &Book, from: u64, into: &mut [u8]) -> usize {
         let n = from as usize;
         if into.is_empty() || n >= book.legs.len() {
