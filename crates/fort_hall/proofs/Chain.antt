@@ -38,10 +38,10 @@ module _ {B E O : Type 0} (history : B → List E) (origin : B → O) (by : E �
         (λ not. ap (has (k + 1)) numbers ∙ has_front (k + 1) (numbers_of p) (numbers_of q) (h.taken k (omega arith) u));
     counted = λ k l u. dite (ℕ_discrete k low)
         (λ is. ap (λ n. slice_index (set legs low count) n) is ∙ (get_or-set_same legs low count 0 room ∙ (w.counted ∙ ap length (
-          ap (λ n. entries_by by n (log_of history (seen_by q))) (number ∙ ap (λ n. n + 1) (sym is))
-          ∙ sym (its.own (k + 1) (its_own k is))))))
+        ap (λ n. entries_by by n (log_of history (seen_by q))) (number ∙ ap (λ n. n + 1) (sym is))
+        ∙ sym (its.own (k + 1) (its_own k is))))))
         (λ not. get_or-set_other legs low k count 0 not ∙ (h.counted k (omega arith) u ∙ ap length (
-          ap (λ o. entries_by by (k + 1) (log_of history o)) (sym h.seen) ∙ sym (mine.own (k + 1) (h.taken k (omega arith) u)))));
+        ap (λ o. entries_by by (k + 1) (log_of history o)) (sym h.seen) ∙ sym (mine.own (k + 1) (h.taken k (omega arith) u)))));
   }
     where
       its_own : (k : ℕ) → k ≡ low → has (k + 1) (numbers_of q) ≡ true

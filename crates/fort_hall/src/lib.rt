@@ -2,10 +2,10 @@
 //! hall" of docs/THREADS.md.
 #![tactic(auto)]
 
+mod call;
 mod crew;
 mod decks;
-mod run;
 mod settle;
 
-pub use run::run;
+pub use call::run;
 pub use settle::Settled;

@@ -58,6 +58,7 @@ where
     M::Book: Send,
     M::State: Send,
     M::Leg: Send,
+    M::Waste: Send,
     requires count { 0 < count }
     ensures run { IfOk result (λ r. M.keeps r.book × (M.origin r.book ≡ M.start)) }
     ensures ended { IfOk result (λ r. M.ended r.book ≡ true) }
@@ -100,6 +101,7 @@ where
     M::Book: Send,
     M::State: Send,
     M::Leg: Send,
+    M::Waste: Send,
     requires count { (0 < length workers.items) × (length workers.items < 4294967296) }
     requires ready { EachWorker 0 (λ n w. SitsAt M.history M.by hall.now.turn n w.seat.pass w.seat.legs) workers.items }
     ensures ready { EachWorker 0 (λ n w. SitsAt M.history M.by hall.now.turn n w.seat.pass w.seat.legs) result.items }
@@ -118,6 +120,7 @@ where
     M::Book: Send,
     M::State: Send,
     M::Leg: Send,
+    M::Waste: Send,
     requires count { (0 < length workers.old) × (length workers.old < 4294967296) }
     requires ready { EachWorker 0 (λ n w. SitsAt M.history M.by hall.now.turn n w.seat.pass w.seat.legs) workers.old }
     ensures ready { EachWorker 0 (λ n w. SitsAt M.history M.by hall.now.turn n w.seat.pass w.seat.legs) workers.new }

@@ -4,7 +4,7 @@ use Rattle.fort_turn.specs.Passes.{number_of}
 use Rattle.fort_pool.specs.Workers.{EachWorker}
 use Rattle.fort_hall_work.specs.declared.worker.Worker.{Worker}
 use Rattle.fort_hall_work.specs.Seats.{IsSeated}
-use Rattle.fort_hall.proofs.run.at_work.Goals as goal
+use Rattle.fort_hall.proofs.call.at_work.Goals as goal
 
 pub side_by_side-requires-clause-ready : goal.side_by_side-requires-clause-ready
 side_by_side-requires-clause-ready g c =
