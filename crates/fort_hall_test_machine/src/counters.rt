@@ -1,6 +1,7 @@
 //! The machine of the counters.
-ghost use Rattle.std.specs.Prelude.{◌≡◌, ◌<◌, ◌≤◌, List, ℕ, [], length, IfOk, IfSome};
-ghost use Rattle.fort_hall_test_machine.specs.Runs.{Runs, letters, four_zeros};
+ghost use Rattle.std.specs.Prelude.{◌≡◌, ◌<◌, ◌≤◌, ◌++◌, List, ℕ, [], ◌∷◌, length, IfOk, IfSome, MatchResult};
+ghost use Rattle.fort_hall_machine.specs.Words.{IsLent};
+ghost use Rattle.fort_hall_test_machine.specs.Runs.{Raises, Runs, letters, four_zeros};
 
 use crate::book::{Book, Entry, Task};
 use fort_base::Memory;
@@ -134,7 +135,7 @@ impl<G: Gate + Drop> Machine for Counters<G> {
         self.gate.at(Point {
             worker: room.worker,
             depth,
-            child: number as u32,
+            child: (number % 1000) as u32,
         });
         let from = cells[task.at as usize];
         let raised = task.left.min(room.most.max(1));
@@ -150,7 +151,6 @@ impl<G: Gate + Drop> Machine for Counters<G> {
         Ok((Made::Leg(leg), room.from))
     }
 
-    #[tactic(auto, using(crate::proofs::Raising::runs_on))]
     fn submit(
         &self,
         book: &mut Book,
@@ -172,14 +172,8 @@ impl<G: Gate + Drop> Machine for Counters<G> {
             let found = self.checkout(book, leg.number)?;
             return Ok((Submitted::Stale(Some((leg.number, found))), leg));
         }
-        let first = self.fork(book, leg)?;
-        book.append(entry)?;
-        book.go_on(leg.number as usize, leg.raised);
-        let after = if leg.forks > 0 {
-            self.lend_on(book, first, first.wrapping_add(1), leg.forks - 1)
-        } else {
-            self.lend_on(book, leg.number, 0, 0)
-        };
+        let first = self.append(book, leg, entry)?;
+        let after = self.what_is_left(book, leg, first);
         Ok((Submitted::Done(after), leg))
     }
 
@@ -219,7 +213,7 @@ impl<G: Gate + Drop> Machine for Counters<G> {
         Book::new(self.alloc, cells, task, at.depth.saturating_add(1))
     }
 
-    #[tactic(auto, using(crate::proofs::Raising::runs_long, crate::proofs::Raising::runs_rise))]
+    #[tactic(auto, using(crate::proofs::Raising::runs_long))]
     fn finish(&self, at: State, book: Book) -> Result<Option<Leg>, Memory> {
         if self.lost == Some(at.number) {
             return Ok(None);
@@ -249,6 +243,22 @@ impl<G: Gate + Drop> Machine for Counters<G> {
 }
 
 impl<G: Gate + Drop> Counters<G> {
+    // Appends a leg, and makes the tasks into which it forks. It answers the first one's number.
+    #[tactic(auto, using(crate::proofs::Raising::runs_on))]
+    fn append(&self, book: &mut Book, leg: Leg, entry: Entry) -> Result<u64, Memory>
+        requires keeps { Runs book.old.begun.value.items book.old.legs.items book.old.cells.items }
+        requires fits { Raises book.old.cells.items entry }
+        ensures keeps { Runs book.new.begun.value.items book.new.legs.items book.new.cells.items }
+        ensures begun { book.new.begun ≡ book.old.begun }
+        ensures legs { MatchResult result (λ _. book.new.legs.items ≡ book.old.legs.items ++ entry ∷ [])
+            (λ _. book.new.legs.items ≡ book.old.legs.items) }
+    {
+        let first = self.fork(book, leg)?;
+        book.append(entry)?;
+        book.go_on(leg.number as usize, leg.raised);
+        Ok(first)
+    }
+
     // The tasks into which a leg forks.
     fn fork(&self, book: &mut Book, leg: Leg) -> Result<u64, Memory>
         ensures { (book.new.begun ≡ book.old.begun) × (book.new.cells ≡ book.old.cells)
@@ -265,18 +275,46 @@ impl<G: Gate + Drop> Counters<G> {
         book.fork(leg.forks, task)
     }
 
-    // What a leg leaves: this task is lent on where it can be, and so many others are offered.
-    fn lend_on(&self, book: &mut Book, task: u64, first: u64, count: u64) -> After<State> {
-        let next = match self.checkout(book, task) {
+    // What a leg leaves to do: its task goes on, or the first of its new ones does and the others
+    // are offered.
+    fn what_is_left(&self, book: &mut Book, leg: Leg, first: u64) -> After<State>
+        requires { Runs book.old.begun.value.items book.old.legs.items book.old.cells.items }
+        ensures keeps { Runs book.new.begun.value.items book.new.legs.items book.new.cells.items }
+        ensures same { (book.new.begun.value.items ≡ book.old.begun.value.items)
+            × (book.new.legs.items ≡ book.old.legs.items) }
+        ensures good { IsLent (λ s. s.task.at < length s.cells.items) result.next }
+    {
+        if leg.forks > 0 {
+            let next = self.lend_on(book, first);
+            After {
+                woken: next.is_none(),
+                next,
+                first: first.wrapping_add(1),
+                count: leg.forks - 1,
+            }
+        } else {
+            let next = self.lend_on(book, leg.number);
+            After {
+                woken: next.is_none(),
+                next,
+                first: 0,
+                count: 0,
+            }
+        }
+    }
+
+    // This task is lent on where it can be.
+    fn lend_on(&self, book: &mut Book, task: u64) -> Option<(u64, Found<State>)>
+        requires { Runs book.old.begun.value.items book.old.legs.items book.old.cells.items }
+        ensures keeps { Runs book.new.begun.value.items book.new.legs.items book.new.cells.items }
+        ensures same { (book.new.begun.value.items ≡ book.old.begun.value.items)
+            × (book.new.legs.items ≡ book.old.legs.items) }
+        ensures good { IsLent (λ s. s.task.at < length s.cells.items) result }
+    {
+        match self.checkout(book, task) {
             Ok(Found::Nothing) => None,
             Ok(found) => Some((task, found)),
             Err(Memory) => None,
-        };
-        After {
-            woken: next.is_none(),
-            next,
-            first,
-            count,
         }
     }
 }
