@@ -10,7 +10,7 @@ use Rattle.fort_hall.proofs.crew.add_worker.Goals as goal
 
 pub returns-clause-workers : goal.returns-clause-workers
 returns-clause-workers g c =
-    let P : ℕ → Worker g.row.M.Denot g.row.M-Book.Denot g.row.M-State.Denot g.row.M-Leg.Denot → Type 0 = λ n w. IsSeated g.M.Machine.history g.M.Machine.by c.args.turn.now w.seat.pass w.seat.legs × (number_of w.seat.pass ≡ n + 1) in
+    let P : ℕ → Worker g.row.M.Denot g.row.M-Book.Denot g.row.M-State.Denot g.row.M-Leg.Denot g.row.M-Waste.Denot → Type 0 = λ n w. IsSeated g.M.Machine.history g.M.Machine.by c.args.turn.now w.seat.pass w.seat.legs × (number_of w.seat.pass ≡ n + 1) in
     let s = c.split-pass.ensures in
     let it : IsSeated g.M.Machine.history g.M.Machine.by c.args.turn.now c.new-worker.result.seat.pass c.new-worker.result.seat.legs × (number_of c.new-worker.result.seat.pass ≡ length c.args.workers.now.items + 1) =
     rw c.new-worker.ensures (

@@ -5,8 +5,13 @@ use Rattle.fort_hall_work.specs.declared.worker.Worker.{Worker}
 use Rattle.fort_hall_work.specs.Seats.{IsSeated}
 use Rattle.fort_hall.specs.Gathered.{Gathered, Counts}
 use Rattle.fort_hall.proofs.Rows.{one_more, front}
-use Rattle.fort_hall.proofs.Chain.{takes_one, closes, new_seat, all_taken}
+use Rattle.fort_hall.proofs.Chain.{begins_at, closes, all_taken}
 use Rattle.fort_hall.proofs.settle.settle.Goals as goal
+
+pub gather-legs-requires-clause-first : goal.gather-legs-requires-clause-first
+gather-legs-requires-clause-first g c =
+    let f = c.requires.first in
+    begins_at g.M.Machine.history g.M.Machine.origin g.M.Machine.by c.args.turn g.M.Machine.start c.args.legs.items (length c.args.workers.items) c.args.first f.0 f.1 f.2 f.3 f.4 f.5 f.6
 
 pub close-requires-clause-all : goal.close-requires-clause-all
 close-requires-clause-all g c =
