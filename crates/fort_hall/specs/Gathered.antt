@@ -1,6 +1,6 @@
 -- The passes that are taken in at the end of a run, and what the book has of each worker. The
 -- chapter "The hall" of docs/THREADS.md.
-use Rattle.std.specs.Prelude.{◌≡◌, ℕ, ◌+◌, ◌<◌, ◌≤◌, true, List, [], length, slice_index, Option, Some}
+use Rattle.std.specs.Prelude.{◌≡◌, ℕ, ◌+◌, ◌<◌, ◌≤◌, true, List, [], length, slice_index, Some}
 use Rattle.fort_turn.specs.declared.held.Pass.{Pass}
 use Rattle.fort_turn.specs.declared.held.Turn.{Turn}
 use Rattle.fort_turn.specs.Book.{has, entries_by}

@@ -1,5 +1,5 @@
 -- How a history grows by a leg. The chapter "The hall" of docs/THREADS.md.
-use Rattle.std.specs.Prelude.{◌≡◌, ℕ, Bool, true, false, List, Result, Ok, Err}
+use Rattle.std.specs.Prelude.{◌≡◌, ℕ, Bool, true, false, List}
 use Rattle.fort_hall_machine.specs.declared.parts.Submitted.{Submitted}
 use Rattle.fort_hall_machine.specs.declared.parts.Submitted.TheVariants.{Done, Stale, Gone}
 use Rattle.fort_hall_machine.specs.Words.{OneMore}

@@ -1,4 +1,4 @@
-use Rattle.std.proofs.Common.{rules, ◌≡◌, ◌<◌, length, arith, sym, ◌∙◌}
+use Rattle.std.proofs.Common.{rules, ◌≡◌, length, arith, sym, ◌∙◌}
 use Rattle.fort_hall.proofs.call.run.Goals as goal
 
 pub at_work-workers-requires-clause-count : goal.at_work-workers-requires-clause-count

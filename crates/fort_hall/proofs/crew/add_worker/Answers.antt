@@ -1,11 +1,10 @@
-use Rattle.std.proofs.Common.{◌≡◌, ℕ, ◌+◌, ◌<◌, length, arith, sym, ap, ◌∙◌, subst, set, rules}
-use Rattle.fort_turn.specs.Passes.{number_of, made_by, seen_by}
+use Rattle.std.proofs.Common.{◌≡◌, ℕ, ◌+◌, length, sym, ◌∙◌, subst}
+use Rattle.fort_turn.specs.Passes.{number_of}
 use Rattle.fort_pool.specs.Workers.{EachWorker}
 use Rattle.fort_hall_work.specs.declared.worker.Worker.{Worker}
 use Rattle.fort_hall_work.specs.Seats.{IsSeated}
-use Rattle.fort_hall.specs.Gathered.{Gathered, Counts}
-use Rattle.fort_hall.proofs.Rows.{one_more, front}
-use Rattle.fort_hall.proofs.Chain.{takes_one, closes, new_seat, all_taken}
+use Rattle.fort_hall.proofs.Rows.{one_more}
+use Rattle.fort_hall.proofs.Chain.{new_seat}
 use Rattle.fort_hall.proofs.crew.add_worker.Goals as goal
 
 pub returns-clause-workers : goal.returns-clause-workers

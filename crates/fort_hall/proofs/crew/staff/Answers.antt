@@ -1,4 +1,4 @@
-use Rattle.std.proofs.Common.{◌≡◌, ℕ, ◌+◌, length, arith, refl, sym, ap, ◌∙◌, subst}
+use Rattle.std.proofs.Common.{ℕ, ◌+◌, length, arith, refl, sym, ap, ◌∙◌, subst}
 use Rattle.fort_pool.specs.Workers.{EachWorker}
 use Rattle.fort_hall_work.specs.declared.worker.Worker.{Worker}
 use Rattle.fort_hall_work.specs.Seats.{SitsAt}

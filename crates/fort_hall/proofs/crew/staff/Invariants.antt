@@ -1,4 +1,4 @@
-use Rattle.std.proofs.Common.{◌≡◌, ℕ, ◌+◌, length, true}
+use Rattle.std.proofs.Common.{◌≡◌, ◌+◌, length, true}
 use Rattle.fort_turn.specs.Passes.{IsIdle, number_of, numbers_of, seen_by, is_first, made_by}
 use Rattle.fort_pool.specs.Workers.{EachWorker}
 use Rattle.fort_hall_work.specs.Seats.{IsSeated}

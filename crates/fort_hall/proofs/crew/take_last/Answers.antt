@@ -1,11 +1,8 @@
-use Rattle.std.proofs.Common.{◌≡◌, ℕ, ◌+◌, ◌<◌, length, arith, sym, ap, ◌∙◌, subst, set, rules}
-use Rattle.fort_turn.specs.Passes.{number_of, made_by, seen_by}
-use Rattle.fort_pool.specs.Workers.{EachWorker}
+use Rattle.std.proofs.Common.{◌≡◌, ℕ, ◌+◌}
+use Rattle.fort_turn.specs.Passes.{number_of}
 use Rattle.fort_hall_work.specs.declared.worker.Worker.{Worker}
 use Rattle.fort_hall_work.specs.Seats.{IsSeated}
-use Rattle.fort_hall.specs.Gathered.{Gathered, Counts}
-use Rattle.fort_hall.proofs.Rows.{one_more, front}
-use Rattle.fort_hall.proofs.Chain.{takes_one, closes, new_seat, all_taken}
+use Rattle.fort_hall.proofs.Rows.{front}
 use Rattle.fort_hall.proofs.crew.take_last.Goals as goal
 
 pub returns-in-Some-clause-rest : goal.returns-in-Some-clause-rest

@@ -1,11 +1,6 @@
-use Rattle.std.proofs.Common.{◌≡◌, ℕ, ◌+◌, ◌<◌, length, arith, sym, ap, ◌∙◌, subst, set, rules}
-use Rattle.fort_turn.specs.Passes.{number_of, made_by, seen_by}
-use Rattle.fort_pool.specs.Workers.{EachWorker}
-use Rattle.fort_hall_work.specs.declared.worker.Worker.{Worker}
-use Rattle.fort_hall_work.specs.Seats.{IsSeated}
-use Rattle.fort_hall.specs.Gathered.{Gathered, Counts}
-use Rattle.fort_hall.proofs.Rows.{one_more, front}
-use Rattle.fort_hall.proofs.Chain.{takes_one, closes, new_seat, all_taken}
+use Rattle.std.proofs.Common.{◌≡◌, ℕ, length, arith, ◌∙◌, subst, set, rules}
+use Rattle.fort_hall.specs.Gathered.{Gathered}
+use Rattle.fort_hall.proofs.Chain.{takes_one}
 use Rattle.std.proofs.lemmas.List.{length-set}
 use Rattle.fort_hall.proofs.settle.gather.Goals as goal
 

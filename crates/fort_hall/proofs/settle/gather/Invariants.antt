@@ -1,4 +1,4 @@
-use Rattle.std.proofs.Common.{◌≡◌, ℕ, ◌+◌, ◌≤◌, length}
+use Rattle.std.proofs.Common.{◌≡◌, ◌+◌, ◌≤◌, length}
 use Rattle.fort_turn.specs.Passes.{number_of, made_by}
 use Rattle.fort_pool.specs.Workers.{EachWorker}
 use Rattle.fort_hall_work.specs.Seats.{IsSeated}

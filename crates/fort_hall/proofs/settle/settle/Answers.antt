@@ -1,10 +1,6 @@
-use Rattle.std.proofs.Common.{◌≡◌, ℕ, ◌+◌, ◌<◌, length, arith, sym, ap, ◌∙◌, subst, set, rules}
-use Rattle.fort_turn.specs.Passes.{number_of, made_by, seen_by}
-use Rattle.fort_pool.specs.Workers.{EachWorker}
-use Rattle.fort_hall_work.specs.declared.worker.Worker.{Worker}
-use Rattle.fort_hall_work.specs.Seats.{IsSeated}
-use Rattle.fort_hall.specs.Gathered.{Gathered, Counts}
-use Rattle.fort_hall.proofs.Rows.{one_more, front}
+use Rattle.std.proofs.Common.{length, sym, ap, ◌∙◌, subst}
+use Rattle.fort_turn.specs.Passes.{made_by}
+use Rattle.fort_hall.specs.Gathered.{Counts}
 use Rattle.fort_hall.proofs.Chain.{begins_at, closes, all_taken}
 use Rattle.fort_hall.proofs.settle.settle.Goals as goal
 

@@ -1,4 +1,4 @@
-use Rattle.std.proofs.Common.{◌≡◌, ◌+◌, ◌<◌, arith}
+use Rattle.std.proofs.Common.{arith}
 use Rattle.fort_hall_work.proofs.Counting.{room, seated_with_one, seated_with_none}
 use Rattle.fort_hall_work.proofs.seat.submit.Goals as goal
 use Rattle.fort_hall_work.proofs.seat.submit.Goals.{then-outcome, else-outcome}

@@ -1,4 +1,4 @@
-use Rattle.std.proofs.Common.{◌≡◌, ◌<◌, ◌≤◌, slice_index, length, ap, ◌∙◌, arith}
+use Rattle.std.proofs.Common.{◌≡◌, ◌<◌, slice_index, length, ap, ◌∙◌, arith}
 use Rattle.std.proofs.lemmas.Grind.{get_or_default_zero}
 use Rattle.fort_hall_test_machine.proofs.Raising.{runs_long, runs_rise}
 use Rattle.fort_hall_test_machine.proofs.counters.CountersMachine.finish.Goals as goal
