@@ -6,8 +6,6 @@
 mod book;
 mod counters;
 mod meeting;
-#[cfg(test)]
-mod tests;
 
 pub use book::{Book, Entry, Task};
 pub use counters::{Counters, Leg, State};
