@@ -25,7 +25,7 @@ use Rattle.fort_tree.specs.Flats.{prefixed as with_prefix}
 use Rattle.fort_tree.specs.Yield.{said_delimited, said_atom, said_expr, said_head, said_flat, said_operand, said_run}
 use Rattle.fort_tree.proofs.CasesFlats.{cases_atom, cases_expr, cases_head}
 use Rattle.fort_tree.proofs.CasesBlocks.{cases_delimited}
-use Rattle.fort_tree.proofs.SaysFlats.{says-Flat, says-Assign, says-Open, says-OpenAssign, says-Atomic, says-Tryatomic, says-Throw, says-Fn, says-Big, flat_says, operand_says, run_says, says-Name, says-Number, says-Text, says-True, says-False, says-Self_, says-Parens, says-Delimited, says-ArrayFill}
+use Rattle.fort_tree.proofs.SaysFlats.{says-Flat, says-Assign, says-Open, says-OpenAssign, says-Atomic, says-Tryatomic, says-Throw, says-Spawn, says-Fn, says-Big, flat_says, operand_says, run_says, says-Name, says-Number, says-Text, says-True, says-False, says-Self_, says-Parens, says-Delimited, says-ArrayFill}
 use Rattle.fort_tree.proofs.SaysBlocks.{says-Do, says-If, says-While, says-For, says-Case, says-Typecase, says-Try}
 use Rattle.fort_parse_reading.proofs.Yields.{left_true, true_right}
 use Rattle.fort_parse_first.specs.Beginnings.{word_begins_atom, begins_atom, begins_postfix, is_prefix, begins_unit, is_infix_kind, word_begins_head, begins_head, mark_assigns, assigns, begins_expr}
@@ -105,6 +105,7 @@ pub head_begins : (h : Head) → begins_head (said_head h).first.kind ≡ true
 unfolding begins_head
 head_begins = cases_head (λ h. begins_head (said_head h).first.kind ≡ true)
     (λ s. rw (says-Atomic s) refl) (λ s. rw (says-Tryatomic s) refl) (λ s. rw (says-Throw s) refl)
+    (λ s. rw (says-Spawn s) refl)
     (λ s left p right arrow. rw (says-Fn s left p right arrow) refl)
     (λ b left g right. rw (says-Big b left g right) (big_begins b))
 
@@ -141,6 +142,7 @@ word_not_head : (blocks : Bool) (w : Reserved) → (word_begins_atom blocks w ||
 word_not_head blocks reserved.Atomic e = absurd cc
 word_not_head blocks reserved.Tryatomic e = absurd cc
 word_not_head blocks reserved.Throw e = absurd cc
+word_not_head blocks reserved.Spawn e = absurd cc
 word_not_head blocks reserved.Fn e = absurd cc
 word_not_head blocks reserved.Sum e = absurd cc
 word_not_head blocks reserved.Prod e = absurd cc

@@ -33,7 +33,7 @@ use Rattle.fort_tree.specs.Flats.{assign_token, big_first, big_more}
 use Rattle.fort_tree.specs.Flats.{prefixed as with_prefix}
 use Rattle.fort_tree.specs.Yield.{said_expr, said_flat_part, said_generator, said_head, said_expr_list, said_flat, said_next_expr, said_operand, said_run}
 use Rattle.fort_tree.proofs.CasesFlats.{cases_expr, cases_head, cases_generator, cases_flat, cases_flat_part, cases_operand, cases_expr_list, cases_next_expr}
-use Rattle.fort_tree.proofs.SaysFlats.{says-Flat, says-Assign, says-Open, says-OpenAssign, says-Atomic, says-Tryatomic, says-Throw, says-Fn, says-Big, says-Parallel, says-Sequential, says_flat, says-Run, says-Infix, says_operand, says_expr_list, expr_list_says, says_next_expr, next_expr_says}
+use Rattle.fort_tree.proofs.SaysFlats.{says-Flat, says-Assign, says-Open, says-OpenAssign, says-Atomic, says-Tryatomic, says-Throw, says-Spawn, says-Fn, says-Big, says-Parallel, says-Sequential, says_flat, says-Run, says-Infix, says_operand, says_expr_list, expr_list_says, says_next_expr, next_expr_says}
 use Rattle.fort_parse_reading.specs.Parser.{Row, next_of, Eater}
 use Rattle.fort_parse_reading.specs.Words.{is_mark, is_word, sees, same_mark}
 use Rattle.fort_parse_reading.proofs.Laws.{Gets, reads, gets_then}
@@ -352,6 +352,7 @@ module _ (names : Spellings) {n : ℕ} (run : Bool → Eater Run n) (laws : RunL
       (λ s ob. rw (says-Atomic s) (gets_then _ (gets_word reserved.Atomic s _) reads))
       (λ s ob. rw (says-Tryatomic s) (gets_then _ (gets_word reserved.Tryatomic s _) reads))
       (λ s ob. rw (says-Throw s) (gets_then _ (gets_word reserved.Throw s _) reads))
+      (λ s ob. rw (says-Spawn s) (gets_then _ (gets_word reserved.Spawn s _) reads))
       (λ s left p right arrow ob. let own = rw (says-Fn s left p right arrow) at ob in
       rw (says-Fn s left p right arrow)
       (simp append_assoc

@@ -31,7 +31,7 @@ use Rattle.fort_tree.specs.Said.{Said, Allowed, tokens_of, all_tokens, all_obey,
 use Rattle.fort_tree.specs.Flats.{assign_token, big_first, big_more}
 use Rattle.fort_tree.specs.Flats.{prefixed as with_prefix}
 use Rattle.fort_tree.specs.Yield.{said_expr, said_flat_part, said_generator, said_head, said_expr_list, said_flat, said_next_expr, said_operand, said_run}
-use Rattle.fort_tree.proofs.SaysFlats.{says-Flat, says-Assign, says-Open, says-OpenAssign, says-Atomic, says-Tryatomic, says-Throw, says-Fn, says-Big, says-Parallel, says-Sequential, says_flat, says-Run, says-Infix, says_operand, says_expr_list, says_next_expr}
+use Rattle.fort_tree.proofs.SaysFlats.{says-Flat, says-Assign, says-Open, says-OpenAssign, says-Atomic, says-Tryatomic, says-Throw, says-Spawn, says-Fn, says-Big, says-Parallel, says-Sequential, says_flat, says-Run, says-Infix, says_operand, says_expr_list, says_next_expr}
 use Rattle.fort_parse_reading.specs.Parser.{Row, next_of, Eater}
 use Rattle.fort_parse_reading.specs.Words.{is_mark, is_word, sees}
 use Rattle.fort_parse_reading.proofs.Laws.{Only, only_read, only_failed, only_then, only_if, only_many}
@@ -310,6 +310,9 @@ module _ (names : Spellings) {n : ℕ} (run : Bool → Eater Run n) (laws : RunL
   sound_word_head reserved.Throw ts =
       only_then _ _ _ _ (only_word reserved.Throw ts)
       (λ s rest h. only_read _ _ rest (rw (says-Throw s) (record { tokens = h; obeys = refl })))
+  sound_word_head reserved.Spawn ts =
+      only_then _ _ _ _ (only_word reserved.Spawn ts)
+      (λ s rest h. only_read _ _ rest (rw (says-Spawn s) (record { tokens = h; obeys = refl })))
   sound_word_head reserved.Fn ts =
       only_then _ _ _ _ (only_word reserved.Fn ts) (λ s mid h. rw h (sound_function s mid))
   sound_word_head reserved.Sum ts =

@@ -53,6 +53,7 @@ word_begins_item reserved.Try e = refl
 word_begins_item reserved.Atomic e = refl
 word_begins_item reserved.Tryatomic e = refl
 word_begins_item reserved.Throw e = refl
+word_begins_item reserved.Spawn e = refl
 word_begins_item reserved.Fn e = refl
 word_begins_item reserved.Sum e = refl
 word_begins_item reserved.Prod e = refl

@@ -109,6 +109,7 @@ module _ (names : Spellings) {n : ℕ} (run : Bool → Eater Run n) where
   word_head reserved.Tryatomic =
       token (spot_if (is_word reserved.Tryatomic)) >>| λ s. pure (a_head.Tryatomic s)
   word_head reserved.Throw = token (spot_if (is_word reserved.Throw)) >>| λ s. pure (a_head.Throw s)
+  word_head reserved.Spawn = token (spot_if (is_word reserved.Spawn)) >>| λ s. pure (a_head.Spawn s)
   word_head reserved.Fn = token (spot_if (is_word reserved.Fn)) >>| function
   word_head reserved.Sum =
       token (spot_if (is_word reserved.Sum)) >>| λ s. reduction (big_word.Sum s)

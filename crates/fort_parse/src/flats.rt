@@ -246,6 +246,7 @@ impl<F: Fn(Global, &[Bytes], usize, usize, &mut Cursor<'_>, bool) -> Result<Run,
                 Reserved::Tryatomic,
             )?)),
             Kind::Word(Reserved::Throw) => Ok(Head::Throw(tokens.word(Reserved::Throw)?)),
+            Kind::Word(Reserved::Spawn) => Ok(Head::Spawn(tokens.word(Reserved::Spawn)?)),
             Kind::Word(Reserved::Fn) => {
                 let fn_ = tokens.word(Reserved::Fn)?;
                 self.function(tokens, fn_)

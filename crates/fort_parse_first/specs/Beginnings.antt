@@ -98,6 +98,7 @@ abbrev pub word_begins_head : Reserved → Bool
 word_begins_head reserved.Atomic = true
 word_begins_head reserved.Tryatomic = true
 word_begins_head reserved.Throw = true
+word_begins_head reserved.Spawn = true
 word_begins_head reserved.Fn = true
 word_begins_head reserved.Sum = true
 word_begins_head reserved.Prod = true

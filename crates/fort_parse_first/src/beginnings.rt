@@ -115,6 +115,7 @@ fn word_begins_head(word: Reserved) -> bool
         Reserved::Atomic
             | Reserved::Tryatomic
             | Reserved::Throw
+            | Reserved::Spawn
             | Reserved::Fn
             | Reserved::Sum
             | Reserved::Prod

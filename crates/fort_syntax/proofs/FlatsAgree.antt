@@ -144,6 +144,8 @@ module _ (names wide : Spellings) (on : GoesOn names wide) {n : ℕ} (run sun : 
       agrees_then _ _ _ _ (agrees_accept _ ts all) (λ s m1 h1. agrees_read h1)
   same_word_head reserved.Throw ts all =
       agrees_then _ _ _ _ (agrees_accept _ ts all) (λ s m1 h1. agrees_read h1)
+  same_word_head reserved.Spawn ts all =
+      agrees_then _ _ _ _ (agrees_accept _ ts all) (λ s m1 h1. agrees_read h1)
   same_word_head reserved.Fn ts all =
       agrees_then _ _ _ _ (agrees_accept _ ts all) (λ x1 m1 h1. same_function x1 m1 h1)
   same_word_head reserved.Sum ts all =

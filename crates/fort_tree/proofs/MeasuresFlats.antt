@@ -77,6 +77,10 @@ pub measures-Throw : (s : Spot) → measured_head (a_head.Throw s) ≡ measure_h
 unfolding measured_head
 measures-Throw s = search (rules, the_lemmas)
 
+pub measures-Spawn : (s : Spot) → measured_head (a_head.Spawn s) ≡ measure_head (Head-F.Spawn s)
+unfolding measured_head
+measures-Spawn s = search (rules, the_lemmas)
+
 pub measures-Fn : (fn_ left : Spot) (parameters : Option Parameters) (right arrow : Spot)
     → measured_head (a_head.Fn fn_ left parameters right arrow)
     ≡ measure_head (Head-F.Fn fn_ left parameters right arrow)

@@ -73,6 +73,10 @@ pub says-Throw : (s : Spot) → said_head (a_head.Throw s) ≡ head_step (Head-F
 unfolding said_head
 says-Throw s = search (rules, the_lemmas)
 
+pub says-Spawn : (s : Spot) → said_head (a_head.Spawn s) ≡ head_step (Head-F.Spawn s)
+unfolding said_head
+says-Spawn s = search (rules, the_lemmas)
+
 pub says-Fn : (fn_ left : Spot) (parameters : Option Parameters) (right arrow : Spot)
     → said_head (a_head.Fn fn_ left parameters right arrow)
     ≡ head_step (Head-F.Fn fn_ left parameters right arrow)

@@ -80,6 +80,8 @@ head_step (Head-F.Tryatomic s) =
     record { first = word reserved.Tryatomic s; more = []; obeys = λ names allowed. true }
 head_step (Head-F.Throw s) =
     record { first = word reserved.Throw s; more = []; obeys = λ names allowed. true }
+head_step (Head-F.Spawn s) =
+    record { first = word reserved.Spawn s; more = []; obeys = λ names allowed. true }
 head_step (Head-F.Fn s left parameters right arrow) = record {
   first = word reserved.Fn s;
   more = marked mark.OpenParen left

@@ -94,6 +94,7 @@ abbrev pub measure_head : MeasuredHead → Measured
 measure_head (Head-F.Atomic s) = made_of s [] []
 measure_head (Head-F.Tryatomic s) = made_of s [] []
 measure_head (Head-F.Throw s) = made_of s [] []
+measure_head (Head-F.Spawn s) = made_of s [] []
 measure_head (Head-F.Fn s left parameters right arrow) =
     made_of s (over most_parameters (parameter_count parameters) s.place)
     (measured_parameters parameters)

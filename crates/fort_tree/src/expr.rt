@@ -43,8 +43,8 @@ pub enum AssignSign {
     SubtractBecomes(Spot),
 }
 
-/// `Head = "atomic" | "tryatomic" | "throw" | "fn" "(" [Param ("," Param)*] ")" "=>" | Big "[" Gen
-/// "]"`
+/// `Head = "atomic" | "tryatomic" | "throw" | "spawn" | "fn" "(" [Param ("," Param)*] ")" "=>" |
+/// Big "[" Gen "]"`
 #[cycle(tree)]
 #[derive(Drop)]
 pub enum Head {
@@ -54,6 +54,8 @@ pub enum Head {
     Tryatomic(Spot),
     /// `"throw"`
     Throw(Spot),
+    /// `"spawn"`
+    Spawn(Spot),
     /// `"fn" "(" [Param ("," Param)*] ")" "=>"`
     Fn {
         fn_: Spot,

@@ -31,7 +31,7 @@ use Rattle.fort_tree.specs.Measuring.{measured_delimited, measured_atom, measure
 use Rattle.fort_tree.specs.declared.grouped.Row.{Row}
 use Rattle.fort_tree.specs.Measured.{Measured, Joined, Listed, all_flats, maybe_measured, listed_parts}
 use Rattle.fort_tree.specs.Measuring.{row_of}
-use Rattle.fort_tree.proofs.MeasuresFlats.{measures-Flat, measures-Assign, measures-Open, measures-OpenAssign, measures-Atomic, measures-Tryatomic, measures-Throw, measures-Fn, measures-Big, measures-Parallel, measures-Sequential, flat_measures, measures-Run, measures-Infix, operand_measures, run_measures, measures-Atom, measures-Postfix, measures-Subscript, measures-Power, measures-Field, measures-Call, measures-Name, measures-Number, measures-Text, measures-True, measures-False, measures-Self_, measures-Parens, measures-Delimited, measures-ArrayFill, expr_list_measures, next_expr_measures}
+use Rattle.fort_tree.proofs.MeasuresFlats.{measures-Flat, measures-Assign, measures-Open, measures-OpenAssign, measures-Atomic, measures-Tryatomic, measures-Throw, measures-Spawn, measures-Fn, measures-Big, measures-Parallel, measures-Sequential, flat_measures, measures-Run, measures-Infix, operand_measures, run_measures, measures-Atom, measures-Postfix, measures-Subscript, measures-Power, measures-Field, measures-Call, measures-Name, measures-Number, measures-Text, measures-True, measures-False, measures-Self_, measures-Parens, measures-Delimited, measures-ArrayFill, expr_list_measures, next_expr_measures}
 use Rattle.fort_tree_flats.proofs.Lists.{joined, last, two, three}
 use Rattle.fort_tree_flats.proofs.Types.{none_in_type, none_in_parameters}
 
@@ -72,6 +72,9 @@ flats-Tryatomic s = ap (λ (m : Measured). m.flats) (measures-Tryatomic s)
 
 pub flats-Throw : (s : Spot) → (measured_head (a_head.Throw s)).flats ≡ []
 flats-Throw s = ap (λ (m : Measured). m.flats) (measures-Throw s)
+
+pub flats-Spawn : (s : Spot) → (measured_head (a_head.Spawn s)).flats ≡ []
+flats-Spawn s = ap (λ (m : Measured). m.flats) (measures-Spawn s)
 
 pub flats-Fn : (fn_ left : Spot) (parameters : Option Parameters) (right arrow : Spot)
     → (measured_head (a_head.Fn fn_ left parameters right arrow)).flats ≡ []

@@ -62,6 +62,7 @@ fn add_head(head: &Head, rows: &mut List<Row>) -> Result<(), Memory>
         Head::Atomic(_) => {}
         Head::Tryatomic(_) => {}
         Head::Throw(_) => {}
+        Head::Spawn(_) => {}
         Head::Fn { .. } => {}
         Head::Big { generator, .. } => add_generator(generator, rows)?,
     }

@@ -2119,6 +2119,7 @@ module _ (g : Place → Place)
   met_head (Head-F.Atomic s) = refl
   met_head (Head-F.Tryatomic s) = refl
   met_head (Head-F.Throw s) = refl
+  met_head (Head-F.Spawn s) = refl
   met_head (Head-F.Fn s left parameters right arrow) = refl
   met_head (Head-F.Big big left generator right) =
       λ i. Head-F.Big (moved_big g big) (moved_spot g left) (generator.1 i) (moved_spot g right)

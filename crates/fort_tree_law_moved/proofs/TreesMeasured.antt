@@ -282,6 +282,7 @@ module _ (g : Place → Place) where
   meets_head (Head-F.Atomic s) = refl
   meets_head (Head-F.Tryatomic s) = refl
   meets_head (Head-F.Throw s) = refl
+  meets_head (Head-F.Spawn s) = refl
   meets_head (Head-F.Fn s left parameters right arrow) =
       made_moves g s (over most_parameters (parameter_count parameters) s.place)
       (measured_parameters parameters) refl

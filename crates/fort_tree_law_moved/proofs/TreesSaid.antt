@@ -267,6 +267,7 @@ module _ (g : Place → Place) where
   meets_head (Head-F.Atomic s) = refl
   meets_head (Head-F.Tryatomic s) = refl
   meets_head (Head-F.Throw s) = refl
+  meets_head (Head-F.Spawn s) = refl
   meets_head (Head-F.Fn s left parameters right arrow) =
       same_said refl (under (piece g _ _ (parameters_tokens g parameters) refl))
       (λ names allowed. parameters_hold g names parameters)

@@ -115,6 +115,7 @@ module _ (g : Place → Place)
   head_level (Head-F.Atomic s) = Head-F.Atomic (moved_spot g s)
   head_level (Head-F.Tryatomic s) = Head-F.Tryatomic (moved_spot g s)
   head_level (Head-F.Throw s) = Head-F.Throw (moved_spot g s)
+  head_level (Head-F.Spawn s) = Head-F.Spawn (moved_spot g s)
   head_level (Head-F.Fn s left parameters right arrow) =
       Head-F.Fn (moved_spot g s) (moved_spot g left) (option_map (moved_parameters g) parameters)
       (moved_spot g right) (moved_spot g arrow)

@@ -34,7 +34,7 @@ use Rattle.fort_tree.specs.Measuring.{measured_delimited, measured_atom, measure
 use Rattle.fort_tree.specs.Types.{parameter_count}
 use Rattle.fort_tree.specs.Measured.{all_crowded, listed_parts, maybe_measured, most_parameters, most_tuple_parts, most_units, most_elements, over}
 use Rattle.fort_tree.specs.Measures.{measured_type, measured_parameters}
-use Rattle.fort_tree.proofs.MeasuresFlats.{measures-Flat, measures-Assign, measures-Open, measures-OpenAssign, measures-Atomic, measures-Tryatomic, measures-Throw, measures-Fn, measures-Big, measures-Parallel, measures-Sequential, flat_measures, measures-Run, measures-Infix, operand_measures, run_measures, measures-Atom, measures-Postfix, measures-Subscript, measures-Power, measures-Field, measures-Call, measures-Name, measures-Number, measures-Text, measures-True, measures-False, measures-Self_, measures-Parens, measures-Delimited, measures-ArrayFill, expr_list_measures, next_expr_measures}
+use Rattle.fort_tree.proofs.MeasuresFlats.{measures-Flat, measures-Assign, measures-Open, measures-OpenAssign, measures-Atomic, measures-Tryatomic, measures-Throw, measures-Spawn, measures-Fn, measures-Big, measures-Parallel, measures-Sequential, flat_measures, measures-Run, measures-Infix, operand_measures, run_measures, measures-Atom, measures-Postfix, measures-Subscript, measures-Power, measures-Field, measures-Call, measures-Name, measures-Number, measures-Text, measures-True, measures-False, measures-Self_, measures-Parens, measures-Delimited, measures-ArrayFill, expr_list_measures, next_expr_measures}
 use Rattle.fort_tree_limits.specs.Earliest.{earliest}
 use Rattle.fort_tree_limits.proofs.EarliestLaws.{all_crowded-append, earliest_append, earliest_none, one_and}
 
@@ -78,6 +78,10 @@ walks-Tryatomic found s = simp (measures-Tryatomic, earliest_append, earliest_no
 pub walks-Throw : (found : Option Place) (s : Spot)
     → earliest found (measured_head (a_head.Throw s)).crowded ≡ found
 walks-Throw found s = simp (measures-Throw, earliest_append, earliest_none)
+
+pub walks-Spawn : (found : Option Place) (s : Spot)
+    → earliest found (measured_head (a_head.Spawn s)).crowded ≡ found
+walks-Spawn found s = simp (measures-Spawn, earliest_append, earliest_none)
 
 pub walks-Fn : (found : Option Place) (fn_ left : Spot) (parameters : Option Parameters)
     (right arrow : Spot)

@@ -76,6 +76,7 @@ impl Walk {
             Head::Atomic(_) => {}
             Head::Tryatomic(_) => {}
             Head::Throw(_) => {}
+            Head::Spawn(_) => {}
             Head::Fn {
                 fn_,
                 parameters,

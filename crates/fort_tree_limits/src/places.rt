@@ -97,6 +97,7 @@ pub(crate) fn place_of_head(head: &Head) -> Place
         Head::Atomic(spot) => spot.place,
         Head::Tryatomic(spot) => spot.place,
         Head::Throw(spot) => spot.place,
+        Head::Spawn(spot) => spot.place,
         Head::Fn { fn_, .. } => fn_.place,
         Head::Big { big, .. } => place_of_big(*big),
     }

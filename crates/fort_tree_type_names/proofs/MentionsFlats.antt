@@ -74,6 +74,10 @@ pub mentions-Throw : (s : Spot) → mentioned_head (a_head.Throw s) ≡ mention_
 unfolding mentioned_head
 mentions-Throw s = search (rules, the_lemmas)
 
+pub mentions-Spawn : (s : Spot) → mentioned_head (a_head.Spawn s) ≡ mention_head (Head-F.Spawn s)
+unfolding mentioned_head
+mentions-Spawn s = search (rules, the_lemmas)
+
 pub mentions-Fn : (fn_ left : Spot) (parameters : Option Parameters) (right arrow : Spot)
     → mentioned_head (a_head.Fn fn_ left parameters right arrow)
     ≡ mention_head (Head-F.Fn fn_ left parameters right arrow)

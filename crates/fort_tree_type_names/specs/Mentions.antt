@@ -77,6 +77,7 @@ abbrev pub mention_head : MentionedHead → Mentioned
 mention_head (Head-F.Atomic s) = []
 mention_head (Head-F.Tryatomic s) = []
 mention_head (Head-F.Throw s) = []
+mention_head (Head-F.Spawn s) = []
 mention_head (Head-F.Fn s left parameters right arrow) = mentioned_parameters parameters
 mention_head (Head-F.Big big left generator right) = generator
 

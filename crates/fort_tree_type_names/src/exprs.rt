@@ -65,6 +65,7 @@ fn add_head(head: &Head, names: &mut List<Name>) -> Result<(), Memory>
         Head::Atomic(_) => {}
         Head::Tryatomic(_) => {}
         Head::Throw(_) => {}
+        Head::Spawn(_) => {}
         Head::Fn { parameters, .. } => add_parameters(parameters, names)?,
         Head::Big { generator, .. } => add_generator(generator, names)?,
     }

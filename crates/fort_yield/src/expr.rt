@@ -81,6 +81,7 @@ fn put_head(head: &Head, out: &mut List<Token>) -> Result<(), Memory>
         Head::Atomic(spot) => put_word(out, Reserved::Atomic, *spot)?,
         Head::Tryatomic(spot) => put_word(out, Reserved::Tryatomic, *spot)?,
         Head::Throw(spot) => put_word(out, Reserved::Throw, *spot)?,
+        Head::Spawn(spot) => put_word(out, Reserved::Spawn, *spot)?,
         Head::Fn {
             fn_,
             left,

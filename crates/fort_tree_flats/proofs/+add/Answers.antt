@@ -27,7 +27,7 @@ use Rattle.fort_tree.specs.Measured.{Joined, all_flats, maybe_measured, listed_p
 use Rattle.fort_tree.specs.Measuring.{measured_also, measured_atom, measured_block_item, measured_case_clause, measured_catch, measured_delimited, measured_elif, measured_else_block, measured_else_clause, measured_expr, measured_finally, measured_flat, measured_flat_part, measured_generator, measured_head, measured_item, measured_next_expr, measured_next_generator, measured_postfix, measured_run_part, measured_type_clause, measured_variable}
 use Rattle.fort_tree_flats.proofs.Lists.{last, one_more, one_more_unit}
 use Rattle.fort_tree_flats.proofs.Steps.{by, nothing_added, one_added, two_added, three_added, four_added}
-use Rattle.fort_tree_flats.proofs.FlatsExpressions.{flats-ArrayFill, flats-Assign, flats-Atom, flats-Atomic, flats-Big, flats-Call, flats-Delimited, flats-False, flats-Field, flats-Flat, flats-Fn, flats-Infix, flats-Name, flats-Number, flats-Open, flats-OpenAssign, flats-Parallel, flats-Parens, flats-Postfix, flats-Power, flats-Run, flats-Self_, flats-Sequential, flats-Subscript, flats-Text, flats-Throw, flats-True, flats-Tryatomic, flats_expr_list, flats_flat, flats_next_expr, flats_operand, flats_run}
+use Rattle.fort_tree_flats.proofs.FlatsExpressions.{flats-ArrayFill, flats-Assign, flats-Atom, flats-Atomic, flats-Big, flats-Call, flats-Delimited, flats-False, flats-Field, flats-Flat, flats-Fn, flats-Infix, flats-Name, flats-Number, flats-Open, flats-OpenAssign, flats-Parallel, flats-Parens, flats-Postfix, flats-Power, flats-Run, flats-Self_, flats-Sequential, flats-Subscript, flats-Text, flats-Throw, flats-Spawn, flats-True, flats-Tryatomic, flats_expr_list, flats_flat, flats_next_expr, flats_operand, flats_run}
 use Rattle.fort_tree_flats.proofs.FlatsBlocks.{flats-Case, flats-Do, flats-Expr, flats-For, flats-If, flats-Names, flats-Try, flats-Typecase, flats-Variable, flats-While, flats_also, flats_block_item, flats_case_clause, flats_catch, flats_elif, flats_else_block, flats_else_clause, flats_finally, flats_next_generator, flats_type_clause, flats_variable}
 use Rattle.fort_tree_flats.proofs.+add.Goals as goal
 
@@ -219,6 +219,10 @@ expressions::add_head-returns-in-Tryatomic t c =
 pub expressions::add_head-returns-in-Throw : goal.expressions::add_head-returns-in-Throw
 expressions::add_head-returns-in-Throw t c =
     nothing_added _ (ap (λ (x : Head). (measured_head x).flats) c.in-Throw.is ∙ flats-Throw _)
+
+pub expressions::add_head-returns-in-Spawn : goal.expressions::add_head-returns-in-Spawn
+expressions::add_head-returns-in-Spawn t c =
+    nothing_added _ (ap (λ (x : Head). (measured_head x).flats) c.in-Spawn.is ∙ flats-Spawn _)
 
 pub expressions::add_head-returns-in-Fn : goal.expressions::add_head-returns-in-Fn
 expressions::add_head-returns-in-Fn t c =

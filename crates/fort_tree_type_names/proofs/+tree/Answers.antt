@@ -28,7 +28,7 @@ use Rattle.fort_tree_type_names.specs.Mentioned.{all_mentioned, maybe_mentioned}
 use Rattle.fort_tree_type_names.specs.Mentions.{mentioned_type}
 use Rattle.fort_tree_type_names.specs.Mentioning.{mentioned_also, mentioned_atom, mentioned_block_item, mentioned_case_clause, mentioned_catch, mentioned_delimited, mentioned_elif, mentioned_else_block, mentioned_else_clause, mentioned_expr, mentioned_expr_list, mentioned_finally, mentioned_flat, mentioned_flat_part, mentioned_generator, mentioned_head, mentioned_item, mentioned_next_expr, mentioned_next_generator, mentioned_postfix, mentioned_run_part, mentioned_type_clause, mentioned_variable}
 use Rattle.fort_tree_type_names.proofs.Steps.{by, nothing_added, one_added, two_added, three_added, four_added, one_more_of}
-use Rattle.fort_tree_type_names.proofs.MentionsFlats.{mentions-ArrayFill, mentions-Assign, mentions-Atom, mentions-Atomic, mentions-Big, mentions-Call, mentions-Delimited, mentions-False, mentions-Field, mentions-Flat, mentions-Fn, mentions-Infix, mentions-Name, mentions-Number, mentions-Open, mentions-OpenAssign, mentions-Parallel, mentions-Parens, mentions-Postfix, mentions-Power, mentions-Run, mentions-Self_, mentions-Sequential, mentions-Subscript, mentions-Text, mentions-Throw, mentions-True, mentions-Tryatomic, expr_list_mentions, flat_mentions, next_expr_mentions, operand_mentions, run_mentions}
+use Rattle.fort_tree_type_names.proofs.MentionsFlats.{mentions-ArrayFill, mentions-Assign, mentions-Atom, mentions-Atomic, mentions-Big, mentions-Call, mentions-Delimited, mentions-False, mentions-Field, mentions-Flat, mentions-Fn, mentions-Infix, mentions-Name, mentions-Number, mentions-Open, mentions-OpenAssign, mentions-Parallel, mentions-Parens, mentions-Postfix, mentions-Power, mentions-Run, mentions-Self_, mentions-Sequential, mentions-Subscript, mentions-Text, mentions-Throw, mentions-Spawn, mentions-True, mentions-Tryatomic, expr_list_mentions, flat_mentions, next_expr_mentions, operand_mentions, run_mentions}
 use Rattle.fort_tree_type_names.proofs.MentionsBlocks.{mentions-Case, mentions-Do, mentions-Expr, mentions-For, mentions-If, mentions-Names, mentions-Try, mentions-Typecase, mentions-Variable, mentions-While, also_mentions, block_item_mentions, case_clause_mentions, catch_mentions, elif_mentions, else_block_mentions, else_clause_mentions, finally_mentions, next_generator_mentions, type_clause_mentions, variable_mentions}
 use Rattle.fort_tree_type_names.proofs.+tree.Goals as goal
 
@@ -81,6 +81,10 @@ exprs::add_head-returns-in-Tryatomic t c =
 pub exprs::add_head-returns-in-Throw : goal.exprs::add_head-returns-in-Throw
 exprs::add_head-returns-in-Throw t c =
     nothing_added _ (ap (λ (x : Head). mentioned_head x) c.in-Throw.is ∙ mentions-Throw _)
+
+pub exprs::add_head-returns-in-Spawn : goal.exprs::add_head-returns-in-Spawn
+exprs::add_head-returns-in-Spawn t c =
+    nothing_added _ (ap (λ (x : Head). mentioned_head x) c.in-Spawn.is ∙ mentions-Spawn _)
 
 pub exprs::add_head-returns-in_ok-add_parameters-in-Fn : goal.exprs::add_head-returns-in_ok-add_parameters-in-Fn
 exprs::add_head-returns-in_ok-add_parameters-in-Fn t c =

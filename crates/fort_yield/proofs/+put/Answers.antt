@@ -1,6 +1,6 @@
 use Rattle.std.proofs.Common.{arith, rules, append_assoc}
 use Rattle.std.proofs.lemmas.Grind.{common_steps}
-use Rattle.fort_tree.proofs.SaysFlats.{operand_says, expr_list_says, flat_says, next_expr_says, run_says, says-ArrayFill, says-Assign, says-Atom, says-Atomic, says-Big, says-Call, says-Delimited, says-False, says-Field, says-Flat, says-Fn, says-Infix, says-Name, says-Number, says-Open, says-OpenAssign, says-Parallel, says-Parens, says-Postfix, says-Power, says-Run, says-Self_, says-Sequential, says-Subscript, says-Text, says-Throw, says-True, says-Tryatomic}
+use Rattle.fort_tree.proofs.SaysFlats.{operand_says, expr_list_says, flat_says, next_expr_says, run_says, says-ArrayFill, says-Assign, says-Atom, says-Atomic, says-Big, says-Call, says-Delimited, says-False, says-Field, says-Flat, says-Fn, says-Infix, says-Name, says-Number, says-Open, says-OpenAssign, says-Parallel, says-Parens, says-Postfix, says-Power, says-Run, says-Self_, says-Sequential, says-Subscript, says-Text, says-Throw, says-Spawn, says-True, says-Tryatomic}
 use Rattle.fort_tree.proofs.SaysBlocks.{also_says, block_item_says, case_clause_says, catch_says, elif_says, else_block_says, else_clause_says, finally_says, next_generator_says, says-Case, says-Do, says-Expr, says-For, says-If, says-Names, says-Try, says-Typecase, says-Variable, says-While, type_clause_says, variable_says}
 use Rattle.fort_tree.specs.Yield.{said_also, said_block_item, said_case_clause, said_elif, said_flat_part, said_next_expr, said_next_generator, said_run_part, said_type_clause}
 use Rattle.fort_yield.proofs.More.{one_more, one_more_entry, after_var_tokens, prefixed_tokens}
@@ -33,6 +33,10 @@ expr::put_head-returns-in_ok-put_word-in-Tryatomic t c =
 pub expr::put_head-returns-in_ok-put_word-in-Throw : goal.expr::put_head-returns-in_ok-put_word-in-Throw
 expr::put_head-returns-in_ok-put_word-in-Throw t c =
     let is = c.in-Throw.is in grind (arith, common_steps, says-Throw)
+
+pub expr::put_head-returns-in_ok-put_word-in-Spawn : goal.expr::put_head-returns-in_ok-put_word-in-Spawn
+expr::put_head-returns-in_ok-put_word-in-Spawn t c =
+    let is = c.in-Spawn.is in grind (arith, common_steps, says-Spawn)
 
 pub expr::put_head-returns-in_ok-put_mark-in-Fn-3 : goal.expr::put_head-returns-in_ok-put_mark-in-Fn-3
 expr::put_head-returns-in_ok-put_mark-in-Fn-3 t c =

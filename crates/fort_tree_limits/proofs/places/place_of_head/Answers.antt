@@ -1,4 +1,4 @@
-use Rattle.fort_tree.proofs.MeasuresFlats.{measures-Atomic, measures-Big, measures-Fn, measures-Throw, measures-Tryatomic}
+use Rattle.fort_tree.proofs.MeasuresFlats.{measures-Atomic, measures-Big, measures-Fn, measures-Throw, measures-Spawn, measures-Tryatomic}
 use Rattle.fort_tree_limits.proofs.places.place_of_head.Goals as goal
 
 pub returns-in-Atomic : goal.returns-in-Atomic
@@ -9,6 +9,9 @@ returns-in-Tryatomic c = rw (c.in-Tryatomic.is, measures-Tryatomic)
 
 pub returns-in-Throw : goal.returns-in-Throw
 returns-in-Throw c = rw (c.in-Throw.is, measures-Throw)
+
+pub returns-in-Spawn : goal.returns-in-Spawn
+returns-in-Spawn c = rw (c.in-Spawn.is, measures-Spawn)
 
 pub returns-in-Fn : goal.returns-in-Fn
 returns-in-Fn c = rw (c.in-Fn.is, measures-Fn)

@@ -2,7 +2,7 @@ use Rattle.std.proofs.Common.{sym}
 use Rattle.std.proofs.lemmas.List.{append-nil}
 use Rattle.fort_tree.specs.Measuring.{measured_also, measured_block_item, measured_case_clause, measured_elif, measured_flat_part, measured_next_expr, measured_next_generator, measured_run_part, measured_type_clause}
 use Rattle.fort_tree_limits.proofs.EarliestLaws.{earliest_append, earliest_none, one_more}
-use Rattle.fort_tree_limits.proofs.ExprWalks.{walks-Flat, walks-Assign, walks-Open, walks-OpenAssign, walks-Atomic, walks-Tryatomic, walks-Throw, walks-Fn, walks-Big, walks-Parallel, walks-Sequential, flat_walks, walks-Run, walks-Infix, operand_walks, run_walks, walks-Atom, walks-Postfix, walks-Subscript, walks-Power, walks-Field, walks-Call, walks-Name, walks-Number, walks-Text, walks-True, walks-False, walks-Self_, walks-Parens, walks-Delimited, walks-ArrayFill, expr_list_walks, next_expr_walks}
+use Rattle.fort_tree_limits.proofs.ExprWalks.{walks-Flat, walks-Assign, walks-Open, walks-OpenAssign, walks-Atomic, walks-Tryatomic, walks-Throw, walks-Spawn, walks-Fn, walks-Big, walks-Parallel, walks-Sequential, flat_walks, walks-Run, walks-Infix, operand_walks, run_walks, walks-Atom, walks-Postfix, walks-Subscript, walks-Power, walks-Field, walks-Call, walks-Name, walks-Number, walks-Text, walks-True, walks-False, walks-Self_, walks-Parens, walks-Delimited, walks-ArrayFill, expr_list_walks, next_expr_walks}
 use Rattle.fort_tree_limits.proofs.BlockWalks.{walks-Do, walks-If, walks-While, walks-For, walks-Case, walks-Typecase, walks-Try, also_walks, elif_walks, else_block_walks, next_generator_walks, case_clause_walks, type_clause_walks, else_clause_walks, catch_walks, finally_walks, block_item_walks, variable_walks, walks-Variable, walks-Names, walks-Expr, block_first, block_empty}
 use Rattle.fort_tree_limits.proofs.walk.Walk.+tree.Goals as goal
 
@@ -26,6 +26,9 @@ head-returns-in-Tryatomic t c = rw (c.in-Tryatomic.is, walks-Tryatomic)
 
 pub head-returns-in-Throw : goal.head-returns-in-Throw
 head-returns-in-Throw t c = rw (c.in-Throw.is, walks-Throw)
+
+pub head-returns-in-Spawn : goal.head-returns-in-Spawn
+head-returns-in-Spawn t c = rw (c.in-Spawn.is, walks-Spawn)
 
 pub head-returns-in-Fn : goal.head-returns-in-Fn
 head-returns-in-Fn t c = rw (c.in-Fn.is, walks-Fn) (cc)
