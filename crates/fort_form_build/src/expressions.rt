@@ -3,12 +3,12 @@ ghost use Rattle.std.specs.Prelude.{◌≡◌, ◌∷◌, [], map, option_map, I
 ghost use Rattle.fort_tree.specs.declared.expr.Expr.{out-Expr};
 ghost use Rattle.fort_form_meaning.specs.Source.{Source};
 ghost use Rattle.fort_form_meaning.specs.Formed.{formed_expr, formed_generator, formed_head, formed_next_generator};
-ghost use Rattle.fort_form_meaning.specs.Forming.{assignment as assignment_of, big_place as place_of_big, opened, reduction as reduction_of, update as update_of};
+ghost use Rattle.fort_form_meaning.specs.Forming.{assignment as assignment_of, big_place as place_of_big, opened, reduction as reduction_of, spawned as spawned_of, update as update_of};
 ghost use Rattle.fort_form_tasks.specs.Tasks.{expr_at, inside_head, inside_maybe_head, next_source, source_form};
 ghost use Rattle.fort_form_build.specs.Taking.{Gives};
 
 use crate::taking::take;
-use fort_base::{Boxed, List, Memory, Place};
+use fort_base::{Boxed, List, Memory, NameId, Place};
 use fort_base_stack::Stack;
 use fort_form::{Form, Generator as FormGenerator, Reduction, Update};
 use fort_form_meaning::{Lookup, parameters, place_of};
@@ -150,6 +150,7 @@ fn headed<L: Lookup>(
         Head::Atomic(spot) => Ok(Form::Atomic(spot.place, boxed)),
         Head::Tryatomic(spot) => Ok(Form::Tryatomic(spot.place, boxed)),
         Head::Throw(spot) => Ok(Form::Throw(spot.place, boxed)),
+        Head::Spawn(spot) => Ok(spawned(alloc, lookup.spawning(), spot.place, boxed)?),
         Head::Fn {
             fn_,
             parameters: list,
@@ -168,6 +169,17 @@ fn headed<L: Lookup>(
             Ok(Form::Reduce(big_place(*big), reduction(*big), held, boxed))
         }
     }
+}
+
+/// The form of `spawn`: `spawn'(fn () => e)`, all of it at the place of the word.
+fn spawned(alloc: Global, spawning: NameId, place: Place, body: Boxed<Form>) -> Result<Form, Memory>
+    ensures { IfOk result (λ form. form ≡ spawned_of spawning place body.now) }
+{
+    let function = Boxed::new(alloc, Form::Fn(place, List::new(alloc), body))?;
+    let mut run = List::new(alloc);
+    run.push(Form::Name(place, spawning))?;
+    run.push(Form::Parens(place, function))?;
+    Ok(Form::Run(place, run))
 }
 
 /// What a reduction joins by.

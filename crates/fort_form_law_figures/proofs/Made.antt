@@ -308,6 +308,12 @@ good-Fn p ps f g =
     let e : out-Form (a_form.Fn p ps f) ≡ Form-F.Fn p ps f = search (rules, the_lemmas)
     in made (a_form.Fn p ps f) (Form-F.Fn p ps f) e g
 
+pub good-Spawn : (spawning : NameId) (p : Place) (f : Form) → HasFigures f
+    → HasFigures (spawned spawning p f)
+good-Spawn spawning p f g =
+    good-Run p (a_form.Name p spawning ∷ a_form.Parens p (a_form.Fn p [] f) ∷ [])
+    (good-Name p spawning, (good-Parens p (a_form.Fn p [] f) (good-Fn p [] f g), tt))
+
 pub good-Reduce : (p : Place) (r : Reduction) (s : Generator) (f : Form) → GoodGenerator s
     → HasFigures f → HasFigures (a_form.Reduce p r s f)
 good-Reduce p r s f g h =

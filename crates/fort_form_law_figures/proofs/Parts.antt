@@ -115,6 +115,7 @@ module _ (names : Spellings) where
   head-parts (Head-F.Atomic s) h = tt
   head-parts (Head-F.Tryatomic s) h = tt
   head-parts (Head-F.Throw s) h = tt
+  head-parts (Head-F.Spawn s) h = tt
   head-parts (Head-F.Fn s left parameters right arrow) h = tt
   head-parts (Head-F.Big big at_left generator at_right) h =
       (front (tokens_of generator) _ (back (big_more big) _ h.0.1).1, (elsewhere, h.1.1))

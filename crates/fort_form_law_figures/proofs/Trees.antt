@@ -51,7 +51,7 @@ use Rattle.fort_tree.specs.Blocks.{has_next_name, delimited_step, item_step, var
 use Rattle.fort_tree.specs.Yield.{said_delimited, said_item, said_atom, said_expr, said_flat_part, said_generator, said_head, said_postfix, said_run_part, said_variable, said_also, said_block_item, said_case_clause, said_catch, said_elif, said_else_block, said_else_clause, said_finally, said_next_generator, said_type_clause, said_expr_list, said_flat, said_next_expr, said_operand, said_run}
 use Rattle.fort_sound_forms.specs.Figures.{HasFigures}
 use Rattle.fort_form_law_figures.proofs.Parts.{Reads, ReadsEntry, ReadsElse, DelimitedReads, delimited-parts, ItemReads, item-parts, AtomReads, atom-parts, ExprReads, expr-parts, FlatPartReads, flat-part-parts, GeneratorReads, generator-parts, HeadReads, head-parts, PostfixReads, postfix-parts, RunPartReads, run-part-parts, VariableReads, variable-parts, AlsoReads, also-parts, BlockItemReads, block-item-parts, CaseClauseReads, case-clause-parts, CatchReads, catch-parts, ElifReads, elif-parts, ElseBlockReads, else-block-parts, ElseClauseReads, else-clause-parts, FinallyReads, finally-parts, NextGeneratorReads, next-generator-parts, TypeClauseReads, type-clause-parts, ExprListReads, expr-list-parts, FlatReads, flat-parts, NextExprReads, next-expr-parts, OperandReads, operand-parts, RunReads, run-parts}
-use Rattle.fort_form_law_figures.proofs.Made.{GoodItem, GoodBranch, GoodGenerator, GoodClause, AllGood, good-Number, good-Text, good-Truth, good-Receiver, good-Name, good-Parens, good-Tuple, good-Operator, good-Run, good-Subscript, good-Power, good-Field, good-Method, good-Fill, good-Block, good-Do, good-If, good-While, good-For, good-Case, good-Typecase, good-Try, good-Atomic, good-Tryatomic, good-Throw, good-Fn, good-Reduce, good-Assign, item-Local, item-Locals, item-Expression, good-branch, good-generator, good-clause}
+use Rattle.fort_form_law_figures.proofs.Made.{GoodItem, GoodBranch, GoodGenerator, GoodClause, AllGood, good-Number, good-Text, good-Truth, good-Receiver, good-Name, good-Parens, good-Tuple, good-Operator, good-Run, good-Subscript, good-Power, good-Field, good-Method, good-Fill, good-Block, good-Do, good-If, good-While, good-For, good-Case, good-Typecase, good-Try, good-Atomic, good-Tryatomic, good-Throw, good-Spawn, good-Fn, good-Reduce, good-Assign, item-Local, item-Locals, item-Expression, good-branch, good-generator, good-clause}
 use Rattle.fort_form_law_figures.proofs.Groups.{IsGroupedSource, flat-good}
 
 module _ (names : Spellings) (k : Source) (S : IsGroupedSource k) where
@@ -1105,6 +1105,7 @@ module _ (names : Spellings) (k : Source) (S : IsGroupedSource k) where
   head_level (Head-F.Atomic s) h = λ body g. good-Atomic _ body g
   head_level (Head-F.Tryatomic s) h = λ body g. good-Tryatomic _ body g
   head_level (Head-F.Throw s) h = λ body g. good-Throw _ body g
+  head_level (Head-F.Spawn s) h = λ body g. good-Spawn _ _ body g
   head_level (Head-F.Fn s left list right arrow) h = λ body g. good-Fn _ _ body g
   head_level (Head-F.Big big left generator right) h =
       λ body g. good-Reduce _ _ _ body (generator.1 h) g

@@ -417,6 +417,13 @@ module _ (P : Ty → Type 0) where
       in made (a_form.Fn p ps f) (Form-F.Fn p ps f) e (so (is f g))
       (all_join P (map parameter_type ps) (written f) (parameter-types ps h) g.1)
 
+  pub good-Spawn : (spawning : NameId) (p : Place) (f : Form) → IsGood f
+      → IsGood (spawned spawning p f)
+  good-Spawn spawning p f g =
+      let call = a_form.Parens p (a_form.Fn p [] f) in
+      good-Run p (a_form.Name p spawning) call [] (good-Name p spawning)
+      (as-element call (good-Parens p (a_form.Fn p [] f) (good-Fn p [] f tt g)), tt)
+
   pub good-Reduce : (p : Place) (r : Reduction) (s : Generator) (f : Form) → GoodGenerator s
       → IsGood f → IsGood (a_form.Reduce p r s f)
   good-Reduce p r s f h g =

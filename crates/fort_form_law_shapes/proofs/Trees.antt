@@ -56,7 +56,7 @@ use Rattle.fort_form_meaning.specs.Formed.{formed_delimited, formed_item, formed
 use Rattle.fort_form_meaning.specs.Forming.{form_delimited, form_item, form_atom, form_expr, form_flat_part, form_generator, form_head, form_postfix, form_run_part, form_variable, form_also, form_block_item, form_case_clause, form_catch, form_elif, form_else_block, form_else_clause, form_finally, form_next_generator, form_type_clause, form_expr_list, form_flat, form_next_expr, form_operand, form_run, parameter, next_parameter, parameters, run_of, between, arguments_of, prefixed, unit_at, begins, grouped_by, assignment, opened, block, block_place, caught}
 use Rattle.fort_form_law_shapes.specs.Fits.{IsFitSource}
 use Rattle.fort_form_law_shapes.proofs.Lists.{all_left, all_right}
-use Rattle.fort_form_law_shapes.proofs.Made.{IsGood, GoodElement, GoodItem, GoodBranch, GoodGenerator, GoodClause, as-element, good-Number, good-Text, good-Truth, good-Receiver, good-Name, good-Parens, good-Tuple, good-Operator, good-Run, element-Subscript, element-Power, element-Field, element-Method, good-Fill, good-Block, good-Do, good-If, good-While, good-For, good-Case, good-Typecase, good-Try, good-Atomic, good-Tryatomic, good-Throw, good-Fn, good-Reduce, good-Assign, item-Local, item-Locals, item-Expression, good-branch, good-generator, good-clause}
+use Rattle.fort_form_law_shapes.proofs.Made.{IsGood, GoodElement, GoodItem, GoodBranch, GoodGenerator, GoodClause, as-element, good-Number, good-Text, good-Truth, good-Receiver, good-Name, good-Parens, good-Tuple, good-Operator, good-Run, element-Subscript, element-Power, element-Field, element-Method, good-Fill, good-Block, good-Do, good-If, good-While, good-For, good-Case, good-Typecase, good-Try, good-Atomic, good-Tryatomic, good-Throw, good-Spawn, good-Fn, good-Reduce, good-Assign, item-Local, item-Locals, item-Expression, good-branch, good-generator, good-clause}
 use Rattle.fort_form_law_shapes.proofs.Groups.{grouped-good}
 
 module _ (P : Ty → Type 0) (Known : Name → Type 0) (k : Source) (S : IsFitSource P Known k) where
@@ -1277,6 +1277,7 @@ module _ (P : Ty → Type 0) (Known : Name → Type 0) (k : Source) (S : IsFitSo
   head_level (Head-F.Atomic s) h = λ body g. good-Atomic P s.place body g
   head_level (Head-F.Tryatomic s) h = λ body g. good-Tryatomic P s.place body g
   head_level (Head-F.Throw s) h = λ body g. good-Throw P s.place body g
+  head_level (Head-F.Spawn s) h = λ body g. good-Spawn P k.spawning s.place body g
   head_level (Head-F.Fn s left list right arrow) h =
       λ body g. good-Fn P s.place (parameters k list) body (parameters-good list h) g
   head_level (Head-F.Big big left generator right) h =

@@ -78,6 +78,11 @@ pub forms-Throw : (k : Source) (s : Spot)
 unfolding formed_head
 forms-Throw k s = search (rules, the_lemmas)
 
+pub forms-Spawn : (k : Source) (s : Spot)
+    → formed_head k (a_head.Spawn s) ≡ form_head k (Head-F.Spawn s)
+unfolding formed_head
+forms-Spawn k s = search (rules, the_lemmas)
+
 pub forms-Fn : (k : Source) (fn_ left : Spot) (parameters : Option Parameters) (right arrow : Spot)
     → formed_head k (a_head.Fn fn_ left parameters right arrow)
     ≡ form_head k (Head-F.Fn fn_ left parameters right arrow)
@@ -269,6 +274,7 @@ pub ruleset flat_levels = (
   forms-Atomic,
   forms-Tryatomic,
   forms-Throw,
+  forms-Spawn,
   forms-Fn,
   forms-Big,
   forms-Parallel,

@@ -206,11 +206,17 @@ big_place (a_big.Min s t) = s.place
 big_place (a_big.And s t) = s.place
 big_place (a_big.Or s t) = s.place
 
+-- `spawn e` is `spawn'(fn () => e)`, all of it at the place of the word.
+abbrev pub spawned : NameId → Place → Form → Form
+spawned spawning p body =
+    a_form.Run p (a_form.Name p spawning ∷ a_form.Parens p (a_form.Fn p [] body) ∷ [])
+
 -- What a head makes of the expression behind it.
 abbrev pub form_head : Source → FormedHead → Opening
 form_head k (Head-F.Atomic s) body = a_form.Atomic s.place body
 form_head k (Head-F.Tryatomic s) body = a_form.Tryatomic s.place body
 form_head k (Head-F.Throw s) body = a_form.Throw s.place body
+form_head k (Head-F.Spawn s) body = spawned k.spawning s.place body
 form_head k (Head-F.Fn s left list right arrow) body = a_form.Fn s.place (parameters k list) body
 form_head k (Head-F.Big big left generator right) body =
     a_form.Reduce (big_place big) (reduction big) generator body

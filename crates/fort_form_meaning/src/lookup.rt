@@ -3,11 +3,12 @@ ghost use Rattle.std.specs.Prelude.{◌≡◌, IfOk};
 ghost use Rattle.std.specs.Option.{option_copied};
 ghost use Rattle.fort_form_meaning.specs.Source.{Source};
 
-use fort_base::{Memory, Place, Ty};
+use fort_base::{Memory, NameId, Place, Ty};
 use fort_tree::{Grouped, TypeTree};
 use std::alloc::Global;
 
-/// The types that a component's trees write, and the groupings of its flat expressions.
+/// The types that a component's trees write, the groupings of its flat expressions, and the number
+/// of the name of the function that spawns threads.
 pub trait Lookup {
     // What is looked up.
     ghost source: { Self → Source };
@@ -19,4 +20,8 @@ pub trait Lookup {
     /// The grouping of the flat expression that begins at a place, or `None` where none does.
     fn grouping_at(&self, place: Place) -> Option<&Grouped>
         ensures { option_copied result ≡ (source self.now).grouping place };
+
+    /// The number of the name `spawn'`.
+    fn spawning(&self) -> NameId
+        ensures { result ≡ (source self.now).spawning };
 }

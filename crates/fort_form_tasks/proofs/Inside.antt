@@ -74,6 +74,10 @@ pub in-Throw : (k : Source) (s : Spot)
     → head_at k (out-Head (a_head.Throw s)) ≡ head_at k (Head-F.Throw s)
 in-Throw k s = search (rules, the_lemmas)
 
+pub in-Spawn : (k : Source) (s : Spot)
+    → head_at k (out-Head (a_head.Spawn s)) ≡ head_at k (Head-F.Spawn s)
+in-Spawn k s = search (rules, the_lemmas)
+
 pub in-Fn : (k : Source) (fn_ left : Spot) (parameters : Option Parameters) (right arrow : Spot)
     → head_at k (out-Head (a_head.Fn fn_ left parameters right arrow))
     ≡ head_at k (Head-F.Fn fn_ left parameters right arrow)

@@ -94,6 +94,7 @@ abbrev pub head_at : Source
 head_at k (Head-F.Atomic s) = []
 head_at k (Head-F.Tryatomic s) = []
 head_at k (Head-F.Throw s) = []
+head_at k (Head-F.Spawn s) = []
 head_at k (Head-F.Fn s left parameters right arrow) = []
 head_at k (Head-F.Big big left generator right) = source_form k generator ∷ []
 

@@ -67,6 +67,7 @@ fn see_in_head<'a>(head: &'a Head, tasks: &mut Stack<Task<'a>>) -> Result<(), Me
         Head::Atomic(_) => {}
         Head::Tryatomic(_) => {}
         Head::Throw(_) => {}
+        Head::Spawn(_) => {}
         Head::Fn { .. } => {}
         Head::Big { generator, .. } => see_source(generator, tasks)?,
     }

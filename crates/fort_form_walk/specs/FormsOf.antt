@@ -29,7 +29,7 @@ use Rattle.fort_tree.specs.declared.grouped.Groups.{Groups}
 use Rattle.fort_tree.specs.declared.spot.Name.{Name}
 use Rattle.fort_tree.specs.declared.grouped.FlatGrouping.{FlatGrouping}
 use Rattle.fort_hier.specs.Names.{Spelling}
-use Rattle.fort_hier.specs.Numbers.{number}
+use Rattle.fort_hier.specs.Numbers.{number, number_of}
 use Rattle.fort_member_fields.specs.Own.{types_of}
 use Rattle.fort_member.specs.Declarations.{function_place, owner_position}
 use Rattle.fort_member_fields.specs.Written.{written}
@@ -37,6 +37,10 @@ use Rattle.fort_form_meaning.specs.Source.{Source}
 use Rattle.fort_form_meaning.specs.Forming.{parameter, parameters}
 use Rattle.fort_form_meaning.specs.Formed.{formed_expr}
 use Rattle.fort_form_walk.specs.Groupings.{grouping_at}
+
+-- The number of the first name that is `spawn'`, or the one behind all names where none is.
+abbrev pub spawn_name : List Spelling → NameId
+spawn_name names = record { 0 = number_of names (codes "spawn'") }
 
 -- What the forms hang on: the types' names and the component's tell which type is written, the
 -- groupings are found by their places.
@@ -46,7 +50,11 @@ pub record Tables : Type 0 where
   pub groups : List FlatGrouping
 
 abbrev pub source : Tables → Source
-source n = record { written = written n.types n.names; grouping = grouping_at n.groups }
+source n = record {
+  written = written n.types n.names;
+  grouping = grouping_at n.groups;
+  spawning = spawn_name n.names;
+}
 
 -- the type of that name
 abbrev pub owner : Tables → Name → TypeId

@@ -8,6 +8,7 @@ ghost use Rattle.fort_form_walk.specs.Reading.{tables};
 use crate::bodies::bodies;
 use crate::groupings::GroupsByPlace;
 use crate::initials::initials;
+use crate::spawning::spawn_name;
 use crate::tables::Tables;
 use fort_base::Memory;
 use fort_form::Forms;
@@ -54,6 +55,7 @@ fn forms_by_heads(
         size: TYPE_NAME_COUNT + heads.len(),
         numbers,
         groups: GroupsByPlace::new(groups.list.as_slice()),
+        spawning: spawn_name(component.names.as_slice())?,
     };
     let forms = forms_over(alloc, component, &tables)?;
     Ok(forms)

@@ -7,6 +7,7 @@ mod groupings;
 mod initials;
 mod methods;
 mod places;
+mod spawning;
 mod tables;
 mod walk;
 mod written;

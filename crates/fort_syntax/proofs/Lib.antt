@@ -9,4 +9,5 @@ pub mod DeclarationsAgree
 pub mod WholeAgrees
 pub mod Stops
 pub mod Theorem
+pub mod GoesOver
 pub mod Answering

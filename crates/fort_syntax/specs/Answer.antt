@@ -102,3 +102,15 @@ Answers tokens (Err a_fault.Memory) = Unit {0}
 -- A token list has at most one tree.
 abbrev pub AtMostOne : Type 0
 AtMostOne = (tokens : Tokens) (c d : Component) → HasTree tokens c → HasTree tokens d → c ≡ d
+
+-- the same declarations, with these names and texts
+abbrev pub over : Spellings → List (List ℕ) → Component → Component
+over names texts c = record c { names = names; texts = texts }
+
+-- Where the names that tokens have by numbers are in their table, their tree is one over each table
+-- that goes on, whatever the texts.
+abbrev pub TreeGoesOver : Type 0
+TreeGoesOver = (tokens : Tokens) (more : Spellings) (known texts : List (List ℕ)) (c : Component)
+    → NumbersAreIn tokens.names known tokens.list → HasTree tokens c
+    → HasTree (record { list = tokens.list; names = tokens.names ++ more; texts = texts })
+    (over (tokens.names ++ more) texts c)

@@ -7,4 +7,4 @@ mod laws;
 
 pub use answer::component;
 pub use fort_parse_declarations::Parsed;
-pub use laws::at_most_one_tree;
+pub use laws::{at_most_one_tree, tree_goes_over};

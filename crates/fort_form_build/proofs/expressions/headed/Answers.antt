@@ -8,9 +8,9 @@ use Rattle.fort_tree.specs.declared.expr.Head.{Head, out-Head}
 use Rattle.fort_form_meaning.specs.Formed.{formed_generator, formed_head}
 use Rattle.fort_form_meaning.specs.Forming.{big_place, reduction}
 use Rattle.fort_form_meaning.specs.Levels.{Opening}
-use Rattle.fort_form_meaning.proofs.FormsFlats.{forms-Atomic, forms-Tryatomic, forms-Throw, forms-Fn, forms-Big}
+use Rattle.fort_form_meaning.proofs.FormsFlats.{forms-Atomic, forms-Tryatomic, forms-Throw, forms-Spawn, forms-Fn, forms-Big}
 use Rattle.fort_form_tasks.specs.Tasks.{head_at}
-use Rattle.fort_form_tasks.proofs.Inside.{in-Atomic, in-Tryatomic, in-Throw, in-Fn, in-Big}
+use Rattle.fort_form_tasks.proofs.Inside.{in-Atomic, in-Tryatomic, in-Throw, in-Spawn, in-Fn, in-Big}
 use Rattle.fort_form_build.proofs.Giving.{named_as, nothing, of_one, remade}
 use Rattle.fort_form_build.proofs.expressions.headed.Goals as goal
 

@@ -1,7 +1,7 @@
 use Rattle.std.proofs.Common.{ap, ◌∙◌}
 use Rattle.fort_tree.specs.declared.expr.Head.{Head, out-Head}
 use Rattle.fort_form_tasks.specs.Tasks.{head_at}
-use Rattle.fort_form_tasks.proofs.Inside.{in-Atomic, in-Tryatomic, in-Throw, in-Fn, in-Big}
+use Rattle.fort_form_tasks.proofs.Inside.{in-Atomic, in-Tryatomic, in-Throw, in-Spawn, in-Fn, in-Big}
 use Rattle.fort_form_tasks.proofs.Steps.{none_seen, one_seen}
 use Rattle.fort_form_tasks.proofs.expressions.see_in_head.Goals as goal
 
@@ -17,6 +17,10 @@ returns-in-Tryatomic c =
 pub returns-in-Throw : goal.returns-in-Throw
 returns-in-Throw c =
     λ k. none_seen k (ap (λ (x : Head). head_at k (out-Head x)) c.in-Throw.is ∙ in-Throw k _)
+
+pub returns-in-Spawn : goal.returns-in-Spawn
+returns-in-Spawn c =
+    λ k. none_seen k (ap (λ (x : Head). head_at k (out-Head x)) c.in-Spawn.is ∙ in-Spawn k _)
 
 pub returns-in-Fn : goal.returns-in-Fn
 returns-in-Fn c =
