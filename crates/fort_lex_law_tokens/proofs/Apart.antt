@@ -18,7 +18,7 @@ use Rattle.fort_lex_law_tokens.specs.Apart.{TokensStandApart}
 -- ---- places behind characters
 
 -- the first place stands before the second, or is it
-abbrev IsUpTo : Place → Place → Type 0
+abbrev pub IsUpTo : Place → Place → Type 0
 IsUpTo p q = (p.line < q.line) ⊎ ((p.line ≡ q.line) × (p.column ≤ q.column))
 
 through : (p q r : Place) → IsUpTo p q → IsUpTo q r → IsUpTo p r
@@ -39,7 +39,7 @@ one_before : (b : Bool) (p : Place) → IsBefore p (one_on b p)
 one_before true p = inl (omega arith)
 one_before false p = inr (refl, omega arith)
 
-up_to_behind : (p : Place) (cs : List ℕ) → IsUpTo p (place_after p cs)
+pub up_to_behind : (p : Place) (cs : List ℕ) → IsUpTo p (place_after p cs)
 up_to_behind p [] = inr (refl, omega arith)
 up_to_behind p (c ∷ cs) =
     let next = one_on (c == 10) p

@@ -1,2 +1,4 @@
 pub mod Numerals
 pub mod Apart
+pub mod Lines
+pub mod Named

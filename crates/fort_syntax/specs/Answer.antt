@@ -1,10 +1,14 @@
 -- The chapter "Grammar": what reading a token list answers: its one component, or the first broken
 -- rule of 202, 201 and 203 with its place. The code reads the tokens once, from left to right.
-use Rattle.std.specs.Prelude.{◌≡◌, ◌⊎◌, ℕ, List, [], ◌∷◌, ◌++◌, Option, Some, None, Result, Ok, Err}
+use Rattle.std.specs.Prelude.{◌≡◌, ◌⊎◌, ℕ, Bool, true, nat_lt, List, [], ◌∷◌, ◌++◌, length, Option, Some, None, Result, Ok, Err}
+use Rattle.std.specs.List.{AllByRecursion}
 use Rattle.fort_base.specs.declared.rules.TheConstants.{SYNTAX, TOO_DEEP, TOO_MANY}
 use Rattle.fort_base.specs.declared.refusal.Place.{Place}
 use Rattle.fort_base.specs.declared.refusal.CheckFault.{CheckFault}
 use Rattle.fort_base.specs.declared.refusal.CheckFault.TheVariants as a_fault
+use Rattle.fort_ops.specs.declared.op.Op.TheVariants as an_op
+use Rattle.fort_lex_token.specs.declared.token.Kind.{Kind}
+use Rattle.fort_lex_token.specs.declared.token.Kind.TheVariants as a_kind
 use Rattle.fort_lex_token.specs.declared.token.Token.{Token}
 use Rattle.fort_lex_token.specs.declared.token.Tokens.{Tokens}
 use Rattle.fort_tree.specs.declared.declarations.Component.{Component}
@@ -107,10 +111,20 @@ AtMostOne = (tokens : Tokens) (c d : Component) → HasTree tokens c → HasTree
 abbrev pub over : Spellings → List (List ℕ) → Component → Component
 over names texts c = record c { names = names; texts = texts }
 
--- Where the names that tokens have by numbers are in their table, their tree is one over each table
+-- whether a token's number of a name, where it has one, is below the numbers of names
+abbrev pub name_is_in : ℕ → Kind → Bool
+name_is_in names (a_kind.Name n) = nat_lt n.0 names
+name_is_in names (a_kind.Op (an_op.Word n)) = nat_lt n names
+name_is_in names _ = true
+
+-- Each number of a name among these tokens is in the table.
+abbrev pub NamesAreIn : Spellings → List Token → Type 0
+NamesAreIn names ts = AllByRecursion (λ (t : Token). name_is_in (length names) t.kind ≡ true) ts
+
+-- Where the numbers of names among tokens are in their table, their tree is one over each table
 -- that goes on, whatever the texts.
 abbrev pub TreeGoesOver : Type 0
-TreeGoesOver = (tokens : Tokens) (more : Spellings) (known texts : List (List ℕ)) (c : Component)
-    → NumbersAreIn tokens.names known tokens.list → HasTree tokens c
+TreeGoesOver = (tokens : Tokens) (more : Spellings) (texts : List (List ℕ)) (c : Component)
+    → NamesAreIn tokens.names tokens.list → HasTree tokens c
     → HasTree (record { list = tokens.list; names = tokens.names ++ more; texts = texts })
     (over (tokens.names ++ more) texts c)
