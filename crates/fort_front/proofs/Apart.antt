@@ -22,9 +22,10 @@ use Rattle.fort_types_sets.specs.declared.member.Members.{Members}
 use Rattle.fort_member_fields.specs.Rules as fields
 use Rattle.fort_member.specs.Answers.{AreMembers}
 use Rattle.fort_over.specs.Answers as overloads
+use Rattle.fort_spawn.proofs.One.{one_rewriting}
 use Rattle.fort_front.proofs.Overloaded.{none_reported}
 use Rattle.fort_front.proofs.Same.{ready, same_report, typed_once}
-use Rattle.fort_front.specs.Front.{IsFormed, IsAcceptedTree, in_grammar, in_tree, in_grouping, in_hierarchy, in_fields, in_overloads, in_typing, known, forms, NeverBoth, NeverBothInGrammar, NeverBothOfTree}
+use Rattle.fort_front.specs.Front.{IsFormed, IsAcceptedTree, IsAcceptedComponent, in_grammar, in_component, in_grouping, in_hierarchy, in_fields, in_overloads, in_typing, known, forms, NeverBoth, NeverBothInGrammar, NeverBothOfTree, NeverBothOfComponent}
 
 -- Where no token stands too deep, no first one does.
 none_deep : (ts : List Token) (place : Place) → AllShallow ts → FirstDeep ts place → ⊥
@@ -82,10 +83,17 @@ never_of_tree c program rule at a (in_typing g reported) =
     a.has_types (record { rule = rule; place = at })
     (same_report c g a.formed (record { rule = rule; place = at }) reported)
 
+pub never_of_component : NeverBothOfComponent
+never_of_component c program rule at a b =
+    let same : a.rewritten ≡ b.rewritten =
+    one_rewriting c a.rewritten b.rewritten a.becomes b.becomes in
+    never_of_tree b.rewritten program rule at
+    (subst (λ (x : Component). IsAcceptedTree x program) same a.keeps) b.breaks
+
 pub never : NeverBoth
 never tokens program rule at a (in_grammar breaks) =
     in_grammar_never tokens rule.0 at a.component a.is breaks
-never tokens program rule at a (in_tree c is breaks) =
+never tokens program rule at a (in_component c is breaks) =
     let same : a.component ≡ c = is.only a.component a.is.tree in
-    never_of_tree c program rule at
-    (subst (λ (x : Component). IsAcceptedTree x program) same a.keeps) breaks
+    never_of_component c program rule at
+    (subst (λ (x : Component). IsAcceptedComponent x program) same a.keeps) breaks

@@ -6,6 +6,7 @@ use Rattle.fort_base.specs.declared.refusal.CheckFault.TheVariants as a_fault
 use Rattle.fort_core.specs.declared.program.Program.{Program}
 use Rattle.fort_lex_token.specs.declared.token.Tokens.{Tokens}
 use Rattle.fort_syntax.specs.Answer as grammar
+use Rattle.fort_spawn.specs.Rewriting.{IsRewritten}
 use Rattle.fort_tree.specs.declared.declarations.Component.{Component}
 use Rattle.fort_tree.specs.declared.grouped.FlatGrouping.{FlatGrouping}
 use Rattle.fort_tree.specs.Limits.{flats}
@@ -22,7 +23,7 @@ use Rattle.fort_over.specs.Answers.{AreOver}
 use Rattle.fort_over.specs.Answers as overloads
 use Rattle.fort_typing.specs.Typing as typing
 use Rattle.fort_front.proofs.Same.{exact}
-use Rattle.fort_front.specs.Front.{Checks, ChecksTree, IsFormed, in_tree, in_grouping, in_hierarchy, in_fields, in_overloads, in_typing, known, forms}
+use Rattle.fort_front.specs.Front.{Checks, ChecksComponent, ChecksTree, IsFormed, in_component, in_grouping, in_hierarchy, in_fields, in_overloads, in_typing, known, forms}
 
 pub refused : (c : Component) (fault : CheckFault) → AnswersAll c (Err fault)
     → ChecksTree c (Err fault)
@@ -70,9 +71,17 @@ pub few_rows : (c : Component) (types : Hierarchy) → IsHierarchy c (type_names
     → length types.table.below ≤ 2 ^ 32
 few_rows c types typed = subst (λ n. n ≤ 2 ^ 32) (sym typed.rows.below.high) typed.few
 
+-- A component is accepted or refused as it is rewritten.
+pub of_rewritten : (c d : Component) (found : Result Program CheckFault) → IsRewritten c d
+    → ChecksTree d found → ChecksComponent c found
+of_rewritten c d (Ok program) is keeps = record { rewritten = d; becomes = is; keeps = keeps }
+of_rewritten c d (Err (a_fault.Refused rule place)) is breaks =
+    record { rewritten = d; becomes = is; breaks = breaks }
+of_rewritten c d (Err a_fault.Memory) is breaks = tt
+
 -- Tokens of a component are accepted or refused as it is.
 pub of_tokens : (tokens : Tokens) (c : Component) (found : Result Program CheckFault)
-    → grammar.IsComponent tokens c → ChecksTree c found → Checks tokens found
+    → grammar.IsComponent tokens c → ChecksComponent c found → Checks tokens found
 of_tokens tokens c (Ok program) is keeps = record { component = c; is = is; keeps = keeps }
-of_tokens tokens c (Err (a_fault.Refused rule place)) is breaks = in_tree c is breaks
+of_tokens tokens c (Err (a_fault.Refused rule place)) is breaks = in_component c is breaks
 of_tokens tokens c (Err a_fault.Memory) is breaks = tt

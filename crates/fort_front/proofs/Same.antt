@@ -30,7 +30,8 @@ use Rattle.fort_front_law_phases.proofs.Groupings.{groupings_once}
 use Rattle.fort_front_law_phases.proofs.Hierarchies.{hierarchy_once}
 use Rattle.fort_front_law_phases.proofs.Memberships.{members_once}
 use Rattle.fort_front_law_phases.proofs.Programs.{program_once}
-use Rattle.fort_front.specs.Front.{IsFormed, IsAcceptedTree, known, forms, OneProgram, OneProgramOfTree}
+use Rattle.fort_spawn.proofs.One.{one_rewriting}
+use Rattle.fort_front.specs.Front.{IsFormed, IsAcceptedComponent, IsAcceptedTree, known, forms, OneProgram, OneProgramOfComponent, OneProgramOfTree}
 
 -- ---- the laws of typing, of components
 
@@ -96,8 +97,15 @@ one_program_of_tree c p q a b =
     (t : Typed). IsProgramOf f.types f.members c.texts t p) same becomes)
     b.becomes
 
+pub one_program_of_component : OneProgramOfComponent
+one_program_of_component c p q a b =
+    let same : a.rewritten ≡ b.rewritten =
+    one_rewriting c a.rewritten b.rewritten a.becomes b.becomes in
+    one_program_of_tree b.rewritten p q
+    (subst (λ (d : Component). IsAcceptedTree d p) same a.keeps) b.keeps
+
 pub one_program : OneProgram
 one_program tokens p q a b =
     let same : a.component ≡ b.component = b.is.only a.component a.is.tree in
-    one_program_of_tree b.component p q
-    (subst (λ (c : Component). IsAcceptedTree c p) same a.keeps) b.keeps
+    one_program_of_component b.component p q
+    (subst (λ (c : Component). IsAcceptedComponent c p) same a.keeps) b.keeps

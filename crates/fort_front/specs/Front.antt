@@ -1,5 +1,5 @@
 -- The chapters "Grammar", "Operators", "Types", "Members", "Overload rules" and "Typing", their
--- refusals one after another, then docs/TRANSLATION.md: what `check_grammar` and `check` answer.
+-- refusals one after another, then "Threads that are spawned" and docs/TRANSLATION.md: what `check_grammar` and `check` answer.
 use Rattle.std.specs.Prelude.{◌≡◌, List, Result, Ok, Err}
 use Rattle.fort_base.specs.declared.refusal.Place.{Place}
 use Rattle.fort_base.specs.declared.refusal.Rule.{Rule}
@@ -28,6 +28,7 @@ use Rattle.fort_typing_rules.specs.Components.{HasTypes}
 use Rattle.fort_typing_rules.specs.Components as typing
 use Rattle.fort_elab_meaning.specs.Programs.{IsProgramOf}
 use Rattle.fort_syntax.specs.Answer as grammar
+use Rattle.fort_spawn.specs.Rewriting.{IsRewritten}
 
 -- The tokens are those of one component, which passes no limit.
 pub record IsGrammatical (tokens : Tokens) : Type 0 where
@@ -89,24 +90,44 @@ pub data BreaksTree (c : Component) (rule : Rule) (at : Place) : Type 0 where
       → typing.IsReported (known c f) (forms c f) (record { rule = rule; place = at })
       → BreaksTree c rule at
 
--- The component is accepted, with this program; or this is the rule that is reported.
+-- The component keeps the rules behind the grammar, with this program; or this is the rule that is
+-- reported.
 abbrev pub ChecksTree : Component → Result Program CheckFault → Type 0
 ChecksTree c (Ok program) = IsAcceptedTree c program
 ChecksTree c (Err (Refused rule at)) = BreaksTree c rule at
 ChecksTree c (Err Memory) = Unit {0}
 
--- The tokens are those of one component, which passes no limit and keeps all the rules behind the
--- grammar; and this is its program.
+-- The component, its spawned threads rewritten, keeps all the rules behind the grammar; and this is
+-- its program.
+pub record IsAcceptedComponent (c : Component) (program : Program) : Type 0 where
+  pub rewritten : Component
+  pub becomes : IsRewritten c rewritten
+  pub keeps : IsAcceptedTree rewritten program
+
+-- The component, its spawned threads rewritten, breaks this rule, at this place.
+pub record BreaksComponent (c : Component) (rule : Rule) (at : Place) : Type 0 where
+  pub rewritten : Component
+  pub becomes : IsRewritten c rewritten
+  pub breaks : BreaksTree rewritten rule at
+
+-- The component is accepted, with this program; or this is the rule that is reported.
+abbrev pub ChecksComponent : Component → Result Program CheckFault → Type 0
+ChecksComponent c (Ok program) = IsAcceptedComponent c program
+ChecksComponent c (Err (Refused rule at)) = BreaksComponent c rule at
+ChecksComponent c (Err Memory) = Unit {0}
+
+-- The tokens are those of one component, which passes no limit and is accepted; and this is its
+-- program.
 pub record IsAccepted (tokens : Tokens) (program : Program) : Type 0 where
   pub component : Component
   pub is : grammar.IsComponent tokens component
-  pub keeps : IsAcceptedTree component program
+  pub keeps : IsAcceptedComponent component program
 
 -- The token list breaks this rule, at this place: one of 202, 201 and 203; or, where it is a
 -- component, the one that this breaks.
 pub data Breaks (tokens : Tokens) (rule : Rule) (at : Place) : Type 0 where
   in_grammar : BreaksGrammar tokens rule at → Breaks tokens rule at
-  in_tree : (c : Component) → grammar.IsComponent tokens c → BreaksTree c rule at
+  in_component : (c : Component) → grammar.IsComponent tokens c → BreaksComponent c rule at
       → Breaks tokens rule at
 
 -- The same of a token list.
@@ -130,10 +151,20 @@ abbrev pub OneProgram : Type 0
 OneProgram = (tokens : Tokens) (p q : Program) → IsAccepted tokens p → IsAccepted tokens q → p ≡ q
 
 -- No component is accepted and breaks a rule.
+abbrev pub NeverBothOfComponent : Type 0
+NeverBothOfComponent = (c : Component) (program : Program) (rule : Rule) (at : Place)
+    → IsAcceptedComponent c program → BreaksComponent c rule at → ⊥
+
+-- A component that is accepted has one program.
+abbrev pub OneProgramOfComponent : Type 0
+OneProgramOfComponent = (c : Component) (p q : Program) → IsAcceptedComponent c p
+    → IsAcceptedComponent c q → p ≡ q
+
+-- No component keeps the rules behind the grammar and breaks one of them.
 abbrev pub NeverBothOfTree : Type 0
 NeverBothOfTree = (c : Component) (program : Program) (rule : Rule) (at : Place)
     → IsAcceptedTree c program → BreaksTree c rule at → ⊥
 
--- A component that is accepted has one program.
+-- A component that keeps the rules behind the grammar has one program.
 abbrev pub OneProgramOfTree : Type 0
 OneProgramOfTree = (c : Component) (p q : Program) → IsAcceptedTree c p → IsAcceptedTree c q → p ≡ q

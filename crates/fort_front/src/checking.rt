@@ -1,4 +1,6 @@
-ghost use Rattle.fort_front.specs.Front.{Checks, ChecksTree, GrammarAnswers};
+ghost use Rattle.fort_front.specs.Front.{Checks, ChecksComponent, ChecksTree, GrammarAnswers};
+ghost use Rattle.std.specs.Prelude.{◌≡◌};
+ghost use Rattle.fort_spawn.specs.Rewriting as spawn;
 
 use fort_base::CheckFault;
 use fort_core::Program;
@@ -9,7 +11,8 @@ use fort_hier::hierarchy;
 use fort_lex_token::Tokens;
 use fort_member::members;
 use fort_over::overloads;
-use fort_syntax::component;
+use fort_spawn::{has_spawn, rewritten};
+use fort_syntax::{Parsed, component};
 use fort_tree::Component;
 use fort_typing::typed;
 use std::alloc::Global;
@@ -44,12 +47,29 @@ pub fn check(alloc: Global, tokens: &Tokens) -> Result<Program, CheckFault>
     ensures { Checks tokens.now result }
 {
     let parsed = component(alloc, tokens)?;
+    let spawns = has_spawn(tokens.list.as_slice());
+    let program = check_component(alloc, parsed, spawns)?;
+    Ok(program)
+}
+
+/// Asks the rules behind the grammar of a component, its spawned threads rewritten, and makes its
+/// program. `spawns` says whether the word `spawn` stands in it. What `check` answers of tokens is
+/// what this answers of their one component. The chapter is "Threads that are spawned".
+pub fn check_component(
+    alloc: Global,
+    mut parsed: Parsed,
+    spawns: bool,
+) -> Result<Program, CheckFault>
+    requires { spawns ≡ spawn.spawns parsed.component }
+    ensures { ChecksComponent parsed.component result }
+{
+    rewritten(alloc, spawns, &mut parsed)?;
     let program = check_tree(alloc, &parsed.component)?;
     Ok(program)
 }
 
-/// Asks the rules behind the grammar of a component, as `check` does, and makes its program. What
-/// `check` answers of tokens is what this answers of their one component.
+/// Asks the rules behind the grammar of a component in which no thread is spawned, and makes its
+/// program.
 pub fn check_tree(alloc: Global, component: &Component) -> Result<Program, CheckFault>
     ensures { ChecksTree component.now result }
 {

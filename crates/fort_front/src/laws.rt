@@ -1,12 +1,14 @@
-ghost use Rattle.fort_front.specs.Front.{NeverBoth, NeverBothInGrammar, NeverBothOfTree, OneProgram, OneProgramOfTree};
+ghost use Rattle.fort_front.specs.Front.{NeverBoth, NeverBothInGrammar, NeverBothOfComponent, NeverBothOfTree, OneProgram, OneProgramOfComponent, OneProgramOfTree};
 ghost use Rattle.fort_front.specs.Calls.{ExactlyOne, NeverAbstract};
-ghost use Rattle.fort_front.specs.Written.{AcceptedIsWritten, AcceptedTreeIsWritten};
+ghost use Rattle.fort_front.specs.Written.{AcceptedComponentIsWritten, AcceptedIsWritten, AcceptedTreeIsWritten};
 
 use fort_elab_law_matched::component_is_written;
 
-/// A law: no token list is accepted and breaks a rule too, and no component.
+/// A law: no token list is accepted and breaks a rule too, and no component, be its threads
+/// rewritten or still to be.
 pub fn never_both()
     ensures tokens { NeverBoth }
+    ensures component { NeverBothOfComponent }
     ensures tree { NeverBothOfTree }
 {}
 
@@ -18,14 +20,15 @@ pub fn never_both_in_grammar()
 /// A law: a token list that is accepted is one program, and a component is.
 pub fn one_program()
     ensures tokens { OneProgram }
+    ensures component { OneProgramOfComponent }
     ensures tree { OneProgramOfTree }
 {}
 
-/// A law of token lists whose tokens stand at places of their own, as those of a file do, and of
-/// the components whose tokens they are: the program of such a one that is accepted is as it is
-/// written. The chapter is "Programs as written" of docs/MACHINE.md.
+/// A law of token lists whose tokens are in order, as those of a file are, and of the components
+/// whose tokens they are: the program of such a one that is accepted is as it is written. The chapter is "Programs as written" of docs/MACHINE.md.
 pub fn accepted_is_written()
     ensures tokens { AcceptedIsWritten }
+    ensures component { AcceptedComponentIsWritten }
     ensures tree { AcceptedTreeIsWritten }
 {
     component_is_written();

@@ -6,8 +6,11 @@ use Rattle.fort_machine.specs.Effects.{Store}
 use Rattle.fort_machine.specs.Proper.{Reached}
 use Rattle.fort_lex_law_tokens.specs.Apart.{TokensStandApart}
 use Rattle.fort_lex_law_tokens.specs.Numerals.{FileNumbersFit}
+use Rattle.fort_lex_law_tokens.specs.Standing.{FileNamesAreIn, FileStandsOnLines}
+use Rattle.fort_spawn.specs.Rewriting.{tokens_of}
+use Rattle.fort_spawn.proofs.Trees.{rewritten_is_tree, rewritten_numbers_fit, rewritten_stands_apart}
 use Rattle.fort_sound_typed.specs.Goes.{ReachedIsTyped, ReachedIsOne, NoRunIsStuck}
-use Rattle.fort_sound.specs.Accepted.{KeepersAreSound, IsFounded, IsWell, AcceptedTreeIsSound, AcceptedIsSound, AcceptedRunsWell, AcceptedTreeRunsWell}
+use Rattle.fort_sound.specs.Accepted.{KeepersAreSound, AcceptedTreeIsSound, AcceptedComponentIsSound, FileIsInOrder, AcceptedIsSound, AcceptedRunsWell, FoundedRunsWell}
 
 pub accepted_tree : KeepersAreSound → AcceptedTreeIsSound
 accepted_tree sound tokens c p apart fit tree a =
@@ -24,14 +27,26 @@ accepted_tree sound tokens c p apart fit tree a =
       program = a.becomes;
     })
 
-pub accepted : KeepersAreSound → TokensStandApart → FileNumbersFit → AcceptedIsSound
-accepted sound apart fit bytes tokens p file a =
-    accepted_tree sound tokens a.component p (apart bytes tokens file) (fit bytes tokens file)
-    a.is.tree a.keeps
+pub accepted_component : AcceptedTreeIsSound → AcceptedComponentIsSound
+accepted_component sound tokens c p order fit tree a =
+    let d = a.rewritten in
+    sound (tokens_of d) d p (rewritten_stands_apart tokens c d tree order.apart order.lines a.becomes)
+    (rewritten_numbers_fit tokens c d tree fit a.becomes)
+    (rewritten_is_tree tokens c d order.named tree a.becomes) a.keeps
+
+pub in_order : TokensStandApart → FileStandsOnLines → FileNamesAreIn → FileIsInOrder
+in_order apart lines named bytes tokens file = record {
+  apart = apart bytes tokens file;
+  lines = lines bytes tokens file;
+  named = named bytes tokens file;
+}
+
+pub accepted : AcceptedComponentIsSound → FileIsInOrder → FileNumbersFit → AcceptedIsSound
+accepted sound order fit bytes tokens p file a =
+    sound tokens a.component p (order bytes tokens file) (fit bytes tokens file) a.is.tree a.keeps
 
 -- Wherever a machine of a founded program comes to, all is well.
-founded_runs_well : ReachedIsTyped → ReachedIsOne → NoRunIsStuck → (p : Program) → IsFounded p
-    → (inner : Bool) (s : Store) (t : Term) → Reached p inner s t → IsWell p inner s t
+pub founded_runs_well : ReachedIsTyped → ReachedIsOne → NoRunIsStuck → FoundedRunsWell
 founded_runs_well typed one never p f inner s t r =
     let w = typed p f.sound inner s t r in
     record {
@@ -41,11 +56,5 @@ founded_runs_well typed one never p f inner s t r =
       goes = never p f.sound f.defined f.complete inner s t r;
     }
 
-pub tree_runs_well : AcceptedTreeIsSound → ReachedIsTyped → ReachedIsOne → NoRunIsStuck
-    → AcceptedTreeRunsWell
-tree_runs_well sound typed one never tokens c p apart fit tree a =
-    founded_runs_well typed one never p (sound tokens c p apart fit tree a)
-
-pub runs_well : AcceptedIsSound → ReachedIsTyped → ReachedIsOne → NoRunIsStuck → AcceptedRunsWell
-runs_well sound typed one never bytes tokens p file a =
-    founded_runs_well typed one never p (sound bytes tokens p file a)
+pub runs_well : AcceptedIsSound → FoundedRunsWell → AcceptedRunsWell
+runs_well sound well bytes tokens p file a = well p (sound bytes tokens p file a)

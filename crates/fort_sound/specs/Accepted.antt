@@ -27,7 +27,8 @@ use Rattle.fort_sound_typed.specs.Sound.{Sound, Defined, Typed as TypedBy}
 use Rattle.fort_sound_typed.specs.Goes.{Complete, Goes}
 use Rattle.fort_elab_meaning.specs.Programs.{IsProgramOf}
 use Rattle.fort_elab_law_matched.specs.Component.{StandApart}
-use Rattle.fort_front.specs.Front.{IsAccepted, IsAcceptedTree}
+use Rattle.fort_front.specs.Front.{IsAccepted, IsAcceptedComponent, IsAcceptedTree}
+use Rattle.fort_front.specs.Written.{AreInOrder}
 use Rattle.fort_lex.specs.Files.{HasTokens}
 use Rattle.fort_lex_law_tokens.specs.Numerals.{Fits}
 
@@ -59,11 +60,21 @@ abbrev pub KeepersAreSound : Type 0
 KeepersAreSound = (tokens : Tokens) (c : Component) (h : Hierarchy) (m : Members) (groups : Groups)
     (typed : Typed) (p : Program) → KeepsAll tokens c h m groups typed p → IsFounded p
 
--- So is the program of an accepted component, where it is the tree of tokens that stand apart and
--- whose numbers are ZZ64 at most.
+-- So is the program of a component that keeps the rules behind the grammar, where it is the tree of
+-- tokens that stand apart and whose numbers are ZZ64 at most.
 abbrev pub AcceptedTreeIsSound : Type 0
 AcceptedTreeIsSound = (tokens : Tokens) (c : Component) (p : Program) → StandApart tokens.list
     → AllByRecursion Fits tokens.list → HasTree tokens c → IsAcceptedTree c p → IsFounded p
+
+-- So is the program of an accepted component, where it is the tree of tokens that are in order and
+-- whose numbers are ZZ64 at most.
+abbrev pub AcceptedComponentIsSound : Type 0
+AcceptedComponentIsSound = (tokens : Tokens) (c : Component) (p : Program) → AreInOrder tokens
+    → AllByRecursion Fits tokens.list → HasTree tokens c → IsAcceptedComponent c p → IsFounded p
+
+-- The tokens of a file are in order.
+abbrev pub FileIsInOrder : Type 0
+FileIsInOrder = (bytes : List ℕ) (tokens : Tokens) → HasTokens bytes tokens → AreInOrder tokens
 
 -- So is the program of a file whose tokens are accepted.
 abbrev pub AcceptedIsSound : Type 0
@@ -79,11 +90,9 @@ pub record IsWell (p : Program) (inner : Bool) (s : Store) (t : Term) : Type 0 w
   pub one : IsOne p t
   pub goes : Goes p inner s t
 
--- So it is wherever a machine of the program of such a component comes to, the root's or an
--- attempt's.
-abbrev pub AcceptedTreeRunsWell : Type 0
-AcceptedTreeRunsWell = (tokens : Tokens) (c : Component) (p : Program) → StandApart tokens.list
-    → AllByRecursion Fits tokens.list → HasTree tokens c → IsAcceptedTree c p
+-- So it is wherever a machine of such a program comes to, the root's or an attempt's.
+abbrev pub FoundedRunsWell : Type 0
+FoundedRunsWell = (p : Program) → IsFounded p
     → (inner : Bool) (s : Store) (t : Term) → Reached p inner s t → IsWell p inner s t
 
 -- And of the program of an accepted file.

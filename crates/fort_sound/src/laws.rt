@@ -1,8 +1,10 @@
-ghost use Rattle.fort_sound.specs.Accepted.{AcceptedIsSound, AcceptedRunsWell, AcceptedTreeIsSound, AcceptedTreeRunsWell, KeepersAreSound};
+ghost use Rattle.fort_sound.specs.Accepted.{AcceptedComponentIsSound, AcceptedIsSound, AcceptedRunsWell, AcceptedTreeIsSound, FileIsInOrder, FoundedRunsWell, KeepersAreSound};
 
 use fort_elab_law_matched::component_is_written;
 use fort_form_law_figures::forms_have_figures;
-use fort_lex_law_tokens::{file_numbers_fit, tokens_stand_apart};
+use fort_lex_law_tokens::{
+    file_names_are_in, file_numbers_fit, file_stands_on_lines, tokens_stand_apart,
+};
 use fort_sound_bodies::members_have_bodies;
 use fort_sound_defined::sets_keep_rules;
 use fort_sound_program::{
@@ -29,29 +31,45 @@ pub fn keepers_are_sound()
     forms_have_figures();
 }
 
-/// A law: so it is of the program of a component that the check accepts, where it is the tree of
-/// tokens that stand at places of their own and whose numbers are ZZ64 at most.
+/// A law: so it is of the program of a component that keeps the rules behind the grammar, where it
+/// is the tree of tokens that stand at places of their own and whose numbers are ZZ64 at most.
 pub fn accepted_tree_is_sound()
     ensures { AcceptedTreeIsSound }
 {
     keepers_are_sound();
 }
 
+/// A law: so it is of the program of a component that the check accepts, where it is the tree of
+/// tokens that are in order and whose numbers are ZZ64 at most.
+pub fn accepted_component_is_sound()
+    ensures { AcceptedComponentIsSound }
+{
+    accepted_tree_is_sound();
+}
+
+/// A law: the tokens of a file are in order. The chapter is "Tokens".
+pub fn file_is_in_order()
+    ensures { FileIsInOrder }
+{
+    tokens_stand_apart();
+    file_stands_on_lines();
+    file_names_are_in();
+}
+
 /// A law: so it is of the program of a file whose tokens the check accepts.
 pub fn accepted_is_sound()
     ensures { AcceptedIsSound }
 {
-    keepers_are_sound();
-    tokens_stand_apart();
+    accepted_component_is_sound();
+    file_is_in_order();
     file_numbers_fit();
 }
 
-/// A law of such a component: wherever a machine of its program comes to, the term is typed, each
-/// call of values in it has exactly one declaration that it runs, and it isn't stuck.
-pub fn accepted_tree_runs_well()
-    ensures { AcceptedTreeRunsWell }
+/// A law of such a program: wherever a machine of it comes to, the term is typed, each call of
+/// values in it has exactly one declaration that it runs, and it isn't stuck.
+pub fn founded_runs_well()
+    ensures { FoundedRunsWell }
 {
-    accepted_tree_is_sound();
     reached_is_typed();
     reached_is_one();
     no_run_is_stuck();
@@ -64,7 +82,5 @@ pub fn accepted_runs_well()
     ensures { AcceptedRunsWell }
 {
     accepted_is_sound();
-    reached_is_typed();
-    reached_is_one();
-    no_run_is_stuck();
+    founded_runs_well();
 }

@@ -6,6 +6,6 @@
 mod laws;
 
 pub use laws::{
-    accepted_is_sound, accepted_runs_well, accepted_tree_is_sound, accepted_tree_runs_well,
-    keepers_are_sound,
+    accepted_component_is_sound, accepted_is_sound, accepted_runs_well, accepted_tree_is_sound,
+    file_is_in_order, founded_runs_well, keepers_are_sound,
 };

@@ -11,7 +11,7 @@ use Rattle.fort_sound_typed.specs.Typing.{is_told}
 use Rattle.fort_sound_typed.proofs.Accepted.{facts}
 use Rattle.fort_walk_turns.specs.Stops.{MayGo, steps_on, aborts_here, tries, IsStuck, CannotGiveUp, StopsShort, stuck, cannot_give_up}
 use Rattle.fort_sound.specs.Accepted.{IsFounded, AcceptedIsSound}
-use Rattle.fort_sound_never.specs.Never.{AcceptedGoesThrough, AcceptedNeverStops}
+use Rattle.fort_sound_never.specs.Never.{AcceptedGoesThrough, AcceptedNeverStops, FoundedGoesThrough, FoundedNeverStops}
 use Rattle.fort_sound_never.proofs.Ends.{is_at_end}
 
 -- A thread that may go on by the words of fort_sound_typed may so by those of the walk.
@@ -39,11 +39,16 @@ module _ (stays : StaysTyped) (someone : SomeoneMayGo) (p : Program) (founded : 
   never_short (stuck k) = not_stuck k
   never_short (cannot_give_up k) = gives_up k
 
-pub accepted_never : AcceptedIsSound → StaysTyped → SomeoneMayGo → AcceptedNeverStops
-accepted_never sound stays someone bytes tokens p file is stops =
-    never_short stays someone p (sound bytes tokens p file is) stops
+pub founded_never : StaysTyped → SomeoneMayGo → FoundedNeverStops
+founded_never stays someone p founded stops = never_short stays someone p founded stops
+
+pub accepted_never : AcceptedIsSound → FoundedNeverStops → AcceptedNeverStops
+accepted_never sound never bytes tokens p file is stops =
+    never p (sound bytes tokens p file is) stops
 
 -- The rows of a sound program go through a third type.
-pub goes_through : AcceptedIsSound → AcceptedGoesThrough
-goes_through sound bytes tokens p file is a b c x y =
-    (facts p (sound bytes tokens p file is).sound).absorbs a b c (is_told x) y
+pub founded_through : FoundedGoesThrough
+founded_through p founded a b c x y = (facts p founded.sound).absorbs a b c (is_told x) y
+
+pub goes_through : AcceptedIsSound → FoundedGoesThrough → AcceptedGoesThrough
+goes_through sound through bytes tokens p file is = through p (sound bytes tokens p file is)

@@ -8,6 +8,7 @@ use Rattle.fort_core.specs.declared.program.Program.{Program}
 use Rattle.fort_machine.specs.Journals.{IsJournal}
 use Rattle.fort_audit_record.specs.Text.{HasText}
 use Rattle.fort_front.specs.Front.{IsAccepted}
+use Rattle.fort_sound.specs.Accepted.{IsFounded}
 use Rattle.fort_walk_turns.specs.Stops.{StopsShort}
 use Rattle.fort_disp.specs.Rows.{GoesThrough}
 
@@ -17,6 +18,15 @@ use Rattle.fort_disp.specs.Rows.{GoesThrough}
 abbrev pub AcceptedNeverStops : Type 0
 AcceptedNeverStops = (bytes : List ℕ) (tokens : Tokens) (p : Program) → HasTokens bytes tokens
     → IsAccepted tokens p → StopsShort p → ⊥
+
+-- No run of a founded program does: one that is sound and complete, and in which each call of typed
+-- values has one definition.
+abbrev pub FoundedNeverStops : Type 0
+FoundedNeverStops = (p : Program) → IsFounded p → StopsShort p → ⊥
+
+-- In such a program below goes through a third type.
+abbrev pub FoundedGoesThrough : Type 0
+FoundedGoesThrough = (p : Program) → IsFounded p → GoesThrough p
 
 -- In the program of a file whose tokens are accepted below goes through a third type.
 abbrev pub AcceptedGoesThrough : Type 0

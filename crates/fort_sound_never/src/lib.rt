@@ -6,4 +6,7 @@
 
 mod laws;
 
-pub use laws::{accepted_goes_through, accepted_has_text, accepted_never_stops};
+pub use laws::{
+    accepted_goes_through, accepted_has_text, accepted_never_stops, founded_goes_through,
+    founded_never_stops,
+};
