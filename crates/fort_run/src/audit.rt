@@ -4,7 +4,7 @@ ghost use Rattle.fort_audit.specs.Audits.{Audits};
 ghost use Rattle.fort_audit.specs.declared.answer.Audited.{Audited};
 ghost use Rattle.fort_lex.specs.Files.{HasTokens};
 ghost use Rattle.fort_machine.specs.Written.{WrittenProgram};
-ghost use Rattle.fort_elab_law_matched.specs.Component.{StandApart};
+ghost use Rattle.fort_front.specs.Written.{AreInOrder};
 ghost use Rattle.fort_run.specs.Reply.{AuditMeans, RecordMeans, RecordSays, audited, file_limit, refused_record};
 ghost use Rattle.fort_run.specs.Said.{said};
 
@@ -16,8 +16,8 @@ use fort_base::{Bytes, Memory};
 use fort_core::Program;
 use fort_front::{accepted_is_written, check};
 use fort_lex::{Tokens, tokens};
-use fort_lex_law_tokens::tokens_stand_apart;
 use fort_port::Shelf;
+use fort_sound::file_is_in_order;
 use std::alloc::Global;
 
 /// What is meant to say of the component's file of that name and of the record under another: the
@@ -35,7 +35,7 @@ pub(crate) fn audit_file<F: Shelf>(
         (λ a. AuditMeans name file.now (F.holding shelf.old kept.now) (F.faults shelf.old)
         (F.faults shelf.new) (said a)) }
 {
-    tokens_stand_apart();
+    file_is_in_order();
     match tokens(alloc, file.as_slice()) {
         Ok(tokens) => audit_tokens(alloc, name, kept, &tokens, shelf),
         Err(fault) => refused_by(name, fault),
@@ -50,7 +50,7 @@ fn audit_tokens<F: Shelf>(
     tokens: &Tokens,
     shelf: &mut F,
 ) -> Result<Answer, Memory>
-    requires { StandApart tokens.now.list }
+    requires { AreInOrder tokens.now }
     ensures kept { F.holding shelf.new ≡ F.holding shelf.old }
     ensures means { IfOk result (λ a. (file : Seq ℕ) → HasTokens file tokens.now
         → AuditMeans name file (F.holding shelf.old kept.now) (F.faults shelf.old)

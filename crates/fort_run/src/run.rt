@@ -5,7 +5,7 @@ ghost use Rattle.fort_core.specs.declared.program.Program.{Program};
 ghost use Rattle.fort_front.specs.Front.{IsAccepted};
 ghost use Rattle.fort_lex.specs.Files.{HasTokens};
 ghost use Rattle.fort_machine.specs.Written.{WrittenProgram};
-ghost use Rattle.fort_elab_law_matched.specs.Component.{StandApart};
+ghost use Rattle.fort_front.specs.Written.{AreInOrder};
 ghost use Rattle.fort_walk_course.specs.Calls.{IsRun};
 ghost use Rattle.fort_disp.specs.Rows.{GoesThrough};
 ghost use Rattle.fort_walk_turns.specs.Defined.{AlwaysOne};
@@ -20,9 +20,8 @@ use fort_diag::uncaught;
 use fort_disp::tables;
 use fort_front::{accepted_is_written, check};
 use fort_lex::{Tokens, tokens};
-use fort_lex_law_tokens::tokens_stand_apart;
 use fort_port::Gate;
-use fort_sound::accepted_runs_well;
+use fort_sound::{accepted_runs_well, file_is_in_order};
 use fort_sound_never::{accepted_goes_through, accepted_never_stops};
 use fort_walk::{Ran, walk};
 use std::alloc::Global;
@@ -43,7 +42,7 @@ pub(crate) fn run_file<R: Threads + Sync, G: Gate + Sync>(
     requires { length file.now ≤ file_limit }
     ensures { IfOk result (λ a. RunSays its_output name file.now fuel (said a)) }
 {
-    tokens_stand_apart();
+    file_is_in_order();
     accepted_never_stops();
     accepted_goes_through();
     accepted_runs_well();
@@ -63,7 +62,7 @@ fn formed<R: Threads + Sync, G: Gate + Sync>(
     workers: u32,
     fuel: u64,
 ) -> Result<Answer, Memory>
-    requires apart { StandApart tokens.now.list }
+    requires order { AreInOrder tokens.now }
     requires never { (p : Program) → IsAccepted tokens.now p → StopsShort p → ⊥ }
     requires one { (p : Program) → IsAccepted tokens.now p → AlwaysOne p }
     requires through { (p : Program) → IsAccepted tokens.now p → GoesThrough p }

@@ -6,7 +6,7 @@ use Rattle.fort_run.proofs.audit.audit_file.Goals as goal
 
 pub audit_tokens-requires : goal.audit_tokens-requires
 audit_tokens-requires g c =
-    c.tokens_stand_apart.ensures c.args.file.now c.in-Ok.tokens
+    c.file_is_in_order.ensures c.args.file.now c.in-Ok.tokens
     (rw c.as_slice.ensures at c.in-Ok.ensures.answer)
 
 pub returns-in-Ok-clause-means : goal.returns-in-Ok-clause-means

@@ -5,7 +5,7 @@ use Rattle.fort_run.proofs.run.formed.Goals as goal
 
 pub run_program-requires-clause-written : goal.run_program-requires-clause-written
 run_program-requires-clause-written g c κs within =
-    c.accepted_is_written.ensures.tokens c.args.tokens.now c.in-Ok.program c.requires.apart
+    c.accepted_is_written.ensures.tokens c.args.tokens.now c.in-Ok.program c.requires.order
     c.in-Ok.ensures
 
 pub run_program-requires-clause-never : goal.run_program-requires-clause-never

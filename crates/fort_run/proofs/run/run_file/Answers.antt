@@ -4,10 +4,10 @@ use Rattle.fort_lex.specs.Files.{Answers}
 use Rattle.fort_run.proofs.Refused.{tokens_refused}
 use Rattle.fort_run.proofs.run.run_file.Goals as goal
 
-pub formed-requires-clause-apart : goal.formed-requires-clause-apart
-formed-requires-clause-apart g c κs within =
+pub formed-requires-clause-order : goal.formed-requires-clause-order
+formed-requires-clause-order g c κs within =
     let has = rw c.as_slice.ensures at c.in-Ok.ensures.answer in
-    c.tokens_stand_apart.ensures c.args.file.now c.in-Ok.tokens has
+    c.file_is_in_order.ensures c.args.file.now c.in-Ok.tokens has
 
 pub formed-requires-clause-never : goal.formed-requires-clause-never
 formed-requires-clause-never g c κs within =
