@@ -173,7 +173,7 @@ fn headed<L: Lookup>(
 
 /// The form of `spawn`: `spawn'(fn () => e)`, all of it at the place of the word.
 fn spawned(alloc: Global, spawning: NameId, place: Place, body: Boxed<Form>) -> Result<Form, Memory>
-    ensures { IfOk result (λ form. form ≡ spawned_of spawning place body.now) }
+    ensures { IfOk result (λ form. form ≡ spawned_of spawning place body) }
 {
     let function = Boxed::new(alloc, Form::Fn(place, List::new(alloc), body))?;
     let mut run = List::new(alloc);

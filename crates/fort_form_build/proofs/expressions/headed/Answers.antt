@@ -6,7 +6,7 @@ use Rattle.fort_form.specs.declared.form.Generator.{Generator as FormGenerator}
 use Rattle.fort_form.specs.declared.form.Parameter.{Parameter}
 use Rattle.fort_tree.specs.declared.expr.Head.{Head, out-Head}
 use Rattle.fort_form_meaning.specs.Formed.{formed_generator, formed_head}
-use Rattle.fort_form_meaning.specs.Forming.{big_place, reduction}
+use Rattle.fort_form_meaning.specs.Forming.{big_place, reduction, spawned}
 use Rattle.fort_form_meaning.specs.Levels.{Opening}
 use Rattle.fort_form_meaning.proofs.FormsFlats.{forms-Atomic, forms-Tryatomic, forms-Throw, forms-Spawn, forms-Fn, forms-Big}
 use Rattle.fort_form_tasks.specs.Tasks.{head_at}
@@ -67,3 +67,13 @@ returns-in_ok-held-in-Big g c =
     c.args.body) (sym c.big_place.ensures)
     ∙ ap (λ r. a_form.Reduce c.big_place.result r (formed_generator k c.in-Big.tree) c.args.body)
     (sym c.reduction.ensures)))
+
+pub returns-in_ok-spawned-in-Spawn : goal.returns-in_ok-spawned-in-Spawn
+returns-in_ok-spawned-in-Spawn g c =
+    let k = g.L.Lookup.source c.args.lookup.now in
+    named_as (nothing (c.in_ok-spawned-in-Spawn.ensures
+    ∙ ap (spawned k.spawning c.in-Spawn.spot.place) c.in_ok-boxed.ensures
+    ∙ ap (λ id. spawned id c.in-Spawn.spot.place c.args.body) c.spawning.ensures)) (ap (λ
+    (x : Head). head_at k (out-Head x)) c.in-Spawn.is ∙ in-Spawn k _) (ap (λ
+    (x : Head). formed_head k x c.args.body) c.in-Spawn.is ∙ ap (λ
+    (f : Opening). f c.args.body) (forms-Spawn k _))
