@@ -22,7 +22,7 @@ use Rattle.fort_types_sets.specs.declared.member.Members.{Members}
 use Rattle.fort_member_fields.specs.Rules as fields
 use Rattle.fort_member.specs.Answers.{AreMembers}
 use Rattle.fort_over.specs.Answers as overloads
-use Rattle.fort_spawn.proofs.One.{one_rewriting}
+use Rattle.fort_spawn.proofs.One as rewriting
 use Rattle.fort_front.proofs.Overloaded.{none_reported}
 use Rattle.fort_front.proofs.Same.{ready, same_report, typed_once}
 use Rattle.fort_front.specs.Front.{IsFormed, IsAcceptedTree, IsAcceptedComponent, in_grammar, in_component, in_grouping, in_hierarchy, in_fields, in_overloads, in_typing, known, forms, NeverBoth, NeverBothInGrammar, NeverBothOfTree, NeverBothOfComponent}
@@ -86,7 +86,7 @@ never_of_tree c program rule at a (in_typing g reported) =
 pub never_of_component : NeverBothOfComponent
 never_of_component c program rule at a b =
     let same : a.rewritten ≡ b.rewritten =
-    one_rewriting c a.rewritten b.rewritten a.becomes b.becomes in
+    rewriting.one c a.rewritten b.rewritten a.becomes b.becomes in
     never_of_tree b.rewritten program rule at
     (subst (λ (x : Component). IsAcceptedTree x program) same a.keeps) b.breaks
 

@@ -4,3 +4,4 @@ pub mod Apart
 pub mod Refused
 pub mod Called
 pub mod Programs
+pub mod Rewritten

@@ -6,7 +6,7 @@ use Rattle.fort_base.specs.declared.refusal.CheckFault.TheVariants as a_fault
 use Rattle.fort_core.specs.declared.program.Program.{Program}
 use Rattle.fort_lex_token.specs.declared.token.Tokens.{Tokens}
 use Rattle.fort_syntax.specs.Answer as grammar
-use Rattle.fort_spawn.specs.Rewriting.{IsRewritten}
+use Rattle.fort_spawn.specs.Rewritten.{IsRewritten}
 use Rattle.fort_tree.specs.declared.declarations.Component.{Component}
 use Rattle.fort_tree.specs.declared.grouped.FlatGrouping.{FlatGrouping}
 use Rattle.fort_tree.specs.Limits.{flats}

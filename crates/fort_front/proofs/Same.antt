@@ -30,7 +30,7 @@ use Rattle.fort_front_law_phases.proofs.Groupings.{groupings_once}
 use Rattle.fort_front_law_phases.proofs.Hierarchies.{hierarchy_once}
 use Rattle.fort_front_law_phases.proofs.Memberships.{members_once}
 use Rattle.fort_front_law_phases.proofs.Programs.{program_once}
-use Rattle.fort_spawn.proofs.One.{one_rewriting}
+use Rattle.fort_spawn.proofs.One as rewriting
 use Rattle.fort_front.specs.Front.{IsFormed, IsAcceptedComponent, IsAcceptedTree, known, forms, OneProgram, OneProgramOfComponent, OneProgramOfTree}
 
 -- ---- the laws of typing, of components
@@ -100,7 +100,7 @@ one_program_of_tree c p q a b =
 pub one_program_of_component : OneProgramOfComponent
 one_program_of_component c p q a b =
     let same : a.rewritten ≡ b.rewritten =
-    one_rewriting c a.rewritten b.rewritten a.becomes b.becomes in
+    rewriting.one c a.rewritten b.rewritten a.becomes b.becomes in
     one_program_of_tree b.rewritten p q
     (subst (λ (d : Component). IsAcceptedTree d p) same a.keeps) b.keeps
 

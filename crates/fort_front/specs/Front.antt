@@ -28,7 +28,7 @@ use Rattle.fort_typing_rules.specs.Components.{HasTypes}
 use Rattle.fort_typing_rules.specs.Components as typing
 use Rattle.fort_elab_meaning.specs.Programs.{IsProgramOf}
 use Rattle.fort_syntax.specs.Answer as grammar
-use Rattle.fort_spawn.specs.Rewriting.{IsRewritten}
+use Rattle.fort_spawn.specs.Rewritten.{IsRewritten}
 
 -- The tokens are those of one component, which passes no limit.
 pub record IsGrammatical (tokens : Tokens) : Type 0 where

@@ -1,6 +1,6 @@
 ghost use Rattle.fort_front.specs.Front.{Checks, ChecksComponent, ChecksTree, GrammarAnswers};
 ghost use Rattle.std.specs.Prelude.{◌≡◌};
-ghost use Rattle.fort_spawn.specs.Rewriting as spawn;
+ghost use Rattle.fort_spawn.specs.Rewritten as spawn;
 
 use fort_base::CheckFault;
 use fort_core::Program;

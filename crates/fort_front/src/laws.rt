@@ -3,6 +3,7 @@ ghost use Rattle.fort_front.specs.Calls.{ExactlyOne, NeverAbstract};
 ghost use Rattle.fort_front.specs.Written.{AcceptedComponentIsWritten, AcceptedIsWritten, AcceptedTreeIsWritten};
 
 use fort_elab_law_matched::component_is_written;
+use fort_spawn::{rewritten_obeys, rewritten_stands_apart};
 
 /// A law: no token list is accepted and breaks a rule too, and no component, be its threads
 /// rewritten or still to be.
@@ -32,6 +33,8 @@ pub fn accepted_is_written()
     ensures tree { AcceptedTreeIsWritten }
 {
     component_is_written();
+    rewritten_obeys();
+    rewritten_stands_apart();
 }
 
 /// A law of components that keep the rules: of each overload set exactly one declaration is most

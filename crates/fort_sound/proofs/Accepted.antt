@@ -1,14 +1,20 @@
 -- An accepted component keeps all the rules, and accepted tokens of a file are those of one.
-use Rattle.std.specs.Prelude.{Bool}
+use Rattle.std.proofs.Common.{Bool, List, [], ◌∷◌, sym, subst}
+use Rattle.std.specs.List.{AllByRecursion}
 use Rattle.fort_core.specs.declared.program.Program.{Program}
 use Rattle.fort_core.specs.declared.term.Term.{Term}
 use Rattle.fort_machine.specs.Effects.{Store}
 use Rattle.fort_machine.specs.Proper.{Reached}
 use Rattle.fort_lex_law_tokens.specs.Apart.{TokensStandApart}
-use Rattle.fort_lex_law_tokens.specs.Numerals.{FileNumbersFit}
+use Rattle.fort_lex_law_tokens.specs.Numerals.{FileNumbersFit, Fits, FitsKind}
+use Rattle.fort_lex_token.specs.declared.token.Kind.{Kind}
+use Rattle.fort_lex_token.specs.declared.token.Kind.TheVariants as kind
+use Rattle.fort_lex_token.specs.declared.token.Token.{Token}
+use Rattle.fort_tree.specs.Component.{yield}
 use Rattle.fort_lex_law_tokens.specs.Standing.{FileNamesAreIn, FileStandsOnLines}
-use Rattle.fort_spawn.specs.Rewriting.{tokens_of}
-use Rattle.fort_spawn.proofs.Trees.{rewritten_is_tree, rewritten_numbers_fit, rewritten_stands_apart}
+use Rattle.fort_spawn.specs.Laws as spawn
+use Rattle.fort_spawn.specs.Laws.{RewrittenNumbersFit, RewrittenObeys, RewrittenStandsApart}
+use Rattle.fort_front.proofs.Rewritten.{tokens_of, rewritten_is_tree, rewritten_apart}
 use Rattle.fort_sound_typed.specs.Goes.{ReachedIsTyped, ReachedIsOne, NoRunIsStuck}
 use Rattle.fort_sound.specs.Accepted.{KeepersAreSound, AcceptedTreeIsSound, AcceptedComponentIsSound, FileIsInOrder, AcceptedIsSound, AcceptedRunsWell, FoundedRunsWell}
 
@@ -27,12 +33,41 @@ accepted_tree sound tokens c p apart fit tree a =
       program = a.becomes;
     })
 
-pub accepted_component : AcceptedTreeIsSound → AcceptedComponentIsSound
-accepted_component sound tokens c p order fit tree a =
+-- numbers that are ZZ64 at most, in the words of both crates
+to_spawn : (k : Kind) → FitsKind k → spawn.FitsKind k
+to_spawn (kind.Word w) h = tt
+to_spawn (kind.Name n) h = tt
+to_spawn (kind.Number n) h = h
+to_spawn (kind.Text n) h = tt
+to_spawn (kind.Op o) h = tt
+to_spawn (kind.Mark m) h = tt
+
+from_spawn : (k : Kind) → spawn.FitsKind k → FitsKind k
+from_spawn (kind.Word w) h = tt
+from_spawn (kind.Name n) h = tt
+from_spawn (kind.Number n) h = h
+from_spawn (kind.Text n) h = tt
+from_spawn (kind.Op o) h = tt
+from_spawn (kind.Mark m) h = tt
+
+all_to_spawn : (ts : List Token) → AllByRecursion Fits ts → AllByRecursion spawn.Fits ts
+all_to_spawn [] h = tt
+all_to_spawn (t ∷ ts) h = (to_spawn t.kind h.0, all_to_spawn ts h.1)
+
+all_from_spawn : (ts : List Token) → AllByRecursion spawn.Fits ts → AllByRecursion Fits ts
+all_from_spawn [] h = tt
+all_from_spawn (t ∷ ts) h = (from_spawn t.kind h.0, all_from_spawn ts h.1)
+
+pub accepted_component : AcceptedTreeIsSound → RewrittenObeys → RewrittenStandsApart
+    → RewrittenNumbersFit → AcceptedComponentIsSound
+accepted_component sound obeys stands fits tokens c p order fit tree a =
     let d = a.rewritten in
-    sound (tokens_of d) d p (rewritten_stands_apart tokens c d tree order.apart order.lines a.becomes)
-    (rewritten_numbers_fit tokens c d tree fit a.becomes)
-    (rewritten_is_tree tokens c d order.named tree a.becomes) a.keeps
+    sound (tokens_of d) d p
+    (rewritten_apart stands tokens c d tree order.apart order.lines a.becomes)
+    (all_from_spawn (yield d)
+    (fits c d a.becomes
+    (all_to_spawn (yield c) (subst (AllByRecursion Fits) (sym tree.yields) fit))))
+    (rewritten_is_tree obeys tokens c d tree order.named a.becomes) a.keeps
 
 pub in_order : TokensStandApart → FileStandsOnLines → FileNamesAreIn → FileIsInOrder
 in_order apart lines named bytes tokens file = record {

@@ -11,6 +11,7 @@ use fort_sound_program::{
     program_has_bodies, program_is_complete, program_is_sound, program_sets_keep,
 };
 use fort_sound_typed::{no_run_is_stuck, reached_is_one, reached_is_typed, rules_define};
+use fort_spawn::{rewritten_numbers_fit, rewritten_obeys, rewritten_stands_apart};
 use fort_typing_law_ready::forms_are_ready;
 
 /// A law: the program of a component that keeps all the rules is sound and complete, and each call
@@ -45,6 +46,9 @@ pub fn accepted_component_is_sound()
     ensures { AcceptedComponentIsSound }
 {
     accepted_tree_is_sound();
+    rewritten_obeys();
+    rewritten_stands_apart();
+    rewritten_numbers_fit();
 }
 
 /// A law: the tokens of a file are in order. The chapter is "Tokens".
