@@ -72,7 +72,7 @@ pub returns-in_ok-spawned-in-Spawn : goal.returns-in_ok-spawned-in-Spawn
 returns-in_ok-spawned-in-Spawn g c =
     let k = g.L.Lookup.source c.args.lookup.now in
     named_as (nothing (c.in_ok-spawned-in-Spawn.ensures
-    ∙ ap (spawned k.spawning c.in-Spawn.spot.place) c.in_ok-boxed.ensures
+    ∙ ap (spawned c.spawning.result c.in-Spawn.spot.place) c.in_ok-boxed.ensures
     ∙ ap (λ id. spawned id c.in-Spawn.spot.place c.args.body) c.spawning.ensures)) (ap (λ
     (x : Head). head_at k (out-Head x)) c.in-Spawn.is ∙ in-Spawn k _) (ap (λ
     (x : Head). formed_head k x c.args.body) c.in-Spawn.is ∙ ap (λ
