@@ -1,0 +1,9 @@
+pub mod Units
+pub mod Parts
+pub mod Names
+pub mod Renamed
+pub mod Steps
+pub mod One
+pub mod Apart
+pub mod Fit
+pub mod Obeying

@@ -1,0 +1,24 @@
+ghost use Rattle.fort_spawn.specs.Laws.{OneRewriting, RewrittenNumbersFit, RewrittenObeys, RewrittenStandsApart};
+
+/// A component is rewritten as one component. The chapter is "Spawned threads".
+pub fn one_rewriting()
+    ensures { OneRewriting }
+{}
+
+/// A rewritten component keeps the rules on gaps and names, where the component does and the
+/// numbers of its names and texts are in its tables. The chapter is "Spawned threads".
+pub fn rewritten_obeys()
+    ensures { RewrittenObeys }
+{}
+
+/// The tokens of a rewritten component stand apart, where those of the component do and stand on
+/// lines from 1 on. The chapter is "Spawned threads".
+pub fn rewritten_stands_apart()
+    ensures { RewrittenStandsApart }
+{}
+
+/// The numbers of a rewritten component are ZZ64, where those of the component are. The chapter is
+/// "Spawned threads".
+pub fn rewritten_numbers_fit()
+    ensures { RewrittenNumbersFit }
+{}

@@ -1,0 +1,9 @@
+//! Components with spawned threads: the prelude before their declarations.
+#![tactic(auto)]
+
+mod laws;
+mod rewritten;
+mod starts;
+
+pub use laws::{one_rewriting, rewritten_numbers_fit, rewritten_obeys, rewritten_stands_apart};
+pub use rewritten::{has_spawn, rewritten};
