@@ -7,10 +7,10 @@ from editing import lexical
 WORDS = {
     "declaration": "component export trait object extends excludes comprises opr var fn array",
     "control": "do also if then elif else while for seq case typecase of try catch finally throw"
-               " end",
+               " spawn end",
     "atomic": "atomic tryatomic",
     "reduction": "BIG SUM PROD",
-    "unused": "import api spawn",
+    "unused": "import api",
     "constant": "true false",
     "self": "self",
 }

@@ -40,10 +40,10 @@ syn match fssTypeName /\K\k*/ contained
 syn keyword fssDeclaration component trait object nextgroup=fssTypeName skipwhite
 syn keyword fssDeclaration export extends excludes comprises opr var fn array
 syn keyword fssControl do also if then elif else while for seq case typecase of
-syn keyword fssControl try catch finally throw end
+syn keyword fssControl try catch finally throw spawn end
 syn keyword fssAtomic atomic tryatomic
 syn keyword fssReduction BIG SUM PROD
-syn keyword fssUnused import api spawn
+syn keyword fssUnused import api
 syn keyword fssConstant true false
 syn keyword fssSelf self
 syn keyword fssOperator TIMES DOT DIV REM MOD MAX MIN GCD LCM
