@@ -8,7 +8,8 @@ use Rattle.fort_tree.specs.declared.declarations.Declared.{Declared}
 use Rattle.fort_tree.specs.Tokens.{Spellings}
 use Rattle.fort_tree.specs.Said.{SaidEntry, entries_obey, begins_apart, last_semicolon, elsewhere}
 use Rattle.fort_tree.specs.Declarations.{said_declared}
-use Rattle.fort_tree.specs.Component.{Obeys, NumbersAreIn, export_obeys, yield}
+use Rattle.fort_tree.specs.Component.{Obeys, export_obeys, yield}
+use Rattle.fort_syntax.specs.Answer.{NamesAreIn, TreeGoesOver}
 use Rattle.fort_spawn_prelude.specs.Table.{Part, Entry, Word, Name, Number, Operator, Symbol, table}
 use Rattle.fort_spawn_prelude.specs.Numbers.{Spelling, number_of, with_spelling, with_part, extended_by}
 use Rattle.fort_spawn_prelude.specs.Prelude.{IsPrelude}
@@ -93,12 +94,17 @@ over c more = record {
 
 -- A component that keeps the rules over its names keeps them over names that go on.
 abbrev pub KeepsOn : Type 0
-KeepsOn = (c : Component) (more : Spellings) → NumbersAreIn c.names c.texts (yield c) → Obeys c
+KeepsOn = (c : Component) (more : Spellings) → NamesAreIn c.names (yield c) → Obeys c
     → Obeys (over c more)
+
+pub keeps_on : TreeGoesOver → KeepsOn
+keeps_on goes c more named obeys =
+    (goes (record { list = yield c; names = c.names; texts = c.texts }) more c.texts c named
+    (record { yields = refl; names = refl; texts = refl; obeys = obeys })).obeys
 
 module _ (keeps : KeepsOn) where
   with_obeys : (c : Component) (prelude : List Declared)
-      → IsPrelude (names_with c) (starts c) prelude → NumbersAreIn c.names c.texts (yield c)
+      → IsPrelude (names_with c) (starts c) prelude → NamesAreIn c.names (yield c)
       → Obeys c → Obeys (with_prelude c prelude)
   with_obeys c prelude h numbers obeys =
       let wide = names_with c in let on = goes_on c.names (table (starts c)) in

@@ -6,7 +6,8 @@ use Rattle.fort_lex_token.specs.declared.token.Kind.{Kind}
 use Rattle.fort_lex_token.specs.declared.token.Kind.TheVariants as kind
 use Rattle.fort_lex_token.specs.declared.token.Token.{Token}
 use Rattle.fort_tree.specs.declared.declarations.Component.{Component}
-use Rattle.fort_tree.specs.Component.{Obeys, NumbersAreIn, yield}
+use Rattle.fort_tree.specs.Component.{Obeys, yield}
+use Rattle.fort_syntax.specs.Answer.{NamesAreIn}
 use Rattle.fort_spawn.specs.Rewritten.{IsRewritten}
 
 -- ---- there is one
@@ -17,10 +18,10 @@ OneRewriting = (c d e : Component) → IsRewritten c d → IsRewritten c e → d
 
 -- ---- gaps and names
 
--- Where the numbers of its tokens are in its tables, the rules on gaps and names that hold in a
--- component hold in the rewritten one.
+-- Where the numbers of names among its tokens are in its table, the rules on gaps and names that
+-- hold in a component hold in the rewritten one.
 abbrev pub RewrittenObeys : Type 0
-RewrittenObeys = (c d : Component) → IsRewritten c d → NumbersAreIn c.names c.texts (yield c)
+RewrittenObeys = (c d : Component) → IsRewritten c d → NamesAreIn c.names (yield c)
     → Obeys c → Obeys d
 
 -- ---- places

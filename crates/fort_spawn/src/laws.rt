@@ -1,15 +1,19 @@
 ghost use Rattle.fort_spawn.specs.Laws.{OneRewriting, RewrittenNumbersFit, RewrittenObeys, RewrittenStandsApart};
 
+use fort_syntax::tree_goes_over;
+
 /// A component is rewritten as one component. The chapter is "Spawned threads".
 pub fn one_rewriting()
     ensures { OneRewriting }
 {}
 
 /// A rewritten component keeps the rules on gaps and names, where the component does and the
-/// numbers of its names and texts are in its tables. The chapter is "Spawned threads".
+/// numbers of its names are in its table. The chapter is "Spawned threads".
 pub fn rewritten_obeys()
     ensures { RewrittenObeys }
-{}
+{
+    tree_goes_over();
+}
 
 /// The tokens of a rewritten component stand apart, where those of the component do and stand on
 /// lines from 1 on. The chapter is "Spawned threads".
