@@ -10,7 +10,7 @@ pub fn spawn_name(names: &[Bytes]) -> Result<NameId, Memory>
     ensures { IfOk result (λ name. name ≡ spawn_name names.now) }
 {
     for at in 0..names.len() {
-        if names[at].as_slice() == b"spawn'" {
+        if names[at].as_slice() == b"spawn'".as_slice() {
             return numbered(at);
         }
     }

@@ -48,7 +48,7 @@ fn is_called_run(names: &[Bytes], name: Name) -> bool
     ensures { result ≡ is_spelled "run" names.now name }
 {
     match names.get(name.id.0 as usize) {
-        Some(spelling) => spelling.as_slice() == b"run",
+        Some(spelling) => spelling.as_slice() == b"run".as_slice(),
         None => false,
     }
 }
