@@ -7,3 +7,4 @@ pub mod One
 pub mod Apart
 pub mod Fit
 pub mod Obeying
+pub mod KeepsOn
