@@ -63,30 +63,26 @@ none_found test xs i h f = sym (f ∙ ap (list_any test) (drop_all i xs h))
 
 -- ---- the component
 
+-- a component with other declarations and names
+abbrev pub with_both : Component → List Declared → Spellings → Component
+with_both c declarations names = record {
+  component = c.component;
+  name = c.name;
+  export = c.export;
+  declarations = declarations;
+  end = c.end;
+  names = names;
+  texts = c.texts;
+}
+
 pub rewritten_is : (c : Component) (b : Bool) (names : Spellings) (prelude own all : List Declared)
     → spawns c ≡ true → b ≡ starts c → names ≡ extended c.names b
     → IsPrelude (extended c.names b) b prelude
     → own ≡ renamed_over b names c.names c.declarations → all ≡ prelude ++ own
-    → IsRewritten c (record {
-      component = c.component;
-      name = c.name;
-      export = c.export;
-      declarations = all;
-      end = c.end;
-      names = names;
-      texts = c.texts;
-    })
+    → IsRewritten c (with_both c all names)
 rewritten_is c b names prelude own all yes s n h o a =
     let n' : names ≡ names_with c = n ∙ ap (extended c.names) s in
     let o' : own ≡ renamed c =
     o ∙ ap₂ (λ x y. renamed_over x y c.names c.declarations) s n' in
     WithPrelude yes prelude (subst (λ x. IsPrelude (extended c.names x) x prelude) s h)
-    (ap₂ (λ ds ns. record {
-      component = c.component;
-      name = c.name;
-      export = c.export;
-      declarations = ds;
-      end = c.end;
-      names = ns;
-      texts = c.texts;
-    }) (a ∙ ap (λ z. prelude ++ z) o') n')
+    (ap₂ (with_both c) (a ∙ ap (λ z. prelude ++ z) o') n')
