@@ -26,6 +26,15 @@ extended_more of names rows i d h =
     ∙ (ap (extended_by names) (map-append of (take i rows) (get_or rows i d ∷ []))
     ∙ extended_append names (map of (take i rows)) (of (get_or rows i d) ∷ []))
 
+-- a further name behind those before it
+pub name_added : {R : Type 0} (of : R → Entry) (start now next : List Spelling) (rows : List R)
+    (i : ℕ) (d : R) → i < length rows → now ≡ extended_by start (map of (take i rows))
+    → next ≡ with_part now (of (get_or rows i d)).part
+    → next ≡ extended_by start (map of (take (i + 1) rows))
+name_added of start now next rows i d h e f =
+    f ∙ (ap (λ z. with_part z (of (get_or rows i d)).part) e
+    ∙ sym (extended_more of start rows i d h))
+
 -- ---- tokens
 
 pub tokens_append : (id : Spelling → NameId) (n : ℕ) (xs ys : List Entry)

@@ -13,8 +13,8 @@ unreachable-requires c =
     not_deep c.args.names.now _ c.as_slice-list.result.now _ _ refl c.new-cursor.ensures
     (failed deep_is_not)
 
-pub unreachable-requires-2 : goal.unreachable-requires-2
-unreachable-requires-2 c =
+pub unreachable-requires-in-Err-Syntax : goal.unreachable-requires-in-Err-Syntax
+unreachable-requires-in-Err-Syntax c =
     let failed = rw c.in-Err-Syntax.field-0-is at c.in-Err-Syntax.ensures in
     not_failed c.args.names.now c.args.starts _ _ _
     (c.new-cursor.ensures ∙ c.as_slice-list.ensures ∙ c.in_ok-tokens.ensures)
