@@ -182,6 +182,6 @@ with_apart c prelude h apart on =
         ∙ sym (map-append token_place (before c) (ps ++ back)))
 
 pub apart : RewrittenStandsApart
-apart c d (AsItIs no is) h on = subst (λ (x : Component). StandApart (yield x)) (sym is) h
-apart c d (WithPrelude yes prelude p is) h on =
+apart c d (AsItIs plain is) h on = subst (λ (x : Component). StandApart (yield x)) (sym is) h
+apart c d (WithPrelude has prelude p is) h on =
     subst (λ (x : Component). StandApart (yield x)) (sym is) (with_apart c prelude p h on)
