@@ -3,4 +3,3 @@ pub mod Begins
 pub mod Orders
 pub mod Walking
 pub mod Tabled
-pub mod Spawning

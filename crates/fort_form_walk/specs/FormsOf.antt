@@ -1,7 +1,8 @@
 -- The chapter "Typing", declarations: the forms of a component. The code walks the declarations
 -- once.
-use Rattle.std.specs.Prelude.{List, [], ◌∷◌, ◌++◌, Option, Some, None}
+use Rattle.std.specs.Prelude.{List, [], ◌∷◌, ◌++◌, Option, Some, None, codes}
 use Rattle.std.specs.List.{flat_map}
+use Rattle.fort_base.specs.declared.ids.NameId.{NameId}
 use Rattle.fort_base.specs.declared.ids.TypeId.{TypeId}
 use Rattle.fort_form.specs.declared.component.BodyForm.{BodyForm}
 use Rattle.fort_form.specs.declared.component.Forms.{Forms}

@@ -49,13 +49,15 @@ fn forms_by_heads(
     requires numbers { HoldsNumbers (all_types component.now.names heads.now) numbers.now }
     ensures { IfOk result (λ forms. forms ≡ forms_of component.now groups.now) }
 {
+    let names = component.names.as_slice();
+    let spawning = spawn_name(names)?;
     let tables = Tables {
         heads,
-        names: component.names.as_slice(),
+        names,
         size: TYPE_NAME_COUNT + heads.len(),
         numbers,
         groups: GroupsByPlace::new(groups.list.as_slice()),
-        spawning: spawn_name(component.names.as_slice())?,
+        spawning,
     };
     let forms = forms_over(alloc, component, &tables)?;
     Ok(forms)

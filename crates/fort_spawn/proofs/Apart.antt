@@ -1,7 +1,8 @@
 -- The tokens of a component with a prelude stand apart.
-use Rattle.std.proofs.Common.{◌≡◌, ◌≤◌, ◌<◌, ℕ, ◌+◌, zero, suc, Bool, true, false, ◌&&◌, ◌||◌, List, [], ◌∷◌, ◌++◌, map, refl, sym, ap, ap₂, subst, ◌∙◌, arith}
+use Rattle.std.proofs.Common.{◌≡◌, ◌≤◌, ◌<◌, ℕ, ◌+◌, Bool, true, false, ◌&&◌, ◌||◌, List, [], ◌∷◌, ◌++◌, map, refl, sym, ap, ap₂, subst, ◌∙◌, arith}
 use Rattle.std.specs.Prelude.{nat_eq}
 use Rattle.std.specs.List.{list_any, AllByRecursion}
+use Rattle.std.proofs.lemmas.Bool.{ne_eqb}
 use Rattle.std.proofs.lemmas.List.{map-append}
 use Rattle.fort_base.specs.declared.ids.NameId.{NameId}
 use Rattle.fort_base.specs.declared.refusal.Place.{Place}
@@ -51,12 +52,10 @@ lines_apart p q e = ap (λ b. b && nat_eq p.column q.column) e
 
 -- numbers that differ
 zero_below : (m n : ℕ) → 1 ≤ m → n ≡ 0 → nat_eq m n ≡ false
-zero_below zero n h e = absurd (omega arith)
-zero_below (suc m) n h e = ap (λ k. nat_eq (suc m) k) e
+zero_below m n h e = ne_eqb m n (λ q. absurd (omega arith))
 
 zero_above : (m n : ℕ) → m ≡ 0 → 1 ≤ n → nat_eq m n ≡ false
-zero_above m zero e h = absurd (omega arith)
-zero_above m (suc n) e h = ap (λ k. nat_eq k (suc n)) e
+zero_above m n e h = ne_eqb m n (λ q. absurd (omega arith))
 
 -- one from line 1 on isn't among those of line 0, nor the other way round
 not_low : (p : Place) (ps : List Place) → 1 ≤ p.line → AllByRecursion (On 0) ps
@@ -105,12 +104,8 @@ behind : (id : Spelling → NameId) (n m : ℕ) (es : List Entry) → n < m
     → list_any (same_place (place_at n)) (map token_place (tokens_from id m es)) ≡ false
 behind id n m [] h = refl
 behind id n m (e ∷ es) h =
-    ap₂ (λ a b. a || b) (unequal n m h) (behind id n (m + 1) es (omega arith))
-  where
-    unequal : (n m : ℕ) → n < m → nat_eq n m ≡ false
-    unequal n zero h = absurd (omega arith)
-    unequal zero (suc m) h = refl
-    unequal (suc n) (suc m) h = unequal n m (omega arith)
+    ap₂ (λ a b. a || b) (ne_eqb n m (λ q. absurd (omega arith)))
+    (behind id n (m + 1) es (omega arith))
 
 prelude_once : (id : Spelling → NameId) (n : ℕ) (es : List Entry)
     → PlacesOnce (map token_place (tokens_from id n es))
@@ -187,6 +182,6 @@ with_apart c prelude h apart on =
         ∙ sym (map-append token_place (before c) (ps ++ back)))
 
 pub apart : RewrittenStandsApart
-apart c d (AsItIs no is) h on = subst (λ (x : Component). StandApart (yield x)) (sym is) h
-apart c d (WithPrelude yes prelude p is) h on =
+apart c d (AsItIs plain is) h on = subst (λ (x : Component). StandApart (yield x)) (sym is) h
+apart c d (WithPrelude has prelude p is) h on =
     subst (λ (x : Component). StandApart (yield x)) (sym is) (with_apart c prelude p h on)

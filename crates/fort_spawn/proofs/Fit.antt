@@ -111,6 +111,6 @@ with_fits c prelude h fits =
     (join (said_by (renamed c)) (after c) own (back (said_by c.declarations) (after c) rest))))
 
 pub fit : RewrittenNumbersFit
-fit c d (AsItIs no is) h = subst (λ (x : Component). AllByRecursion Fits (yield x)) (sym is) h
-fit c d (WithPrelude yes prelude p is) h =
+fit c d (AsItIs plain is) h = subst (λ (x : Component). AllByRecursion Fits (yield x)) (sym is) h
+fit c d (WithPrelude has prelude p is) h =
     subst (λ (x : Component). AllByRecursion Fits (yield x)) (sym is) (with_fits c prelude p h)

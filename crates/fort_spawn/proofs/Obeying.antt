@@ -123,6 +123,6 @@ module _ (keeps : KeepsOn) where
       h.obeys kept)
 
   pub obeying : RewrittenObeys
-  obeying c d (AsItIs no is) numbers h = subst Obeys (sym is) h
-  obeying c d (WithPrelude yes prelude p is) numbers h =
+  obeying c d (AsItIs plain is) numbers h = subst Obeys (sym is) h
+  obeying c d (WithPrelude has prelude p is) numbers h =
       subst Obeys (sym is) (with_obeys c prelude p numbers h)

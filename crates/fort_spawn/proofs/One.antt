@@ -6,8 +6,8 @@ use Rattle.fort_spawn.specs.Rewritten.{IsRewritten, AsItIs, WithPrelude, spawns,
 use Rattle.fort_spawn.specs.Laws.{OneRewriting}
 
 pub one : OneRewriting
-one c d e (AsItIs no is) (AsItIs no' is') = is ∙ sym is'
-one c d e (AsItIs no is) (WithPrelude yes prelude h is') = absurd (cc (no, yes))
-one c d e (WithPrelude yes prelude h is) (AsItIs no is') = absurd (cc (no, yes))
-one c d e (WithPrelude yes prelude h is) (WithPrelude yes' prelude' h' is') =
+one c d e (AsItIs plain is) (AsItIs plain' is') = is ∙ sym is'
+one c d e (AsItIs plain is) (WithPrelude has prelude h is') = absurd (cc (plain, has))
+one c d e (WithPrelude has prelude h is) (AsItIs plain is') = absurd (cc (plain, has))
+one c d e (WithPrelude has prelude h is) (WithPrelude has' prelude' h' is') =
     is ∙ (ap (with_prelude c) (is_one (names_with c) (starts c) prelude prelude' h h') ∙ sym is')

@@ -2,7 +2,7 @@
 use Rattle.std.proofs.Common.{◌≡◌, ◌<◌, ◌≤◌, ◌+◌, ℕ, suc, Bool, true, false, ◌||◌, List, [], ◌∷◌, ◌++◌, length, map, take, drop, get_or, set, refl, sym, ap, ap₂, subst, ◌∙◌, arith, add-one, drop-cons}
 use Rattle.std.specs.List.{list_any}
 use Rattle.std.proofs.Math.Seq.{set-append_seam}
-use Rattle.std.proofs.lemmas.List.{take_more, map-append, length-map, length-take-le, append-nil, take_all, drop_all}
+use Rattle.std.proofs.lemmas.List.{get_or_at, take_more, map-append, length-map, length-take-le, append-nil, take_all, drop_all}
 use Rattle.fort_tree.specs.declared.declarations.Component.{Component}
 use Rattle.fort_tree.specs.declared.declarations.Declared.{Declared}
 use Rattle.fort_tree.specs.Tokens.{Spellings}
@@ -34,6 +34,15 @@ one_changed f xs now i d y h e g =
     append_one [] y ys = refl
     append_one (x ∷ xs) y ys = ap (λ z. x ∷ z) (append_one xs y ys)
 
+-- the next item is still as it was
+pub item_kept : {A : Type 0} (f : A → A) (xs now : List A) (i : ℕ) (d : A) → i < length xs
+    → now ≡ map f (take i xs) ++ drop i xs → get_or now i d ≡ get_or xs i d
+item_kept f xs now i d h e =
+    let long : length (map f (take i xs)) ≡ i =
+    length-map (take i xs) f ∙ length-take-le i xs (omega arith) in
+    ap (λ z. get_or z i d) (e ∙ ap (λ z. map f (take i xs) ++ z) (drop-cons xs i d h))
+    ∙ get_or_at (map f (take i xs)) (get_or xs i d) (drop (suc i) xs) d i long
+
 pub all_changed : {A : Type 0} (f : A → A) (xs now : List A) (i : ℕ) → length xs ≤ i
     → now ≡ map f (take i xs) ++ drop i xs → now ≡ map f xs
 all_changed f xs now i h e =
@@ -63,30 +72,26 @@ none_found test xs i h f = sym (f ∙ ap (list_any test) (drop_all i xs h))
 
 -- ---- the component
 
+-- a component with other declarations and names
+abbrev pub with_both : Component → List Declared → Spellings → Component
+with_both c declarations names = record {
+  component = c.component;
+  name = c.name;
+  export = c.export;
+  declarations = declarations;
+  end = c.end;
+  names = names;
+  texts = c.texts;
+}
+
 pub rewritten_is : (c : Component) (b : Bool) (names : Spellings) (prelude own all : List Declared)
     → spawns c ≡ true → b ≡ starts c → names ≡ extended c.names b
     → IsPrelude (extended c.names b) b prelude
     → own ≡ renamed_over b names c.names c.declarations → all ≡ prelude ++ own
-    → IsRewritten c (record {
-      component = c.component;
-      name = c.name;
-      export = c.export;
-      declarations = all;
-      end = c.end;
-      names = names;
-      texts = c.texts;
-    })
-rewritten_is c b names prelude own all yes s n h o a =
+    → IsRewritten c (with_both c all names)
+rewritten_is c b names prelude own all has s n h o a =
     let n' : names ≡ names_with c = n ∙ ap (extended c.names) s in
     let o' : own ≡ renamed c =
     o ∙ ap₂ (λ x y. renamed_over x y c.names c.declarations) s n' in
-    WithPrelude yes prelude (subst (λ x. IsPrelude (extended c.names x) x prelude) s h)
-    (ap₂ (λ ds ns. record {
-      component = c.component;
-      name = c.name;
-      export = c.export;
-      declarations = ds;
-      end = c.end;
-      names = ns;
-      texts = c.texts;
-    }) (a ∙ ap (λ z. prelude ++ z) o') n')
+    WithPrelude has prelude (subst (λ x. IsPrelude (extended c.names x) x prelude) s h)
+    (ap₂ (with_both c) (a ∙ ap (λ z. prelude ++ z) o') n')

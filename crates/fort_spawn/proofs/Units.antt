@@ -56,3 +56,18 @@ pub list_is : (x : TypeList)
 list_is x =
     list_units x
     ∙ ap (λ b. b && is_unit (out-TypeList x).first) (none_or_some (out-TypeList x).others)
+
+-- a list of one type
+pub of_one : (x : TypeList) → (out-TypeList x).others ≡ []
+    → is_unit_list x ≡ is_unit (out-TypeList x).first
+of_one x e = list_is x ∙ ap (λ xs. is_empty xs && is_unit (out-TypeList x).first) e
+
+not_empty : (xs : List NextType) → (xs ≡ [] → ⊥) → is_empty xs ≡ false
+not_empty [] n = absurd (n refl)
+not_empty (x ∷ xs) n = refl
+
+-- a list of more
+pub of_more : (x : TypeList) → ((out-TypeList x).others ≡ [] → ⊥) → is_unit_list x ≡ false
+of_more x n =
+    list_is x
+    ∙ ap (λ b. b && is_unit (out-TypeList x).first) (not_empty (out-TypeList x).others n)

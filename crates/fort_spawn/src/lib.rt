@@ -2,8 +2,8 @@
 #![tactic(auto)]
 
 mod laws;
-mod rewritten;
+mod rewriting;
 mod starts;
 
 pub use laws::{one_rewriting, rewritten_numbers_fit, rewritten_obeys, rewritten_stands_apart};
-pub use rewritten::{has_spawn, rewritten};
+pub use rewriting::{has_spawn, rewritten};

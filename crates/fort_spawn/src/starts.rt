@@ -58,9 +58,7 @@ pub(crate) fn is_run(names: &[Bytes], function: &Function) -> bool
     ensures { result ≡ spec.is_run names.now function.now }
 {
     match function.name {
-        FunctionName::Name(name) => {
-            function.parameters.is_none() && is_called_run(names, name)
-        }
+        FunctionName::Name(name) => { function.parameters.is_none() && is_called_run(names, name) }
         _ => false,
     }
 }

@@ -9,17 +9,13 @@ use Rattle.fort_lex_token.specs.declared.reserved.Reserved.TheVariants as reserv
 use Rattle.fort_tree.specs.declared.spot.Spot.{Spot}
 use Rattle.fort_tree.specs.declared.spot.Name.{Name}
 use Rattle.fort_tree.specs.declared.declarations.Declaration.TheVariants as declaration
-use Rattle.fort_tree.specs.declared.declarations.Declared.{Declared}
 use Rattle.fort_tree.specs.declared.declarations.Extends.{Extends}
 use Rattle.fort_tree.specs.declared.declarations.FunctionName.TheVariants as function_name
 use Rattle.fort_tree.specs.declared.declarations.InitialSign.{InitialSign}
 use Rattle.fort_tree.specs.declared.declarations.InitialSign.TheVariants as initial_sign
-use Rattle.fort_tree.specs.declared.declarations.MethodBody.{MethodBody}
 use Rattle.fort_tree.specs.declared.declarations.Names.{Names}
 use Rattle.fort_tree.specs.declared.declarations.Names.TheVariants as names_of
 use Rattle.fort_tree.specs.declared.declarations.ObjectMember.TheVariants as object_member
-use Rattle.fort_tree.specs.declared.declarations.ObjectParameters.{ObjectParameters}
-use Rattle.fort_tree.specs.declared.declarations.Parameters.{Parameters}
 use Rattle.fort_tree.specs.declared.declarations.TraitMember.TheVariants as trait_member
 use Rattle.fort_tree.specs.declared.declarations.Variable.{roll-Variable}
 use Rattle.fort_tree.specs.declared.delimited.Also.{roll-Also}
@@ -52,8 +48,8 @@ use Rattle.fort_tree.specs.Types.{said_type, said_simple_type, said_parameters, 
 use Rattle.fort_tree.specs.Blocks.{after_var, initial_token, delimited_step, item_step, block_item_step, also_step, else_block_step, else_clause_step, catch_step}
 use Rattle.fort_tree.specs.Blocks as said_blocks
 use Rattle.fort_tree.specs.Flats.{expr_step, head_step, generator_step, flat_step, flat_part_step, operand_step, run_step, run_part_step, postfix_step, atom_step, expr_list_step}
-use Rattle.fort_tree.specs.Yield.{said_delimited, said_item, said_atom, said_expr, said_flat_part, said_generator, said_head, said_postfix, said_run_part, said_variable, said_also, said_block_item, said_catch, said_else_block, said_else_clause, said_type_clause, said_expr_list, said_flat, said_operand, said_run}
-use Rattle.fort_tree.specs.Declarations.{said_declared, said_function, said_method, said_trait_entry, said_object_entry, said_object_parameters, extends_tokens, comprises_tokens}
+use Rattle.fort_tree.specs.Yield.{said_delimited, said_item, said_atom, said_expr, said_flat_part, said_head, said_postfix, said_run_part, said_variable, said_also, said_block_item, said_catch, said_else_block, said_else_clause, said_type_clause, said_expr_list, said_flat, said_operand}
+use Rattle.fort_tree.specs.Declarations.{said_declared, said_trait_entry, said_object_entry, said_object_parameters, extends_tokens, comprises_tokens}
 use Rattle.fort_tree.proofs.SaysTypes as types
 use Rattle.fort_tree.proofs.SaysFlats as flats
 use Rattle.fort_tree.proofs.SaysBlocks as blocks
@@ -90,6 +86,10 @@ pub maybe_is : {A B : Type 0} {said : A → B} (m : Option (Made said))
     → option_map said (maybe_tree m) ≡ maybe_says m
 maybe_is None = refl
 maybe_is (Some m) = ap Some m.is
+
+-- what an item of a list says, with its `;`
+abbrev pub said_entry : Option Spot → Said → SaidEntry
+said_entry s x = record { item = x; semicolon = s }
 
 -- ---- where a token of the prelude stands
 
@@ -437,9 +437,9 @@ abbrev pub clause : Made said_type → Spot → Made said_expr → Option Spot �
 clause ty at_arrow m s = record {
   tree = roll-TypeClause
       (record { ty = ty.tree; arrow = at_arrow; value = m.tree; semicolon = s });
-  says = record { item = said_blocks.clause ty.says at_arrow m.says; semicolon = s };
+  says = said_entry s (said_blocks.clause ty.says at_arrow m.says);
   is = blocks.says_type_clause ty.tree at_arrow m.tree s
-      ∙ ap₂ (λ x y. record { item = said_blocks.clause x at_arrow y; semicolon = s }) ty.is m.is;
+      ∙ ap₂ (λ x y. said_entry s (said_blocks.clause x at_arrow y)) ty.is m.is;
 }
 
 -- an `else` of clauses, without a second `;` before it
@@ -535,7 +535,7 @@ function name left k right at_colon ty at_equals m s = record {
     item = function_says name left (maybe_says k) right at_colon ty.says at_equals m.says;
     semicolon = s;
   };
-  is = ap (λ x. record { item = x; semicolon = s })
+  is = ap (said_entry s)
       (ap₂ (λ x y. function_says name left x right at_colon y at_equals (said_expr m.tree))
       (maybe_is k) ty.is
       ∙ ap (λ z. function_says name left (maybe_says k) right at_colon ty.says at_equals z) m.is);
@@ -547,7 +547,7 @@ variable var name at_colon ty at_becomes m s =
     let v = variable_by var name at_colon ty (initial_sign.Becomes at_becomes) m in record {
       tree = record { declaration = declaration.Variable v.tree; semicolon = s };
       says = record { item = v.says; semicolon = s };
-      is = ap (λ x. record { item = x; semicolon = s }) v.is;
+      is = ap (said_entry s) v.is;
     }
 
 -- ---- members
@@ -581,10 +581,7 @@ signature name left right at_colon ty = record {
     item = method_says name left right at_colon ty.says [] (λ names. true);
     semicolon = None;
   };
-  is = ap (λ x. record {
-    item = method_says name left right at_colon x [] (λ names. true);
-    semicolon = None;
-  }) ty.is;
+  is = ap (λ x. said_entry None (method_says name left right at_colon x [] (λ names. true))) ty.is;
 }
 
 -- what a method of an object says
@@ -618,10 +615,7 @@ method name left right at_colon ty at_equals m = record {
     item = body_says name left right at_colon ty.says at_equals m.says;
     semicolon = None;
   };
-  is = ap₂ (λ x y. record {
-    item = body_says name left right at_colon x at_equals y;
-    semicolon = None;
-  }) ty.is m.is;
+  is = ap₂ (λ x y. said_entry None (body_says name left right at_colon x at_equals y)) ty.is m.is;
 }
 
 -- a field with an initial
@@ -631,7 +625,7 @@ variable_member var name at_colon ty at_becomes m =
     let v = variable_by var name at_colon ty (initial_sign.Becomes at_becomes) m in record {
       tree = record { member = object_member.Variable v.tree; semicolon = None };
       says = record { item = v.says; semicolon = None };
-      is = ap (λ x. record { item = x; semicolon = None }) v.is;
+      is = ap (said_entry None) v.is;
     }
 
 -- ---- traits and objects
@@ -665,10 +659,7 @@ trait_ at_trait name at_comprises below ms end s = record {
     item = trait_says at_trait name at_comprises below (say ms) end;
     semicolon = s;
   };
-  is = ap (λ x. record {
-    item = trait_says at_trait name at_comprises below x end;
-    semicolon = s;
-  }) (all_is ms);
+  is = ap (λ x. said_entry s (trait_says at_trait name at_comprises below x end)) (all_is ms);
 }
 
 -- what one parameter of an object and its parentheses say
@@ -728,6 +719,6 @@ object at_object name k above ms end s = record {
     item = object_says at_object name (maybe_says k) above (say ms) end;
     semicolon = s;
   };
-  is = ap (λ x. record { item = x; semicolon = s })
+  is = ap (said_entry s)
       (ap₂ (λ x y. object_says at_object name x above y end) (maybe_is k) (all_is ms));
 }

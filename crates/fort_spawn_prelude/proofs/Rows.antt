@@ -1,49 +1,14 @@
 -- What is made of rows one behind another.
-use Rattle.std.proofs.Common.{◌≡◌, ◌<◌, ◌≤◌, ℕ, ◌+◌, suc, Bool, true, false, List, [], ◌∷◌, ◌++◌, length, map, take, drop, get_or, cond, refl, sym, ap, ap₂, ◌∙◌, arith, add-one, append_assoc, drop-cons}
-use Rattle.std.specs.Str.{bytes_eq}
-use Rattle.std.proofs.lemmas.List.{take_more, map-append, length-map, length-take-le, take_all}
+use Rattle.std.proofs.Common.{◌≡◌, ◌<◌, ℕ, ◌+◌, suc, Bool, true, false, List, [], ◌∷◌, ◌++◌, length, map, take, get_or, refl, sym, ap, ap₂, ◌∙◌, arith, append_assoc}
+use Rattle.std.proofs.lemmas.List.{take_more, map-append, length-map, length-take-le}
 use Rattle.fort_base.specs.declared.ids.NameId.{NameId}
 use Rattle.fort_lex_token.specs.declared.token.Token.{Token}
 use Rattle.fort_spawn_prelude.specs.Table.{Entry, always, starting, table, table_end, closing}
-use Rattle.fort_spawn_prelude.specs.Numbers.{Spelling, number_of, with_part, extended_by}
+use Rattle.fort_spawn_prelude.specs.Numbers.{Spelling, with_part, extended_by}
 use Rattle.fort_lex_token.specs.declared.reserved.Reserved.TheVariants as reserved
 use Rattle.fort_tree.specs.Tokens.{word, named}
 use Rattle.fort_spawn_prelude.specs.declared.table.TheConstants.{ALWAYS_COUNT, STARTING_COUNT}
 use Rattle.fort_spawn_prelude.specs.Prelude.{id_in, token_at, tokens_from, prelude_tokens, extended, framed, corner}
-
--- ---- numbers
-
-pub number_within : (names : List Spelling) (s : Spelling) → number_of names s ≤ length names
-number_within [] s = omega arith
-number_within (x ∷ names) s = at (bytes_eq s x) (number_within names s)
-  where
-    at : (b : Bool) → number_of names s ≤ length names
-        → cond b 0 (suc (number_of names s)) ≤ suc (length names)
-    at true h = omega arith
-    at false h = omega arith
-
--- at the name at i, that is or isn't spelled so
-pub number_at : (names : List Spelling) (s : Spelling) (i : ℕ) (d : Spelling) (b : Bool)
-    → i < length names → bytes_eq s (get_or names i d) ≡ b
-    → number_of (drop i names) s ≡ cond b 0 (suc (number_of (drop (i + 1) names) s))
-number_at names s i d b h e =
-    ap (λ z. number_of z s) (drop-cons names i d h)
-    ∙ (ap (λ b. cond b 0 (suc (number_of (drop (suc i) names) s))) e
-    ∙ ap (λ k. cond b 0 (suc (number_of (drop k names) s))) (sym (add-one i)))
-
-pub number_found : (names : List Spelling) (s : Spelling) (i : ℕ) (d : Spelling)
-    → i < length names → bytes_eq s (get_or names i d) ≡ true
-    → number_of names s ≡ i + number_of (drop i names) s → i ≡ number_of names s
-number_found names s i d h e f =
-    let g : number_of (drop i names) s ≡ 0 = number_at names s i d true h e in omega arith
-
-pub number_further : (names : List Spelling) (s : Spelling) (i : ℕ) (d : Spelling)
-    → i < length names → bytes_eq s (get_or names i d) ≡ false
-    → number_of names s ≡ i + number_of (drop i names) s
-    → number_of names s ≡ i + 1 + number_of (drop (i + 1) names) s
-number_further names s i d h e f =
-    let g : number_of (drop i names) s ≡ suc (number_of (drop (i + 1) names) s) =
-    number_at names s i d false h e in omega arith
 
 -- ---- names
 
@@ -60,6 +25,15 @@ extended_more of names rows i d h =
     ap (λ z. extended_by names (map of z)) (take_more rows i d h)
     ∙ (ap (extended_by names) (map-append of (take i rows) (get_or rows i d ∷ []))
     ∙ extended_append names (map of (take i rows)) (of (get_or rows i d) ∷ []))
+
+-- a further name behind those before it
+pub name_added : {R : Type 0} (of : R → Entry) (start now next : List Spelling) (rows : List R)
+    (i : ℕ) (d : R) → i < length rows → now ≡ extended_by start (map of (take i rows))
+    → next ≡ with_part now (of (get_or rows i d)).part
+    → next ≡ extended_by start (map of (take (i + 1) rows))
+name_added of start now next rows i d h e f =
+    f ∙ (ap (λ z. with_part z (of (get_or rows i d)).part) e
+    ∙ sym (extended_more of start rows i d h))
 
 -- ---- tokens
 

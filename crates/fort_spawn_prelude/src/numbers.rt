@@ -44,18 +44,22 @@ fn add_name(alloc: Global, names: &mut List<Bytes>, spelling: &[u8]) -> Result<(
     names.push(List::from_slice(alloc, spelling)?)
 }
 
+/// Puts the spelling of a row behind the names, where the row is a name and none is spelled so.
+fn add_row(alloc: Global, names: &mut List<Bytes>, row: Row) -> Result<(), Memory>
+    ensures { OnOk result (names.new ≡ numbers.with_part names.old (entry_of row.entry).part) }
+{
+    match row.1 {
+        Shape::Name => add_name(alloc, names, row.2),
+        _ => Ok(()),
+    }
+}
+
 /// Puts the spellings of rows behind the names, each where none is spelled so.
-pub(crate) fn add_names(
-    alloc: Global,
-    names: &mut List<Bytes>,
-    rows: &[Row],
-) -> Result<(), Memory>
+pub(crate) fn add_names(alloc: Global, names: &mut List<Bytes>, rows: &[Row]) -> Result<(), Memory>
     ensures { OnOk result (names.new ≡ numbers.extended_by names.old (map entry_of rows.now)) }
 {
-    for row in rows {
-        if let Shape::Name = row.1 {
-            add_name(alloc, names, row.2)?;
-        }
+    for i in 0..rows.len() {
+        add_row(alloc, names, rows[i])?;
     }
     Ok(())
 }

@@ -36,10 +36,7 @@ pub fn prelude(alloc: Global, names: &[Bytes], starts: bool) -> Result<PreludePa
 {
     let names = all_names(alloc, names, starts)?;
     let mut parsed = read(alloc, names.as_slice(), starts)?;
-    let declarations = mem::replace(
-        &mut parsed.component.declarations,
-        List::new(alloc),
-    );
+    let declarations = mem::replace(&mut parsed.component.declarations, List::new(alloc));
     Ok(PreludeParts {
         names,
         declarations,
@@ -63,9 +60,10 @@ fn all_names(alloc: Global, names: &[Bytes], starts: bool) -> Result<List<Bytes>
 {
     let mut all = copied(alloc, names)?;
     add_names(alloc, &mut all, always_rows())?;
-    if starts {
-        add_names(alloc, &mut all, starting_rows())?;
+    if !starts {
+        return Ok(all);
     }
+    add_names(alloc, &mut all, starting_rows())?;
     Ok(all)
 }
 

@@ -2,12 +2,11 @@
 ghost use Rattle.std.specs.Prelude.{◌≡◌, length, map};
 ghost use Rattle.fort_spawn_prelude.specs.Table.{always, entry_of, starting};
 
+use Shape::{Name, Number, Operator, Symbol, Word};
 use fort_base::Gap;
 use fort_base::Gap::{Empty, Line, Space};
 use fort_lex_token::{Mark, Reserved};
 use fort_ops::Op;
-
-use Shape::{Name, Number, Operator, Symbol, Word};
 
 /// What a token of the prelude is.
 #[derive(Clone, Copy)]

@@ -28,6 +28,18 @@ fn kind_of(names: &[Bytes], shape: Shape, spelling: &[u8]) -> Result<Kind, Memor
     })
 }
 
+/// The token of a row, over these names and by this number.
+fn token_of(names: &[Bytes], row: Row, column: u32) -> Result<Token, Memory>
+    ensures { IfOk result
+        (λ token. token ≡ prelude.token_at (id_in names.now) column (entry_of row.entry)) }
+{
+    Ok(Token {
+        kind: kind_of(names, row.1, row.2)?,
+        gap: row.0,
+        place: Place { line: 0, column },
+    })
+}
+
 /// Puts the tokens of rows behind others, numbered on from `first`.
 fn add_rows(
     names: &[Bytes],
@@ -40,17 +52,8 @@ fn add_rows(
         ≡ tokens.old ++ tokens_from (id_in names.now) first (map entry_of rows.now)) }
 {
     for i in 0..rows.len() {
-        let row = rows[i];
-        let kind = kind_of(names, row.1, row.2)?;
-        let place = Place {
-            line: 0,
-            column: first + i as u32,
-        };
-        tokens.push(Token {
-            kind,
-            gap: row.0,
-            place,
-        })?;
+        let token = token_of(names, rows[i], first + i as u32)?;
+        tokens.push(token)?;
     }
     Ok(())
 }

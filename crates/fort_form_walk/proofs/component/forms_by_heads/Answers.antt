@@ -12,10 +12,10 @@ invariant_of-tables-clause-sized c = all_long _ _
 pub invariant_of-tables-clause-holds : goal.invariant_of-tables-clause-holds
 invariant_of-tables-clause-holds c =
     subst (λ (names : List Spelling). HoldsNumbers (all_types names c.args.heads.now)
-    c.args.numbers.now) (sym c.as_slice.ensures) c.requires.numbers
+    c.args.numbers.now) (sym c.as_slice-names.ensures) c.requires.numbers
 
 pub returns : goal.returns
 returns c = c.in_ok-forms.ensures
     ∙ ap (λ (n : Tables). forms_by n c.args.component.now)
-    (tables_are c.args.component.now c.args.groups.now c.requires.heads c.as_slice.ensures
-    (c.new.ensures ∙ c.as_slice-2.ensures))
+    (tables_are c.args.component.now c.args.groups.now c.requires.heads c.as_slice-names.ensures
+    (c.new.ensures ∙ c.as_slice.ensures))

@@ -4,15 +4,15 @@ use Rattle.fort_spawn_prelude.specs.Prelude.{extended}
 use Rattle.fort_spawn_prelude.proofs.Rows.{all_starting, all_others}
 use Rattle.fort_spawn_prelude.proofs.reading.all_names.Goals as goal
 
-pub returns-in_ok-add_names-2 : goal.returns-in_ok-add_names-2
-returns-in_ok-add_names-2 c =
+pub returns : goal.returns
+returns c =
     all_starting entry_of c.args.names.now _ _ _ c.always_rows.result.now
     c.starting_rows.result.now c.in_ok-all.ensures c.in_ok-add_names.ensures
     c.always_rows.ensures.rows c.in_ok-add_names-2.ensures c.starting_rows.ensures.rows
-    ∙ ap (extended c.args.names.now) (sym c.if-starts.true)
+    ∙ ap (extended c.args.names.now) (sym c.if-not-starts.false)
 
-pub returns-else-starts : goal.returns-else-starts
-returns-else-starts c =
+pub returns-then-not-starts : goal.returns-then-not-starts
+returns-then-not-starts c =
     all_others entry_of c.args.names.now _ _ c.always_rows.result.now c.in_ok-all.ensures
     c.in_ok-add_names.ensures c.always_rows.ensures.rows
-    ∙ ap (extended c.args.names.now) (sym c.if-starts.false)
+    ∙ ap (extended c.args.names.now) (sym c.if-not-starts.true)

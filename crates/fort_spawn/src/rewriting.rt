@@ -44,7 +44,12 @@ pub fn rewritten(alloc: Global, spawns: bool, parsed: &mut Parsed) -> Result<(),
         mut declarations,
     } = found;
     let own = mem::replace(&mut parsed.component.declarations, List::new(alloc));
-    let own = renamed(starts, parsed.component.names.as_slice(), names.as_slice(), own)?;
+    let own = renamed(
+        starts,
+        parsed.component.names.as_slice(),
+        names.as_slice(),
+        own,
+    )?;
     declarations.append(own)?;
     parsed.component.declarations = declarations;
     parsed.component.names = names;
