@@ -5,6 +5,4 @@
 
 mod laws;
 
-pub use laws::{
-    file_names_are_in, file_numbers_fit, file_stands_on_lines, tokens_stand_apart,
-};
+pub use laws::{file_names_are_in, file_numbers_fit, file_stands_on_lines, tokens_stand_apart};
