@@ -57,14 +57,15 @@ pub fn check(alloc: Global, tokens: &Tokens) -> Result<Program, CheckFault>
 /// what this answers of their one component. The chapter is "Threads that are spawned".
 pub fn check_component(
     alloc: Global,
-    mut parsed: Parsed,
+    parsed: Parsed,
     spawns: bool,
 ) -> Result<Program, CheckFault>
     requires { spawns ≡ spawn.spawns parsed.component }
     ensures { ChecksComponent parsed.component result }
 {
-    rewritten(alloc, spawns, &mut parsed)?;
-    let program = check_tree(alloc, &parsed.component)?;
+    let mut whole = parsed;
+    rewritten(alloc, spawns, &mut whole)?;
+    let program = check_tree(alloc, &whole.component)?;
     Ok(program)
 }
 
