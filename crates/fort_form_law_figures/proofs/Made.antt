@@ -17,6 +17,7 @@ use Rattle.fort_form.specs.declared.form.Parameter.{Parameter}
 use Rattle.fort_form.specs.declared.form.Reduction.{Reduction}
 use Rattle.fort_form.specs.declared.form.Update.{Update}
 use Rattle.fort_sound_forms.specs.Figures.{Figure, IsRight, together, figures_form, figures_part, figures_arm, figures_source, figures_case, figures, figures_item, figures_branch, figures_generator, figures_clause, HasFigures}
+use Rattle.fort_form_meaning.specs.Forming.{spawned}
 use Rattle.fort_form_law_figures.proofs.Lists.{all_join}
 
 abbrev Right : List Figure → Type 0

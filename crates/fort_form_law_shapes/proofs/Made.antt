@@ -19,6 +19,7 @@ use Rattle.fort_form.specs.declared.form.Reduction.{Reduction}
 use Rattle.fort_form.specs.declared.form.Update.{Update}
 use Rattle.fort_form.specs.Shapes.{Shape, an_expression, a_postfix, no_shape, is_expression, is_element, expression_if, postfix_if, are_expressions, are_elements, are_shaped, are_sides, shape_form, shape_item, shape_branch, shape_generator, shape_clause, shape, is_item, is_branch, is_generator, is_clause}
 use Rattle.fort_form.proofs.Layers.{shapes, item_shapes, shape-is, item-is}
+use Rattle.fort_form_meaning.specs.Forming.{spawned}
 use Rattle.fort_typing_rules.specs.Types.{parameter_type}
 use Rattle.fort_typing_law_rules.specs.Written.{together, if_there, written_form, written_part, written_arm, written_source, written_case, written, written_item, written_branch, written_generator, written_clause}
 use Rattle.fort_form_law_shapes.proofs.Lists.{all_join, both}
