@@ -55,11 +55,7 @@ pub fn check(alloc: Global, tokens: &Tokens) -> Result<Program, CheckFault>
 /// Asks the rules behind the grammar of a component, its spawned threads rewritten, and makes its
 /// program. `spawns` says whether the word `spawn` stands in it. What `check` answers of tokens is
 /// what this answers of their one component. The chapter is "Threads that are spawned".
-pub fn check_component(
-    alloc: Global,
-    parsed: Parsed,
-    spawns: bool,
-) -> Result<Program, CheckFault>
+pub fn check_component(alloc: Global, parsed: Parsed, spawns: bool) -> Result<Program, CheckFault>
     requires { spawns ≡ spawn.spawns parsed.component }
     ensures { ChecksComponent parsed.component result }
 {
