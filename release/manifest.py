@@ -12,6 +12,7 @@ The last two are left out where the program asks for none.
 import hashlib
 import pathlib
 import re
+import shutil
 import struct
 import subprocess
 
@@ -35,7 +36,9 @@ def list_sources():
 
 
 def toolchain():
-    """The identity of the toolchain in the path."""
+    """The identity of the toolchain in the path, or that there is none."""
+    if shutil.which("rt") is None:
+        return "no toolchain"
     asked = subprocess.run(["rt", "version"], check=True, stdout=subprocess.PIPE, text=True)
     return asked.stdout.strip()
 
