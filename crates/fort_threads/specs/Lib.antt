@@ -1,0 +1,12 @@
+pub mod Known
+pub mod Threads
+pub mod Moves
+pub mod Awake
+pub mod Runs
+pub mod Machine
+pub mod Lives
+pub mod Kept
+pub mod Limits
+pub mod Objects
+pub mod Conservative
+pub mod Worked
