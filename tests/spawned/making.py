@@ -3,7 +3,7 @@ them end: threads wait for those that were spawned before them, loops have bound
 sleeps for comes in most."""
 import random
 
-FUELS = [6000] * 14 + [2500] * 3 + [12000] * 2 + [None]
+FUELS = [4000] * 16 + [8000] * 3 + [None]
 
 
 class Scope:
@@ -284,11 +284,11 @@ class Maker:
 
     def gated(self, scope):
         """An attempt that is aborted until a thread has passed the gate."""
-        if scope.inside > 1 or scope.depth > 3:
+        if scope.inside > 1 or scope.depth > 3 or scope.inside and not self.risky and self.chance(0.9):
             return None
         name, inner = self.name("t"), scope.inner(scope.inside + 1, threads=self.ended(scope))
         lines = []
-        if self.chance(0.85) and not scope.inside:
+        if self.chance(0.95) and not scope.inside:
             lines += [f"{name}: Thread = spawn do", *indented(self.block(scope.inner(0, False, []), 2)),
                       "  atomic gate += 1", "end"]
         first = self.block(inner, 2) if self.chance(0.7) else []
@@ -468,7 +468,7 @@ class Maker:
             return [f"println({self.pick(it, self.word() + ' ' + it)})"]
         if roll < 0.25:
             return [f"if {it}.ready() then", *indented(self.say(scope)), "end"]
-        if roll < 0.4 and scope.inside < 2:
+        if roll < 0.4 and scope.inside < 2 and self.may_wait(scope, it):
             inner, lines = scope.inner(scope.inside + 1, threads=self.ended(scope)), []
             if self.chance(0.3):
                 lines += self.block(inner, 2)
@@ -550,9 +550,11 @@ class Maker:
             lines.append("object Keep(t: Thread) extends Exception end")
             if self.chance(0.4):
                 lines += self.chain_function()
+        whole = self.budget
         for _ in range(self.rng.randrange(4)):
+            self.budget = self.rng.randrange(2, 7)
             lines += self.function()
-        self.budget = max(self.budget, 3)
+        self.budget = whole
         body = self.block(Scope(), 14)
         return [*lines, "run(): () = do", *indented(body), "end", "end"]
 

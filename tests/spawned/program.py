@@ -54,8 +54,10 @@ class Program:
                 for method in it[5]:
                     self.methods[method[1]] = Declaration()
                     bodies.append((self.methods[method[1]], method, [it], is_prelude))
+        self.answers = self.operators()
         for declaration, it, around, self.is_prelude in bodies:
-            self.compile(declaration, it, around)
+            if not (self.is_prelude and way == THREADS):
+                self.compile(declaration, it, around)
         if way != PLAIN:
             self.tag()
         self.is_prelude = False
@@ -200,7 +202,7 @@ class Program:
         return Call(self.functions["spawn'"], [function])
 
     def of_op(self, name, parts):
-        return Operator(self.answer(name), self.parts(parts))
+        return Operator(self.answers[name], self.parts(parts))
 
     def of_assign(self, sign, target, right):
         if target[0] == "field":
@@ -209,7 +211,7 @@ class Program:
             return WriteField(self.fields, target[2], self.of(target[1]), self.of(right))
         part = self.of(right)
         if sign != ":=":
-            part = self.made(Operator(self.answer(sign[0]), [self.of(target), part]))
+            part = self.made(Operator(self.answers[sign[0]], [self.of(target), part]))
         if target[1] in self.scope:
             slot, is_mutable = self.scope[target[1]]
             if not is_mutable:
@@ -277,7 +279,8 @@ class Program:
 
     # Operators
 
-    def answer(self, name):
+    def operators(self):
+        """What each operator does with its values."""
         overflow, by_zero = self.singles["IntegerOverflow"], self.singles["DivisionByZero"]
 
         def number(task, it):
@@ -327,4 +330,4 @@ class Program:
             "juxtaposition": joined,
             "#": count,
             ":": lambda task, run, a, b: task.gives(Range(a, max(b - a + 1, 0))),
-        }[name]
+        }

@@ -100,9 +100,13 @@ class Run:
 
     def sleeps(self, task):
         """Whether its marks have their values."""
-        store = self.store
-        return task.marks is not None and all(
-            loc in store and same(store[loc], value) for loc, value in task.marks)
+        if task.marks is None:
+            return False
+        get = self.store.get
+        for loc, value in task.marks:
+            if not same(get(loc), value):
+                return False
+        return True
 
     def is_awake(self, task):
         return not self.sleeps(task)
@@ -122,10 +126,14 @@ class Run:
                 return False
         return task is not but and self.is_awake(task)
 
-    def may_try(self, task, roots):
-        """Whether a form may be tried: of the terms of its machine no other thread is awake, or it
-        doesn't sleep."""
-        return not self.sleeps(task) or not any(self.some_awake(it, task) for it in roots)
+    def may_try(self, task, root):
+        """Whether a form may be tried: it doesn't sleep, or no other thread of its machine is
+        awake. Then it is quiet, until another pick than an attempt that is aborted."""
+        if not self.sleeps(task):
+            root.is_quiet = False
+            return True
+        root.is_quiet = root.is_quiet or not self.some_awake(root, task)
+        return root.is_quiet
 
     def open_attempt(self):
         self.frames.append(Frame())
@@ -239,35 +247,35 @@ class Replay(Run):
             first = line[0]
             if first == 115:
                 _, word, loc = line.split(b" ")
-                self.at += 1
-                loc = int(loc)
                 path, server, rest = path_of(word)
-                if is_inner and self.frames[-1].aborted:
-                    raise Refused("a pick behind an abort")
-                task = self.find(root, path)
-                self.cost += 1
-                op = task.op
-                node = op if op is not UNWIND else task.kont[-1][0]
-                if loc and not op.makes:
-                    raise Refused("a step that makes nothing makes something")
-                if not node.prelude:
-                    picks.append(("s", None, path, loc) if is_inner else
-                                 ("s", self.thread(server), rest, loc))
-                elif node.tag is not None and (is_inner or server is not None):
-                    self.tagged(task, op, node, picks, None if is_inner else server,
-                                path if is_inner else rest)
-                op.step(task, self, loc)
             elif first == 97:
-                word = line[2:]
-                self.at += 1
-                path, server, rest = path_of(word)
-                if is_inner and self.frames[-1].aborted:
-                    raise Refused("a pick behind an abort")
-                task = self.find(root, path)
-                self.attempt(root, task, picks, is_last, None if is_inner else server,
-                             path if is_inner else rest, is_inner)
+                path, server, rest = path_of(line[2:])
             else:
                 return
+            self.at += 1
+            if is_inner:
+                if self.frames[-1].aborted:
+                    raise Refused("a pick behind an abort")
+                server, rest = None, path
+            task = self.find(root, path)
+            if first == 115:
+                root.is_quiet = False
+                self.step(task, server, rest, int(loc), picks, is_inner)
+            else:
+                self.attempt(root, task, picks, is_last, server, rest, is_inner)
+
+    def step(self, task, server, path, loc, picks, is_inner):
+        """A step, with what it is on the machine with spawned threads."""
+        self.cost += 1
+        op = task.op
+        node = op if op is not UNWIND else task.kont[-1][0]
+        if loc and not op.makes:
+            raise Refused("a step that makes nothing makes something")
+        if not node.prelude:
+            picks.append(("s", None if is_inner else self.thread(server), path, loc))
+        elif node.tag is not None and (is_inner or server is not None):
+            self.tagged(task, op, node, picks, server, path)
+        op.step(task, self, loc)
 
     def thread(self, server):
         """The thread that a server goes on with; 0 is that of `run'`."""
@@ -296,11 +304,16 @@ class Replay(Run):
     def thread_or_none(self, server):
         return 0 if server == (0,) else self.serving.get(server)
 
+    def end_attempt(self):
+        if self.at >= len(self.lines) or self.lines[self.at] != b"z":
+            raise Refused("an attempt without its end")
+        self.at += 1
+
     def attempt(self, root, task, picks, is_last, server, path, is_inner):
         op = task.op
         if not isinstance(op, Atomic):
             raise Refused("an attempt of what isn't atomic")
-        if not self.may_try(task, [root]):
+        if not self.may_try(task, root):
             raise Refused("a sleeping form is tried while another thread is awake")
         within = []
         inner = Task()
@@ -309,12 +322,11 @@ class Replay(Run):
         op.body.enter(inner, task.env)
         self.cost += 1
         self.go(inner, within, is_last, True)
-        if self.at >= len(self.lines) or self.lines[self.at] != b"z":
-            raise Refused("an attempt without its end")
-        self.at += 1
+        self.end_attempt()
         kont, env = task.kont, task.env
         asks = not kont or kont[-1][0].tag != "in val"
         how = self.closes(task, inner, frame)
+        root.is_quiet = root.is_quiet and how == ABORTED and not op.gives_up
         if how is None:
             if not is_last:
                 raise Refused("an attempt that hasn't ended")

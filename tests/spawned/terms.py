@@ -18,12 +18,13 @@ class Task:
     """A part of a term that goes by itself, or the root of a machine's term."""
 
     __slots__ = ("kont", "op", "env", "aux", "kids", "thrown", "state", "value", "stepped", "marks",
-                 "came", "parent")
+                 "came", "parent", "is_quiet")
 
     def __init__(self, parent=None):
         self.kont, self.op, self.env, self.aux = [], None, None, None
         self.kids, self.thrown, self.state, self.value = None, False, OPEN, None
         self.stepped, self.marks, self.came, self.parent = False, None, False, parent
+        self.is_quiet = False
 
     def gives(self, value):
         """The form at which it stood is a value now."""

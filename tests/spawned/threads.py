@@ -61,7 +61,8 @@ class Threads(Run):
             return True
         if root is not None:
             return not self.some_awake(root, task)
-        return all(it.has_begun for it in self.threads.values()) and self.may_try(task, self.roots())
+        return all(it.has_begun for it in self.threads.values()) and not any(
+            self.some_awake(it, task) for it in self.roots())
 
     # What attempts do to threads
 

@@ -3,6 +3,7 @@ import pathlib
 import re
 import subprocess
 
+from spawned.choosing import Chosen
 from spawned.program import PLAIN, REWRITTEN, THREADS, Program
 from spawned.replay import Record, Replay
 from spawned.source import component
@@ -13,21 +14,39 @@ SECONDS = 60
 
 
 class Trial:
-    """The run of a component by a program, replayed; `picks` are the mapped picks, or None where it
-    spawns no threads."""
+    """The run of a component, replayed; `picks` are the mapped picks, or None where it spawns no
+    threads."""
 
     def __init__(self, program, text, fuel, workers, folder):
-        file = pathlib.Path(folder) / "T.fss"
-        file.write_text(text)
-        words = [program, "record", file, "--workers", str(workers), "--fuel", str(fuel)]
-        done = subprocess.run(words, stdin=subprocess.DEVNULL, capture_output=True, timeout=SECONDS)
-        if done.returncode not in (0, 5, 6):
-            raise Refused(f"status {done.returncode}: {done.stderr.decode().strip()}")
+        self.program, self.folder = program, pathlib.Path(folder)
+        self.file = self.folder / "T.fss"
+        self.file.write_text(text)
+        said = self.said("record", self.file, "--workers", str(workers), "--fuel", str(fuel))
         self.declarations = component(text)
-        spawns = re.search(r"\bspawn\b", text)
-        program = Program(self.declarations, REWRITTEN if spawns else PLAIN)
-        self.replay = Replay(program, Record(done.stdout))
-        self.picks = self.replay.whole() if spawns else self.replay.whole() and None
+        self.spawns = re.search(r"\bspawn\b", text)
+        self.replayed(Replay(self.rewritten(), Record(said)))
+
+    def said(self, *words):
+        how = {"stdin": subprocess.DEVNULL, "capture_output": True, "timeout": SECONDS}
+        done = subprocess.run([self.program, *words], **how)
+        if done.returncode not in (0, 5, 6):
+            raise Refused(f"{words[0]}: status {done.returncode}: {done.stderr.decode().strip()}")
+        return done.stdout
+
+    def rewritten(self):
+        return Program(self.declarations, REWRITTEN if self.spawns else PLAIN)
+
+    def replayed(self, replay):
+        self.replay = replay
+        self.picks = replay.whole() if self.spawns else replay.whole() and None
+
+    def choose(self, fuel, rng):
+        """Takes a run by chance in the place of the recorded one, and lets the program audit it."""
+        self.replayed(Chosen(self.rewritten(), fuel, rng))
+        record = self.folder / "T.record"
+        record.write_bytes(self.replay.text)
+        if self.said("audit", self.file, record) != self.replay.record.output:
+            raise Refused("the audit printed something else")
 
     def follows(self, mapping=None, machine=Threads):
         """Runs the mapped picks on a machine, which it answers, or None where there are none."""
