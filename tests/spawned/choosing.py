@@ -3,8 +3,8 @@
 What fortress records are the runs of its own order of threads; here each thread that may go on may
 be the next one.
 """
-from spawned.replay import Replay
-from spawned.terms import OPEN, THROW, VALUE, Atomic
+from spawned.replay import Replay, parted
+from spawned.terms import OPEN, VALUE, Atomic
 
 
 class Ended:
@@ -20,7 +20,7 @@ class Chosen(Replay):
     def __init__(self, program, fuel, rng):
         super().__init__(program, Ended(fuel))
         self.rng, self.fuel, self.next = rng, fuel, max(self.store) + 1
-        self.sticks = rng.choice([0, 0.3, 0.8, 0.95])
+        self.sticks = rng.choice([0, 0.5, 0.8, 0.9, 0.97])
 
     def whole(self):
         self.program.first.enter(self.root, [])
@@ -56,12 +56,15 @@ class Chosen(Replay):
         found.append((path, task))
 
     def choice(self, root, last):
+        """The next thread: often the last one, or any of those that are awake; where none is, one
+        that sleeps."""
+        if last and self.rng.random() < self.sticks:
+            task = last[1]
+            if task.state == OPEN and not task.kids and self.is_awake(task):
+                return last
         found = []
         self.ready(root, (), found)
-        awake = [it for it in found if self.is_awake(it[1])] or found
-        if last in awake and self.rng.random() < self.sticks:
-            return last
-        return self.rng.choice(awake)
+        return self.rng.choice([it for it in found if self.is_awake(it[1])] or found)
 
     def go(self, root, picks, is_last, is_inner=False):
         last = None
@@ -72,13 +75,12 @@ class Chosen(Replay):
             self.find(root, path)
             server, rest = None, path
             if not is_inner:
-                length = 1 if path[:1] == (0,) else 7
-                server, rest = (path[:length] if len(path) >= length else None), path[length:]
+                server, rest = parted(path)
                 at, self.counted, printed = len(self.lines), len(picks), len(self.output)
             word = b".".join(b"%d" % number for number in path) or b"-"
             if isinstance(task.op, Atomic):
                 self.lines.append(b"a " + word)
-                self.attempt(root, task, picks, True, server, rest if not is_inner else path, is_inner)
+                self.attempt(root, task, picks, True, server, rest, is_inner)
             else:
                 loc = 0
                 if task.op.makes and not (task.kids and task.thrown):

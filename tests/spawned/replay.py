@@ -14,16 +14,38 @@ Threads are named by their locations, the first one by 0; in an attempt no threa
 from spawned.terms import OPEN, THROW, UNWIND, VALUE, Atomic, Refused, Task, same
 
 COMPLETED, FAILED, ABORTED = "completed", "failed", "aborted"
-PATHS = {b"-": ((), None, ())}
+KNOWN = {}
 
 
 def path_of(word):
-    """A path as numbers; and as the path of a server or of `run'`, with what is behind it."""
-    if word not in PATHS:
-        path = tuple(map(int, word.split(b".")))
-        length = 1 if path[0] == 0 else 7
-        PATHS[word] = path, path[:length] if len(path) >= length else None, path[length:]
-    return PATHS[word]
+    """A path as numbers."""
+    return () if word == b"-" else tuple(map(int, word.split(b".")))
+
+
+def parted(path):
+    """A path as that of a server or of `run'`, if it leads so far, and what is behind it."""
+    length = 1 if path[:1] == (0,) else 7
+    return (path[:length], path[length:]) if len(path) >= length else (None, path)
+
+
+def line_of(line):
+    """A line of a record: whether it is a step, its path, also parted, and its location; or None
+    where it is no pick."""
+    it = KNOWN.get(line)
+    if it is None:
+        if line[:2] == b"s ":
+            _, word, loc = line.split(b" ")
+            path = path_of(word)
+            it = True, path, *parted(path), int(loc)
+            if it[4]:
+                return it
+        elif line[:2] == b"a ":
+            path = path_of(line[2:])
+            it = False, path, *parted(path), 0
+        else:
+            return None
+        KNOWN[line] = it
+    return it
 
 
 class Frame:
@@ -241,26 +263,24 @@ class Replay(Run):
 
     def go(self, root, picks, is_last, is_inner=False):
         """Replays picks of one machine, as far as they go; the last one may be unfinished."""
-        lines, size = self.lines, len(self.lines)
+        lines, size, frame = self.lines, len(self.lines), self.frames[-1] if is_inner else None
+        before, task = None, None
         while self.at < size:
-            line = lines[self.at]
-            first = line[0]
-            if first == 115:
-                _, word, loc = line.split(b" ")
-                path, server, rest = path_of(word)
-            elif first == 97:
-                path, server, rest = path_of(line[2:])
-            else:
+            it = line_of(lines[self.at])
+            if it is None:
                 return
             self.at += 1
+            is_step, path, server, rest, loc = it
             if is_inner:
-                if self.frames[-1].aborted:
+                if frame.aborted:
                     raise Refused("a pick behind an abort")
                 server, rest = None, path
-            task = self.find(root, path)
-            if first == 115:
+            if path != before or task.state or task.kids:
+                task = self.find(root, path)
+            before = path
+            if is_step:
                 root.is_quiet = False
-                self.step(task, server, rest, int(loc), picks, is_inner)
+                self.step(task, server, rest, loc, picks, is_inner)
             else:
                 self.attempt(root, task, picks, is_last, server, rest, is_inner)
 

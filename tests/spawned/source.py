@@ -14,6 +14,7 @@ WORDS = set("""component export end trait object extends comprises self var do a
     while for seq typecase of try catch finally throw fn atomic tryatomic spawn true false""".split())
 LEVELS = [{"OR"}, {"AND"}, {"=", "=/=", "<", "<=", ">", ">=", "==="}, {"#", ":"}, {"+", "-"},
           {"TIMES", "DIV", "MOD", "REM", "MAX", "MIN"}]
+LEVEL = {name: level for level, names in enumerate(LEVELS) for name in names}
 OPERATORS = set().union(*LEVELS) | {"NOT"}
 UNIT = ("unit",)
 
@@ -27,6 +28,7 @@ class Tokens:
 
     def __init__(self, text):
         self.kinds, self.words, self.lines, self.gaps, self.at = [], [], [], [], 0
+        self.signs = []
         place, text = 0, text.rstrip()
         while place < len(text):
             found = TOKEN.match(text, place)
@@ -37,22 +39,24 @@ class Tokens:
                 kind = "sign"
             self.kinds.append(kind)
             self.words.append(word)
+            self.signs.append(word if kind == "sign" else None)
             self.lines.append("\n" in found["gap"])
             self.gaps.append(bool(found["gap"]))
             place = found.end()
         self.kinds.append("end")
         self.words.append("")
+        self.signs.append(None)
         self.lines.append(True)
         self.gaps.append(True)
 
     @property
     def word(self):
         """The next token, where it is a sign or a reserved word."""
-        return self.words[self.at] if self.kinds[self.at] == "sign" else None
+        return self.signs[self.at]
 
     def takes(self, word):
         """Whether the next token is this sign; then it is read."""
-        if self.word == word:
+        if self.signs[self.at] == word:
             self.at += 1
             return True
         return False
@@ -93,18 +97,18 @@ class Tokens:
                 return ("assign", sign, left, self.expression())
         return left
 
-    def flat(self, level=0):
-        """A flat expression, grouped by its operators."""
-        if level == len(LEVELS):
-            return self.juxtaposed()
-        left = self.flat(level + 1)
-        while self.word in LEVELS[level] and not self.starts_line():
+    def flat(self, least=0):
+        """A flat expression, grouped by its operators, of those from a level on."""
+        left = self.juxtaposed()
+        while True:
             name = self.word
+            level = LEVEL.get(name)
+            if level is None or level < least or self.starts_line():
+                return left
             self.at += 1
             left = ("op", name, [left, self.flat(level + 1)])
-            if level == 2 and self.word in LEVELS[level]:
+            if level == 2 and LEVEL.get(self.word) == 2:
                 raise Unread("a chain of two relations")
-        return left
 
     def juxtaposed(self):
         left = self.unit()
