@@ -56,11 +56,36 @@ WAYS = {
         as_it_is, LosesValues, "do\n  t: Thread = spawn 5\n  println(t.val())\nend"),
     "the threads of a failed attempt that stay": (
         as_it_is, KeepsUndone,
-        "try\n  atomic do\n    t: Thread = spawn g := 5\n    throw E\n  end\ncatch e E => println(g) end"),
+        "try\n  atomic do\n    t: Thread = spawn g := 5\n    throw E\n  end\n"
+        "catch e E => println(g) end"),
     "an exception that is swallowed": (
         as_it_is, Swallows, "do\n  t: Thread = spawn (throw E)\n"
                             "  try println(t.val()) catch e E => println(\"E\") end\nend"),
 }
+
+
+def changed(text, rng):
+    """A record with one line of its picks changed, left out, put elsewhere or said twice."""
+    head, _, rest = text.partition(b"\n")
+    fuel, _, rest = rest.partition(b"\n")
+    journal, _, rest = rest.partition(b"\noutput ")
+    lines = journal.split(b"\n")
+    one, other = (rng.randrange(len(lines)) for _ in range(2))
+    way = rng.randrange(6)
+    if way == 0:
+        del lines[one]
+    elif way == 1:
+        lines.insert(one, lines[one])
+    elif way == 2:
+        lines.insert(min(other, one + rng.randrange(1, 6)), lines.pop(one))
+    elif way == 3:
+        lines[one] = lines[other]
+    elif way == 4:
+        lines.insert(other, lines[one])
+    else:
+        word, _, last = lines[one].rpartition(b" ")
+        lines[one] = word + b" " + (b"%d" % rng.randrange(40) if last.isdigit() else last + b".0")
+    return b"\n".join([head, fuel, b"\n".join(lines) + b"\noutput " + rest])
 
 
 def component_of(body):

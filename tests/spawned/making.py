@@ -34,7 +34,7 @@ class Maker:
         self.names, self.budget = 0, self.rng.choice([6, 10, 15, 20, 28, 40])
         self.spawns = self.rng.random() < 0.95
         self.risky = self.rng.random() < 0.08
-        self.functions = {"number": [], "unit": [], "asks": [], "makes": []}
+        self.functions = {kind: [] for kind in ("number", "unit", "asks", "makes", "pair", "holds")}
         kinds = self.statements()
         for name in kinds:
             if name not in ("say", "use") and self.rng.random() < 0.3:
@@ -45,10 +45,10 @@ class Maker:
         self.kinds, self.weights = list(kinds), list(kinds.values())
 
     def statements(self):
-        return {"say": 14, "assign": 9, "local": 5, "changing": 4, "choose": 5, "loop": 2.5, "count": 2,
-                "also": 5, "attempt": 8, "guard": 6, "fail": 1.2, "call": 5, "spawn": 16, "use": 18,
-                "gated": 3, "undone": 3, "given_up": 3, "crowd": 0.4, "again": 0.5, "keep": 1,
-                "chain": 1, "outside": 0.4, "gate": 2}
+        return {"say": 14, "assign": 9, "local": 5, "changing": 4, "choose": 5, "loop": 2.5,
+                "count": 2, "also": 5, "attempt": 8, "guard": 6, "fail": 1.2, "call": 7,
+                "spawn": 16, "use": 18, "gated": 3, "undone": 3, "given_up": 3, "crowd": 0.4,
+                "again": 0.5, "keep": 1, "chain": 1, "outside": 0.4, "gate": 2}
 
     def chance(self, part):
         return self.rng.random() < part
@@ -75,7 +75,11 @@ class Maker:
             return f"({self.number(scope, depth - 1)} {sign} {self.number(scope, depth - 1)})"
         if roll < 0.95 and self.functions["number"]:
             return f"{self.rng.choice(self.functions['number'])}({self.number(scope, depth - 1)})"
-        return f"(if {self.truth(scope, 1)} then {self.number(scope, 0)} else {self.number(scope, 0)} end)"
+        if roll < 0.98 and self.functions["pair"]:
+            both = self.number(scope, depth - 1), self.number(scope, depth - 1)
+            return f"{self.rng.choice(self.functions['pair'])}({both[0]}, {both[1]})"
+        first, second = self.number(scope, 0), self.number(scope, 0)
+        return f"(if {self.truth(scope, 1)} then {first} else {second} end)"
 
     def truth(self, scope, depth=2):
         roll = self.rng.random()
@@ -87,7 +91,8 @@ class Maker:
         if roll < 0.36 and scope.threads:
             return f"{self.thread(scope)} === {self.thread(scope)}"
         if roll < 0.46:
-            return f"({self.truth(scope, depth - 1)}) {self.pick('AND', 'OR')} ({self.truth(scope, 0)})"
+            sign = self.pick("AND", "OR")
+            return f"({self.truth(scope, depth - 1)}) {sign} ({self.truth(scope, 0)})"
         sign = self.pick("=", "=/=", "<", "<=", ">", ">=")
         return f"{self.number(scope, 1)} {sign} {self.number(scope, 1)}"
 
@@ -96,7 +101,7 @@ class Maker:
         return self.rng.choice(scope.threads + kept or scope.kept)
 
     def word(self):
-        return '"' + self.pick("a", "b", "c", "x", "y", "on", "off") + str(self.rng.randrange(9)) + '"'
+        return f'"{self.pick("a", "b", "c", "x", "y", "on", "off")}{self.rng.randrange(9)}"'
 
     def printed(self, scope):
         roll = self.rng.random()
@@ -229,11 +234,15 @@ class Maker:
     def fail(self, scope):
         if not scope.safe and not self.chance(0.15):
             return None
-        return [f"if {self.truth(scope)} then throw {self.exception(scope)} end"] if self.chance(0.6) \
-            else ["do", f"  throw {self.exception(scope)}", "end"]
+        thrown = f"throw {self.exception(scope)}"
+        if self.chance(0.6):
+            return [f"if {self.truth(scope)} then {thrown} end"]
+        return ["do", f"  {thrown}", "end"]
 
     def outside(self, scope):
-        return None if scope.inside else ["try abort() catch e0 AbortOutside => println(\"outside\") end"]
+        if scope.inside:
+            return None
+        return ["try abort() catch e0 AbortOutside => println(\"outside\") end"]
 
     def caught(self, body, scope, *clauses):
         """A `try` of lines."""
@@ -244,7 +253,8 @@ class Maker:
         if self.chance(0.4):
             found.append(f"F => println(\"F \" {name}.n)")
         if self.chance(0.3) and self.spawns:
-            found.append("Keep => " + self.pick(f"println({name}.t.ready())", f"println({name}.t)"))
+            asked = self.pick(f"{name}.t.ready()", f"{name}.t")
+            found.append(f"Keep => println({asked})")
         if self.chance(0.2):
             found.append(f"DivisionByZero => {self.say(scope)[0]}")
         if self.chance(0.85) or not found:
@@ -276,7 +286,7 @@ class Maker:
         return ["atomic do", *indented(body), "end"]
 
     def ended(self, scope):
-        """The threads that are asked in an attempt: those that have ended, but where it is risked."""
+        """The threads that an attempt may ask: those that have ended, but where it is risked."""
         return scope.threads if self.risky or self.chance(0.05) else scope.over
 
     def gate(self, scope):
@@ -284,13 +294,15 @@ class Maker:
 
     def gated(self, scope):
         """An attempt that is aborted until a thread has passed the gate."""
-        if scope.inside > 1 or scope.depth > 3 or scope.inside and not self.risky and self.chance(0.9):
+        if scope.inside > 1 or scope.depth > 3:
+            return None
+        if scope.inside and not self.risky and self.chance(0.9):
             return None
         name, inner = self.name("t"), scope.inner(scope.inside + 1, threads=self.ended(scope))
         lines = []
         if self.chance(0.95) and not scope.inside:
-            lines += [f"{name}: Thread = spawn do", *indented(self.block(scope.inner(0, False, []), 2)),
-                      "  atomic gate += 1", "end"]
+            feeds = self.block(scope.inner(0, False, []), 2)
+            lines += [f"{name}: Thread = spawn do", *indented([*feeds, "atomic gate += 1"]), "end"]
         first = self.block(inner, 2) if self.chance(0.7) else []
         lines += ["atomic do", *indented(first), "  if gate < 1 then abort() end"]
         if self.chance(0.5):
@@ -338,6 +350,17 @@ class Maker:
             it = self.name("t")
             lines = [f"{it}: Thread = {name}({self.number(scope)})"]
             scope.threads.append(it)
+        elif kind == "pair":
+            it = self.name("n")
+            lines = [f"{it}: ZZ32 = {name}({self.number(scope)}, {self.number(scope)})"]
+            scope.numbers.append(it)
+        elif kind == "holds":
+            if scope.threads and self.chance(0.4):
+                held = self.thread(scope)
+            else:
+                does = self.pick("E", "(throw E)", self.number(scope), "println(\"held\")")
+                held = f"spawn {does}"
+            lines = [f"{name}({held}, {self.number(scope)})"]
         elif scope.threads:
             it = self.thread(scope)
             if not self.may_wait(scope, it):
@@ -348,9 +371,17 @@ class Maker:
         return lines
 
     def function(self):
-        kind = self.pick("number", "unit", *(["asks", "makes"] if self.spawns else []))
-        name, it = self.name("f"), self.name("p")
-        if kind == "asks":
+        kinds = list(self.functions) if self.spawns else ["number", "unit", "pair"]
+        kind = self.rng.choice(kinds)
+        name, it, other = self.name("f"), self.name("p"), self.name("p")
+        if kind == "holds":
+            scope = Scope(numbers=[other], threads=[it])
+            result, parameter = "()", f"Thread, {other}: ZZ32"
+            body = self.block(scope, 3)
+        elif kind == "pair":
+            scope, result, parameter = Scope(numbers=[it, other]), "ZZ32", f"ZZ32, {other}: ZZ32"
+            body = self.block(scope, 2, lambda inner: [self.number(inner)])
+        elif kind == "asks":
             scope = Scope(threads=[it])
             result, body = "()", self.block(scope, 2, self.use)
             parameter = "Thread"
@@ -365,7 +396,7 @@ class Maker:
                 result = "Thread"
                 body = value if self.chance(0.5) else [*self.block(scope, 1), *value]
         self.functions[kind].append(name)
-        if len(body) == 1 and kind == "number":
+        if len(body) == 1 and result == "ZZ32":
             return [f"{name}({it}: {parameter}): {result} = {body[0]}"]
         return [f"{name}({it}: {parameter}): {result} = do", *indented(body), "end"]
 
@@ -408,7 +439,8 @@ class Maker:
         if roll < 0.5:
             body = self.block(inner, 2, lambda it: [f"throw {self.exception(it)}"])
         elif roll < 0.65:
-            body = self.block(inner, 2, lambda it: [self.pick(self.number(it), self.word(), "E", "go")])
+            body = self.block(
+                inner, 2, lambda it: [self.pick(self.number(it), self.word(), "E", "go")])
         elif roll < 0.72:
             body = self.block(inner, 1, lambda it: ["spawn " + self.number(it)])
         else:
@@ -481,8 +513,8 @@ class Maker:
         if not self.may_wait(scope, it):
             return None
         if roll < 0.6 and scope.inside < 2:
-            first = [f"{it}.wait()"] if it not in scope.over and not (self.risky and self.chance(0.2)) \
-                else []
+            risks = it in scope.over or self.risky and self.chance(0.2)
+            first = [] if risks else [f"{it}.wait()"]
             self.is_over(scope, it)
             inner = scope.inner(scope.inside + 1, True, threads=scope.over)
             body = self.block(inner, 3, lambda now: self.asking(now, it))
@@ -510,7 +542,8 @@ class Maker:
                          [f"typecase {name} = {it}.val() of", f"  ZZ32 => println({name} + 1)",
                           f"  String => println(\"text \" {name})",
                           f"  Thread => {self.pick(name + '.wait()', f'println({name}.val())')}",
-                          f"  Exception => println({name})", "  else => println(\"other\")", "end"])
+                          f"  Exception => println({name})", "  else => println(\"other\")",
+                          "end"])
         self.is_over(scope, it)
         if self.chance(0.85):
             return self.caught(asks, scope)
@@ -530,7 +563,8 @@ class Maker:
         lines = [f"for {name} <- {span} do {it}: Thread = spawn {does} end"]
         if self.chance(0.3):
             lines = ["atomic do", *indented(lines), "end"]
-        return [*self.caught(lines, scope, "TooManyThreads => println(\"too many\")"), "atomic gate += 1"]
+        lines = self.caught(lines, scope, "TooManyThreads => println(\"too many\")")
+        return [*lines, "atomic gate += 1"]
 
     def again(self, scope):
         """`run` called by the source."""

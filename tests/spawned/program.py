@@ -5,9 +5,10 @@ where `spawn e` and the calls of `wait`, `val` and `ready` are forms of its own.
 The types, the opening store and all locations of the last two are the same.
 """
 from spawned.source import UNIT, Unread, prelude
-from spawned.terms import (Abort, Also, Apply, Atomic, Call, Const, Fn, For, If, Let, Local, Mutable,
-                           New, Operator, Print, Range, ReadField, ReadLocal, ReadTop, Refused, Then,
-                           Throw, Try, Typecase, While, WriteField, WriteLocal, WriteTop, same)
+from spawned.terms import (Abort, Also, Apply, Atomic, Call, Const, Fn, For, If, Let, Local,
+                           Mutable, New, Operator, Print, Range, ReadField, ReadLocal, ReadTop,
+                           Then, Throw, Try, Typecase, While, WriteField, WriteLocal, WriteTop,
+                           same)
 
 BUILT_IN = """Object Exception ZZ32 ZZ64 String Boolean Range IntegerOverflow DivisionByZero
     NegativeExponent IndexOutOfRange NegativeSize EmptyReduction MatchFailure DepthExceeded
@@ -273,7 +274,8 @@ class Program:
         if first[0] in ("let", "var"):
             part = self.of(first[3])
             slot = self.bind(first[1], first[0] == "var")
-            return self.made((Let if first[0] == "let" else Mutable)(slot, part, self.rest_of(behind)))
+            kind = Let if first[0] == "let" else Mutable
+            return self.made(kind(slot, part, self.rest_of(behind)))
         part = self.of(first)
         return self.made(Then(part, self.rest_of(behind))) if behind else part
 

@@ -14,6 +14,7 @@ Threads are named by their locations, the first one by 0; in an attempt no threa
 from spawned.terms import OPEN, THROW, UNWIND, VALUE, Atomic, Refused, Task, same
 
 COMPLETED, FAILED, ABORTED = "completed", "failed", "aborted"
+PLAIN = 0
 KNOWN = {}
 
 
@@ -292,17 +293,18 @@ class Replay(Run):
         if loc and not op.makes:
             raise Refused("a step that makes nothing makes something")
         if not node.prelude:
-            picks.append(("s", None if is_inner else self.thread(server), path, loc))
+            picks.append(("s", None if is_inner else self.thread(server, path), path, loc))
         elif node.tag is not None and (is_inner or server is not None):
             self.tagged(task, op, node, picks, server, path)
         op.step(task, self, loc)
 
-    def thread(self, server):
-        """The thread that a server goes on with; 0 is that of `run'`."""
-        if server is None or server == (0,):
+    def thread(self, server, path):
+        """The thread that a server goes on with; 0 is that of `run'`, and of the first call. All of
+        a component that isn't rewritten is that thread's."""
+        if server == (0,) or server is None and path == () or self.program.way == PLAIN:
             return 0
         if server not in self.serving:
-            raise Refused(f"a server without a thread at {server} takes a step of the source")
+            raise Refused(f"no thread takes a step of the source at {server} {path}")
         return self.serving[server]
 
     def tagged(self, task, op, node, picks, server, path):

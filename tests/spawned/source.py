@@ -10,8 +10,9 @@ import re
 TOP = pathlib.Path(__file__).resolve().parent.parent.parent
 TOKEN = re.compile(r"""(?P<gap>\s*)(?:(?P<name>[A-Za-z_][\w']*)|(?P<number>\d+)|(?P<text>"[^"\\]*")
     |(?P<sign>=/=|===|:=|\+=|-=|->|=>|<-|<=|>=|[-+=<>()\[\]{}.,;:\#]))""", re.X)
-WORDS = set("""component export end trait object extends comprises self var do also if then elif else
-    while for seq typecase of try catch finally throw fn atomic tryatomic spawn true false""".split())
+WORDS = set("""component export end trait object extends comprises self var do also if then elif
+    else while for seq typecase of try catch finally throw fn atomic tryatomic spawn true
+    false""".split())
 LEVELS = [{"OR"}, {"AND"}, {"=", "=/=", "<", "<=", ">", ">=", "==="}, {"#", ":"}, {"+", "-"},
           {"TIMES", "DIV", "MOD", "REM", "MAX", "MIN"}]
 LEVEL = {name: level for level, names in enumerate(LEVELS) for name in names}
@@ -112,10 +113,13 @@ class Tokens:
 
     def juxtaposed(self):
         left = self.unit()
-        while (self.kinds[self.at] in ("name", "number", "text") or self.word in ("(", "true", "false")) \
-                and self.gaps[self.at] and not self.starts_line():
+        while self.begins_atom() and self.gaps[self.at] and not self.starts_line():
             left = ("op", "juxtaposition", [left, self.unit()])
         return left
+
+    def begins_atom(self):
+        kind = self.kinds[self.at]
+        return kind in ("name", "number", "text") or self.word in ("(", "true", "false")
 
     def unit(self):
         if self.takes("NOT"):

@@ -1,4 +1,5 @@
-"""The terms of the machine for the subset, and the step of each (docs/MACHINE.md, "Steps and costs").
+"""The terms of the machine for the subset, and the step of each ("Steps and costs" of
+docs/MACHINE.md).
 
 A term isn't rewritten: a task stands at a form, with the forms round it as a stack of frames, and
 the values of variables are in an environment. A frame is a form that goes from left to right, one
@@ -427,8 +428,8 @@ class Items(Node):
             loop.body.enter(task, loop.body_of(first, env))
         else:
             half = (count + 1) // 2
-            Halves(loop, [Items(loop, first, half), Items(loop, first + half, count - half)]).enter(
-                task, env)
+            halves = Items(loop, first, half), Items(loop, first + half, count - half)
+            Halves(loop, halves).enter(task, env)
 
 
 class Rest(Sequential):

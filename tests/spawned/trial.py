@@ -21,17 +21,35 @@ class Trial:
         self.program, self.folder = program, pathlib.Path(folder)
         self.file = self.folder / "T.fss"
         self.file.write_text(text)
-        said = self.said("record", self.file, "--workers", str(workers), "--fuel", str(fuel))
+        words = "record", self.file, "--workers", str(workers), "--fuel", str(fuel)
+        self.text = self.said(*words)
         self.declarations = component(text)
         self.spawns = re.search(r"\bspawn\b", text)
-        self.replayed(Replay(self.rewritten(), Record(said)))
+        self.replayed(Replay(self.rewritten(), Record(self.text)))
+
+    def call(self, *words):
+        how = {"stdin": subprocess.DEVNULL, "capture_output": True, "timeout": SECONDS}
+        return subprocess.run([self.program, *words], **how)
 
     def said(self, *words):
-        how = {"stdin": subprocess.DEVNULL, "capture_output": True, "timeout": SECONDS}
-        done = subprocess.run([self.program, *words], **how)
+        done = self.call(*words)
         if done.returncode not in (0, 5, 6):
             raise Refused(f"{words[0]}: status {done.returncode}: {done.stderr.decode().strip()}")
         return done.stdout
+
+    def audited(self, text):
+        """Whether the program accepts a record."""
+        record = self.folder / "T.record"
+        record.write_bytes(text)
+        return self.call("audit", self.file, record).returncode == 0
+
+    def accepted(self, text):
+        """Whether our replay does."""
+        try:
+            Replay(self.rewritten(), Record(text)).whole()
+        except (Refused, KeyError, IndexError, ValueError, TypeError, AttributeError):
+            return False
+        return True
 
     def rewritten(self):
         return Program(self.declarations, REWRITTEN if self.spawns else PLAIN)
