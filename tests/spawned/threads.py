@@ -127,12 +127,14 @@ class Threads(Run):
         frame = self.frames[-1]
         task.op.body.enter(inner, task.env)
         self.play(within, inner)
+        if how is None:
+            # It was out of fuel, perhaps in what the prelude does behind the last step of this one.
+            self.close_attempt(ABORTED)
+            return
         closed = self.closes(task, inner, frame)
         if closed != how:
             raise Refused(f"an attempt that was {how} is {closed}")
-        if closed is None:
-            self.close_attempt(ABORTED)
-        elif closed == ABORTED:
+        if closed == ABORTED:
             task.came = frame.came
 
     def begin(self, loc):
