@@ -314,8 +314,8 @@ class Replay(Run):
             if op is UNWIND or task.kids and task.thrown:
                 raise Refused("a thread without a function")
             if server != (0,):
-                self.serving[server] = task.env[0][1]
-                picks.append(("begin", task.env[0][1]))
+                loc = self.serving[server] = task.env[0][1]
+                picks += ("begin", loc), ("s", loc, (), 0)
         elif tag == "end":
             picks.append(("end", thread))
         elif tag == "ready" or tag == "val":

@@ -1,6 +1,7 @@
-"""The machine with spawned threads, and a run of it by mapped picks (tests/spawned/replay.py)."""
+"""The machine with threads (docs/MACHINE.md), and a run of it by mapped picks."""
 from spawned.replay import ABORTED, COMPLETED, Run
-from spawned.terms import OPEN, THROW, VALUE, Atomic, Node, Parallel, Refused, Task
+from spawned.terms import (OPEN, THROW, VALUE, Apply, Atomic, Const, Node, Parallel, Refused,
+                           Task)
 
 
 class ThreadForm(Node):
@@ -144,7 +145,7 @@ class Threads(Run):
         if thread.has_begun:
             raise Refused(f"thread {loc} begins twice")
         thread.has_begun = True
-        thread.function.body.enter(thread.root, thread.function.env[:])
+        Apply(Const(thread.function), Const(())).enter(thread.root, [])
 
     def end(self, loc):
         thread = self.threads.get(loc)
