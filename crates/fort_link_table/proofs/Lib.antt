@@ -1,0 +1,5 @@
+mod Growing
+mod Map
+mod Once
+mod Tokens
+mod Steps

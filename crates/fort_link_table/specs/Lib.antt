@@ -1,0 +1,4 @@
+pub mod Names
+pub mod Table
+pub mod Numbers
+pub mod Laws

@@ -1,0 +1,11 @@
+pub mod HeadsRead
+pub mod Bodies
+pub mod HeadOpeners
+pub mod ComponentFiles
+pub mod ApisSound
+pub mod ApisComplete
+pub mod ApisAgree
+pub mod ApiFiles
+pub mod ApiLimits
+pub mod UnitLaws
+pub mod FaultPlaces

@@ -1,0 +1,5 @@
+pub mod Said
+pub mod Limits
+pub mod Answer
+pub mod Heads
+pub mod Apis

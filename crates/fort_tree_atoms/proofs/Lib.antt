@@ -1,0 +1,3 @@
+pub mod GathersFlats
+pub mod GathersBlocks
+pub mod Steps

@@ -1,0 +1,10 @@
+use Rattle.std.proofs.Common.{◌≡◌, ◌++◌, take}
+use Rattle.std.specs.List.{flat_map}
+use Rattle.fort_tree.specs.declared.declarations.TraitEntry.{TraitEntry}
+use Rattle.fort_tree_atoms.specs.AtomNames.{atoms_of_trait_member}
+use Rattle.fort_tree_atoms.proofs.declarations.add_trait_members.Given as goal
+
+abbrev pub invariant-loop-entry : goal.invariant-loop-entry
+invariant-loop-entry l =
+    l.names ≡ l.initial.names ++ flat_map (λ
+    (x : TraitEntry). atoms_of_trait_member x.member) (take l.entry-index l.members)
