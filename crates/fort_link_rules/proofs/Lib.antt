@@ -1,0 +1,12 @@
+pub mod Chains
+pub mod Earliest
+pub mod Gathering
+pub mod HeadLaws
+pub mod Marking
+pub mod Missing
+pub mod Reporting
+pub mod SpotLaws
+pub mod Steps
+pub mod Used
+pub mod WholeLaws
+pub mod Written

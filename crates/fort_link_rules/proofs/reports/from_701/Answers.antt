@@ -1,0 +1,11 @@
+use Rattle.fort_link_rules.proofs.Reporting.{if_ok, found_701, passed_701}
+use Rattle.fort_link_rules.proofs.reports.from_701.Goals as goal
+
+pub returns-in-Some : goal.returns-in-Some
+returns-in-Some c =
+    found_701 c.args.names.now c.args.units.now _ c.in-Some.place c.in-Some.is c.in_ok-first.ensures
+
+pub returns-in-None : goal.returns-in-None
+returns-in-None c =
+    if_ok c.from_702.result (passed_701 c.args.names.now c.args.units.now _ c.in-None.is
+    c.in_ok-first.ensures) c.from_702.ensures

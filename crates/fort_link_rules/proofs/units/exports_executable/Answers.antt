@@ -1,0 +1,13 @@
+use Rattle.std.proofs.Common.{List, ap, sym, ◌∙◌}
+use Rattle.std.specs.List.{list_any}
+use Rattle.fort_tree.specs.declared.declarations.Export.{Export}
+use Rattle.fort_tree.specs.Tokens.{is_spelled}
+use Rattle.fort_link_units.specs.declared.unit.Unit.{Unit}
+use Rattle.fort_link_rules.specs.Units.{exports_executable}
+use Rattle.fort_link_rules.proofs.units.exports_executable.Goals as goal
+
+pub returns-in-Component : goal.returns-in-Component
+returns-in-Component c =
+    c.is_executable_exported.ensures ∙ ap (λ (es : List Export). list_any (λ
+    (e : Export). is_spelled "Executable" c.args.names.now e.name) es) c.as_slice.ensures
+    ∙ sym (ap (λ (u : Unit). exports_executable c.args.names.now u) c.in-Component.is)

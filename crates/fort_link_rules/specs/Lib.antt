@@ -1,0 +1,11 @@
+pub mod Catalogue
+pub mod Heads
+pub mod Imported
+pub mod Marks
+pub mod Places
+pub mod Provided
+pub mod Reports
+pub mod Signatures
+pub mod Symbols
+pub mod TooMuch
+pub mod Units
