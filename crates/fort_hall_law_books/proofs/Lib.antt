@@ -1,0 +1,5 @@
+pub mod Marks
+pub mod Taken
+pub mod Legs
+pub mod Books
+pub mod Course
