@@ -1,0 +1,6 @@
+pub mod Lines
+pub mod Spots
+pub mod Units
+pub mod Whole
+pub mod Answer
+pub mod Reading
