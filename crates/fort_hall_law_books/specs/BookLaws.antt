@@ -1,5 +1,5 @@
--- The chapter "Books" of docs/THREADS.md: how a book begins, what it takes in, and what it is in the
--- end.
+-- The chapter "Books" of docs/THREADS.md: how a book begins, what it takes in, and what it is in
+-- the end.
 use Rattle.std.specs.Prelude.{◌≡◌, ℕ, ◌≤◌, Bool, true, false, List, [], ◌∷◌, ◌++◌, map}
 use Rattle.fort_core.specs.declared.form.Mode.{Mode}
 use Rattle.fort_core.specs.declared.journal.Ending.TheVariants.{Completed, Uncaught}
@@ -46,8 +46,8 @@ SubmitsSteps = (p : Program) (o : Origin) (picks more : List Pick) (fs : List Fr
     → IsBook p o (picks ++ map (under (road fs)) more) (ended_in (round_after more fs) r)
     (both d e)
 
--- So does an attempt, where its form may be tried in the book: it doesn't sleep on the book's store,
--- or nobody in the book's term is awake there.
+-- So does an attempt, where its form may be tried in the book: it doesn't sleep on the book's
+-- store, or nobody in the book's term is awake there.
 abbrev pub SubmitsAttempt : Type 0
 SubmitsAttempt = (p : Program) (o : Origin) (picks more : List Pick) (fs : List Frame) (s : Store)
     (t form u : Term) (d e : Effect)
@@ -56,8 +56,8 @@ SubmitsAttempt = (p : Program) (o : Origin) (picks more : List Pick) (fs : List 
     → MayBeTried (store_after o d) (plug fs t) form → MakesWithinBounds e
     → IsBook p o (picks ++ map (under (road fs)) more) (goes (plug (trodden fs) u)) (both d e)
 
--- What a leg does suits the store to which a book has come exactly where it may follow what the book
--- did and the store on which the book began suits both.
+-- What a leg does suits the store to which a book has come exactly where it may follow what the
+-- book did and the store on which the book began suits both.
 abbrev pub SuitsIsMeets : Type 0
 SuitsIsMeets = (p : Program) (o : Origin) (picks : List Pick) (r : Ended) (d e : Effect)
     → IsBook p o picks r d

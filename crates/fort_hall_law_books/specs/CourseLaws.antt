@@ -1,5 +1,5 @@
--- The chapter "Books" of docs/THREADS.md: what legs of the form at which a run stands are to the run,
--- and that the part of a task is in reach.
+-- The chapter "Books" of docs/THREADS.md: what legs of the form at which a run stands are to the
+-- run, and that the part of a task is in reach.
 use Rattle.std.specs.Prelude.{◌≡◌, ◌≢◌, ℕ, ◌<◌, ◌≤◌, Bool, false, List, [], ◌++◌, map}
 use Rattle.fort_core.specs.declared.pick.Pick.{Pick}
 use Rattle.fort_core.specs.declared.program.Program.{Program}

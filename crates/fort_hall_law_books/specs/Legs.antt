@@ -1,5 +1,6 @@
 -- The chapter "Books" of docs/THREADS.md: legs one after the other, each on the store that those
--- before it left. A form that is tried doesn't sleep then, whatever other threads of its machine do.
+-- before it left. A form that is tried doesn't sleep then, whatever other threads of its machine
+-- do.
 use Rattle.std.specs.Prelude.{◌≡◌, ◌≢◌, Bool, List, [], ◌++◌}
 use Rattle.fort_core.specs.declared.pick.Pick.{Pick}
 use Rattle.fort_core.specs.declared.program.Program.{Program}
@@ -8,8 +9,8 @@ use Rattle.fort_machine.specs.Attempts.{Sleeps, goes}
 use Rattle.fort_machine.specs.Effects.{Store, Effect, idle, both, afterwards}
 use Rattle.fort_hall_law_books.specs.Taken.{IsStepped, IsTried}
 
--- Legs lead from a term to another one on a store, in a machine, an attempt's or the root's: no leg;
--- or some steps, and then legs; or an attempt of a form that doesn't sleep, and then legs.
+-- Legs lead from a term to another one on a store, in a machine, an attempt's or the root's: no
+-- leg; or some steps, and then legs; or an attempt of a form that doesn't sleep, and then legs.
 pub data Legs (p : Program) (inner : Bool) : (s : Store) (t : Term) (picks : List Pick) (u : Term)
     (d : Effect) → Type 0 where
   no_leg : {s : Store} {t u : Term} {picks : List Pick} {d : Effect}

@@ -1,5 +1,5 @@
--- The chapter "Books" of docs/THREADS.md: what a task does beside its book. It is a leg of its part,
--- taken on some store: steps of the part's threads, or one attempt of an atomic form in it.
+-- The chapter "Books" of docs/THREADS.md: what a task does beside its book. It is a leg of its
+-- part, taken on some store: steps of the part's threads, or one attempt of an atomic form in it.
 use Rattle.std.specs.Prelude.{◌≡◌, Bool, true, false, List, [], ◌∷◌}
 use Rattle.fort_core.specs.declared.form.Mode.{Mode}
 use Rattle.fort_core.specs.declared.pick.Pick.{Pick, Attempt}

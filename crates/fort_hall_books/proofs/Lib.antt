@@ -1,0 +1,3 @@
+pub mod Watched
+pub mod Suits
+pub mod Books

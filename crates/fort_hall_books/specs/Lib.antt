@@ -1,0 +1,4 @@
+pub mod Legs
+pub mod Books
+pub mod Answers
+pub mod Laws
