@@ -5,12 +5,12 @@ import re
 from editing import lexical
 
 WORDS = {
-    "declaration": "component export trait object extends excludes comprises opr var fn array",
+    "declaration": "component api import export trait object extends excludes comprises opr var fn"
+                   " array",
     "control": "do also if then elif else while for seq case typecase of try catch finally throw"
                " spawn end",
     "atomic": "atomic tryatomic",
     "reduction": "BIG SUM PROD",
-    "unused": "import api",
     "constant": "true false",
     "self": "self",
 }
@@ -27,7 +27,6 @@ SHOWN = {
     "control": ("keyword.control", "fssControl"),
     "atomic": ("keyword.control.atomic", "fssAtomic"),
     "reduction": ("keyword.operator.reduction", "fssReduction"),
-    "unused": ("invalid.deprecated", "fssUnused"),
     "constant": ("constant.language", "fssConstant"),
     "self": ("variable.language.self", "fssSelf"),
     "operator": ("keyword.operator.word", "fssOperator"),
@@ -60,7 +59,7 @@ def label_of_symbol(text):
 
 def label_of_name(before, token, behind):
     """The label of a name, which depends on the tokens beside it."""
-    if before and before.text in ("component", "trait", "object") and \
+    if before and before.text in ("component", "api", "trait", "object") and \
             re.fullmatch(r"[ \t]+", token.gap):
         return "type name"
     if token.text in lexical.BUILT_IN:

@@ -26,8 +26,7 @@ def syntax(count, texts, folder):
 
 def indentation(count, folder):
     """The examples, with all white space at the front of lines gone, are indented as they were."""
-    paths = sorted((sources.TOP / "examples").glob("*.fss"))
-    texts = {it.name: it.read_text() for it in paths if it.name not in UNLIKE}
+    texts = {it.name: it.read_text() for it in sources.examples() if it.name not in UNLIKE}
     texts["each_form.fss"] = sources.INDENTED
     asked = {name: sources.unindented(text).encode() for name, text in texts.items()}
     for name, lines in vim.each(folder, "Indented", asked).items():

@@ -121,11 +121,11 @@ def javascript(count, texts, notes, engine):
 
 
 def indentation(count, engine):
-    """The examples are indented as the rules say, but where a line ends with `=`."""
+    """The examples are indented as the rules say, but APIs and where a line ends with `=`."""
     rules = read("language-configuration.json")["indentationRules"]
-    texts = {it.name: it.read_text() for it in sorted((sources.TOP / "examples").glob("*.fss"))}
+    texts = {it.name: it.read_text() for it in sources.examples()}
     for name, text in {**texts, "each form": sources.INDENTED}.items():
-        if name not in UNLIKE and not re.search(r"=$", text, re.M):
+        if name not in UNLIKE and not re.search(r"=$|^api\b", text, re.M):
             wanted, got = text.split("\n"), reindented(text, rules, engine).split("\n")
             wrong = [f"{want!r} becomes {is_!r}" for want, is_ in zip(wanted, got) if want != is_]
             count.take(f"VS Code's indentation of {name}", "; ".join(wrong[:3]))

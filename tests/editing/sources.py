@@ -20,7 +20,7 @@ TRICKY = [
     "component T export Executable", "trait A extends { B, C } excludes D comprises { E }",
     "trait  A\tend trait\nB end object C(x: ZZ32) end object (* c *) D end",
     "traits objects Trait array[\\ZZ32\\](3).fill(0)",
-    "import api spawn imports", "self selfish true truex false", "println(x) x.length print",
+    "api A import B export C spawn imports apis", "api  (* c *) Ab; trait Cd object Ef end", "self selfish true truex false", "println(x) x.length print",
     "abort() abort tryatomic atomic atomical", "Array[\\Any, ZZ32\\] ZZ32x ZZ64 Zz32",
     "opr ≤(a: A, b: A): Boolean = a ≤ b", "f(): ()=>()", "fn (x) => x; fn(x)⇒x", "a^b^c 2x^2"[:5],
     "\ta\f b\r\n c", "", "\n\n", "end", "a ", "  do  ",
@@ -79,12 +79,16 @@ def page_sources():
             yield f"{page.stem}_{at}.fss", text
 
 
+def examples():
+    """The examples, those of several files among them."""
+    return sorted([*(TOP / "examples").glob("*.fss"), *(TOP / "examples/shapes").glob("*.fss")])
+
+
 def all_sources():
     """All sources by the names of their files, each a text."""
     found = {}
-    for folder in ("examples", "tests/cases"):
-        for path in sorted((TOP / folder).glob("*.fss")):
-            found[path.name] = path.read_bytes().decode()
+    for path in [*examples(), *sorted((TOP / "tests/cases").glob("*.fss"))]:
+        found[path.name] = path.read_bytes().decode()
     found.update(page_sources())
     found["every_word.fss"] = every_word()
     found.update({f"tricky_{at}.fss": text for at, text in enumerate(TRICKY)})

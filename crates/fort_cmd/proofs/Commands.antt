@@ -1,10 +1,10 @@
 -- The commands that words are.
-use Rattle.std.proofs.Common.{◌≡◌, ℕ, ◌+◌, List, [], ◌∷◌, length, get_or, refl, ap, sym, ◌∙◌, subst, false}
+use Rattle.std.proofs.Common.{◌≡◌, ℕ, ◌+◌, List, [], ◌∷◌, length, get_or, refl, ap, sym, ◌∙◌, ◌≤◌, subst, false}
 use Rattle.std.proofs.lemmas.Bool.{eqb-false}
 use Rattle.std.specs.Prelude.{codes, nat_eq, unwrap_or}
 use Rattle.fort_cmd.specs.declared.command.Command.{Command}
-use Rattle.fort_cmd.specs.declared.command.Command.TheVariants.{Check, Show, Run, Bench, Record, Audit}
-use Rattle.fort_cmd.specs.Words.{IsNumber, Given, nothing, Gives, only, AsksRun, AsksBank, word_of, Asks, IsNoCommand, OneCommand, default_workers, default_fuel, most_accounts}
+use Rattle.fort_cmd.specs.declared.command.Command.TheVariants.{Check, Show, Run, Bench, Record, Audit, Link}
+use Rattle.fort_cmd.specs.Words.{IsNumber, Given, nothing, Gives, only, AsksRun, AsksLink, AsksBank, word_of, Asks, IsNoCommand, OneCommand, default_workers, default_fuel, most_accounts, most_files}
 use Rattle.fort_cmd.proofs.Parts.{one_given}
 
 -- ---- the commands' own words
@@ -43,6 +43,7 @@ no_bench_command ws none = none_asked (codes "bench") ws go
     go (Bench n) e x = none x.number n x.gives x.is
     go (Record file workers fuel) e x = unlike (codes "bench") (codes "record") refl e
     go (Audit file kept) e x = unlike (codes "bench") (codes "audit") refl e
+    go (Link files workers fuel) e x = unlike (codes "bench") (codes "link") refl e
 
 same_file : (a b : List ℕ) → only (a ∷ []) ≡ only (b ∷ []) → a ≡ b
 same_file a b e = let z : a ∷ [] ≡ b ∷ [] = ap (λ (g : Given). g.files) e in cc
@@ -55,6 +56,24 @@ without_number ws number x none = no_bench_command ws (λ other n y is.
     none n (subst (λ w. IsNumber most_accounts w n)
     (sym (same_file number other
     (one_given ws nothing (only (number ∷ [])) (only (other ∷ [])) x y))) is))
+
+-- Words that give too many files link none.
+pub too_many_files : (ws : List (List ℕ)) (given : Given) → Gives ws nothing given
+    → (length given.files ≤ most_files → ⊥) → IsNoCommand (codes "link" ∷ ws)
+too_many_files ws given gives many = none_asked (codes "link") ws go
+  where
+    go : (c : Command) → codes "link" ≡ word_of c → Asks ws c → ⊥
+    go (Check file) e x = unlike (codes "link") (codes "check") refl e
+    go (Show file) e x = unlike (codes "link") (codes "show") refl e
+    go (Run file workers fuel) e x = unlike (codes "link") (codes "run") refl e
+    go (Bench n) e x = unlike (codes "link") (codes "bench") refl e
+    go (Record file workers fuel) e x = unlike (codes "link") (codes "record") refl e
+    go (Audit file kept) e x = unlike (codes "link") (codes "audit") refl e
+    go (Link files workers fuel) e x =
+        let same : given.files ≡ files =
+        ap (λ (g : Given). g.files) (one_given ws nothing given x.given gives x.gives)
+        ∙ x.files_are in
+        many (subst (λ fs. length fs ≤ most_files) (sym same) x.within)
 
 -- ---- one command at most
 
@@ -92,6 +111,19 @@ same_run make ws a b v w n m p q =
     let fuel : n ≡ m =
     p.fuel_is ∙ ap (λ (g : Given). unwrap_or g.fuel default_fuel) same ∙ sym q.fuel_is
     in (λ i. make (file i) (workers i) (fuel i))
+
+same_link : (ws a b : List (List ℕ)) (v w n m : ℕ) → AsksLink ws a v n → AsksLink ws b w m
+    → Link a v n ≡ Link b w m
+same_link ws a b v w n m p q =
+    let same = one_given ws nothing p.given q.given p.gives q.gives in
+    let files : a ≡ b =
+    sym p.files_are ∙ ap (λ (g : Given). g.files) same ∙ q.files_are in
+    let workers : v ≡ w =
+    p.workers_are ∙ ap (λ
+    (g : Given). unwrap_or g.workers default_workers) same ∙ sym q.workers_are in
+    let fuel : n ≡ m =
+    p.fuel_is ∙ ap (λ (g : Given). unwrap_or g.fuel default_fuel) same ∙ sym q.fuel_is
+    in (λ i. Link (files i) (workers i) (fuel i))
 
 same_asked : (ws : List (List ℕ)) (a b : Command) → word_of a ≡ word_of b → Asks ws a → Asks ws b
     → a ≡ b
@@ -139,6 +171,23 @@ same_asked ws (Audit a c) (Bench m) e p q = absurd (unlike (codes "audit") (code
 same_asked ws (Audit a c) (Record b w m) e p q =
     absurd (unlike (codes "audit") (codes "record") refl e)
 same_asked ws (Audit a c) (Audit b d) e p q = same_two ws a b c d p q
+same_asked ws (Check a) (Link b w m) e p q = absurd (unlike (codes "check") (codes "link") refl e)
+same_asked ws (Show a) (Link b w m) e p q = absurd (unlike (codes "show") (codes "link") refl e)
+same_asked ws (Run a v n) (Link b w m) e p q = absurd (unlike (codes "run") (codes "link") refl e)
+same_asked ws (Bench n) (Link b w m) e p q = absurd (unlike (codes "bench") (codes "link") refl e)
+same_asked ws (Record a v n) (Link b w m) e p q =
+    absurd (unlike (codes "record") (codes "link") refl e)
+same_asked ws (Audit a c) (Link b w m) e p q =
+    absurd (unlike (codes "audit") (codes "link") refl e)
+same_asked ws (Link a v n) (Check b) e p q = absurd (unlike (codes "link") (codes "check") refl e)
+same_asked ws (Link a v n) (Show b) e p q = absurd (unlike (codes "link") (codes "show") refl e)
+same_asked ws (Link a v n) (Run b w m) e p q = absurd (unlike (codes "link") (codes "run") refl e)
+same_asked ws (Link a v n) (Bench m) e p q = absurd (unlike (codes "link") (codes "bench") refl e)
+same_asked ws (Link a v n) (Record b w m) e p q =
+    absurd (unlike (codes "link") (codes "record") refl e)
+same_asked ws (Link a v n) (Audit b d) e p q =
+    absurd (unlike (codes "link") (codes "audit") refl e)
+same_asked ws (Link a v n) (Link b w m) e p q = same_link ws a b v w n m p q
 
 pub one_command : OneCommand
 one_command words a b p q =

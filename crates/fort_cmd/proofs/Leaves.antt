@@ -4,13 +4,13 @@ use Rattle.clap.specs.Walk.{Rule, Text}
 use Rattle.clap.specs.Simple.{App, Shape, app_of, built, is_simple, new_rule, new_shape, with_subcommand}
 use Rattle.clap.specs.Built.{AddsSubcommand}
 use Rattle.clap.specs.Faults.{is_simple_and_free}
-use Rattle.clap.specs.declared.builder.action.ArgAction.TheVariants.{Set}
+use Rattle.clap.specs.declared.builder.action.ArgAction.TheVariants.{Append, Set}
 use Rattle.clap.specs.declared.builder.command.Command.{Command}
 use Rattle.clap.specs.declared.builder.command.Command.TheViews.{out-Command}
 use Rattle.clap.specs.declared.builder.range.ValueRange.{ValueRange}
 use Rattle.clap.specs.declared.builder.value_parser.ValueParser.TheVariants as parser
 use Rattle.fort_cmd.specs.Words.{Choice, Workers, Fuel, most_of}
-use Rattle.fort_cmd.specs.Line.{Kind, OfFile, OfRun, OfAudit, id_of, line}
+use Rattle.fort_cmd.specs.Line.{Kind, OfFile, OfRun, OfAudit, OfLink, id_of, line}
 
 abbrev pub once : ValueRange
 once = record { start_inclusive = 1; end_inclusive = 1 }
@@ -32,10 +32,14 @@ word_built id i = record (new_rule id) {
   range = Some once;
 }
 
+abbrev pub words_built : Text → ℕ → Rule
+words_built id i = record (word_built id i) { action = Some Append }
+
 abbrev pub rules : Kind → List Rule
 rules OfFile = word_built (codes "file") 1 ∷ []
 rules OfRun = option_built Workers ∷ option_built Fuel ∷ word_built (codes "file") 1 ∷ []
 rules OfAudit = word_built (codes "file") 1 ∷ word_built (codes "record") 2 ∷ []
+rules OfLink = option_built Workers ∷ option_built Fuel ∷ words_built (codes "file") 1 ∷ []
 
 abbrev pub leaf : Kind → Text → Shape
 leaf kind name = record (new_shape name) {
@@ -60,7 +64,7 @@ whole_line = record {
   top = above;
   subs = leaf OfFile (codes "check") ∷ leaf OfFile (codes "show") ∷ leaf OfRun (codes "run")
       ∷ leaf OfFile (codes "bench") ∷ leaf OfRun (codes "record")
-      ∷ leaf OfAudit (codes "audit") ∷ [];
+      ∷ leaf OfAudit (codes "audit") ∷ leaf OfLink (codes "link") ∷ [];
 }
 
 pub line_built : built line ≡ whole_line

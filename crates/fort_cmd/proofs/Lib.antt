@@ -1,6 +1,7 @@
 pub mod Parts
 pub mod Commands
 pub mod Leaves
+pub mod Files
 pub mod Rows
 pub mod Looks
 pub mod Turns

@@ -1,19 +1,21 @@
 -- What the matches say is what the words ask for.
-use Rattle.std.proofs.Common.{◌≡◌, ◌<◌, ◌≤◌, ◌^◌, ℕ, refl, ap, sym, ◌∙◌, subst, arith, List, [], ◌∷◌, length, Result, Ok, Err, IfErr}
+use Rattle.std.proofs.Common.{◌≡◌, ◌<◌, ◌≤◌, ◌^◌, ℕ, refl, ap, sym, ◌∙◌, subst, arith, List, [], ◌∷◌, length, Bor, Result, Ok, Err, IfErr}
 use Rattle.std.specs.Prelude.{codes, option_map, slice_get, unwrap_or, Option, Some, None}
 use Rattle.std.specs.Str.Parse.{ParsesUnsigned}
-use Rattle.clap.specs.Walk.{Row, Text, first_of, one_of, rows_of}
-use Rattle.clap.specs.Matches.{ReadsOne, one_text}
+use Rattle.std.proofs.lemmas.List.{length-map}
+use Rattle.clap.specs.Walk.{Row, Text, all_of, first_of, one_of, rows_of, texts}
+use Rattle.clap.specs.Matches.{ReadsOne, matched_of, one_text, raw_values}
 use Rattle.clap.specs.declared.parser.matches.Found.{Found}
-use Rattle.clap.proofs.WalkLemmas.{one_text-rows}
+use Rattle.clap.proofs.WalkLemmas.{one_text-rows, raw_values-rows}
 use Rattle.fort_cmd.specs.declared.command.CmdFault.{CmdFault}
 use Rattle.fort_cmd.specs.declared.command.CmdFault.TheVariants.{Memory}
 use Rattle.fort_cmd.specs.declared.command.Command.{Command}
-use Rattle.fort_cmd.specs.declared.command.Command.TheVariants.{Bench}
-use Rattle.fort_cmd.proofs.Commands.{unlike, without_number}
-use Rattle.fort_cmd.specs.Words.{AsksRun, Choice, Explains, Gives, IsCommand, IsNoCommand, IsNumber, default_fuel, default_workers, most_accounts, most_of, nothing, only}
-use Rattle.fort_cmd.specs.Line.{AuditIsOf, FoundNumber, IsOf, Kind, OfAudit, OfFile, OfRun, Reads, RecordIsOf, RunIsOf, CheckIsOf, ShowIsOf, BenchIsOf, id_of, row, row_of_id}
+use Rattle.fort_cmd.specs.declared.command.Command.TheVariants.{Bench, Link}
+use Rattle.fort_cmd.proofs.Commands.{too_many_files, unlike, without_number}
+use Rattle.fort_cmd.specs.Words.{AsksLink, AsksRun, Choice, Explains, Gives, IsCommand, IsNoCommand, IsNumber, default_fuel, default_workers, most_accounts, most_files, most_of, nothing, only}
+use Rattle.fort_cmd.specs.Line.{AuditIsOf, FoundNumber, IsOf, Kind, OfAudit, OfFile, OfRun, Reads, RecordIsOf, RunIsOf, CheckIsOf, ShowIsOf, BenchIsOf, LinkIsOf, OfLink, first_row, id_of, row, row_of_all, row_of_id}
 use Rattle.fort_cmd.specs.Words.{Fuel, Workers}
+use Rattle.fort_cmd.proofs.Rows.{some_injective, some_none}
 
 pub first_is : (id word : Text) (rows : List Row) → row_of_id id rows ≡ Some (row id word)
     → first_of id rows ≡ Some word
@@ -108,6 +110,83 @@ module _ (behind : List Text) (rows : List Row) where
         },
       )
 
+-- ---- the files of a link
+
+-- The values of an argument that was given with these.
+values_are : (id : Text) (values : List Text) (rows : List Row)
+    → row_of_id id rows ≡ Some (row_of_all id values) → all_of id rows ≡ Some values
+values_are id values rows e = rw e refl
+
+-- The words that the parser has, if it has any.
+pub words_found : (o : Option (Bor (List (Bor Text)))) (words : Bor (List (Bor Text)))
+    (files : List Text) (values : Option (List Text))
+    → o ≡ Some words → files ≡ texts words.now
+    → option_map (λ (s : Bor (List (Bor Text))). texts s.now) o ≡ values
+    → Some files ≡ values
+words_found o words files values e f is =
+    ap Some f ∙ sym (ap (option_map (λ (s : Bor (List (Bor Text))). texts s.now)) e) ∙ is
+
+pub words_there : (o : Option (Bor (List (Bor Text)))) (files : List Text)
+    → option_map (λ (s : Bor (List (Bor Text))). texts s.now) o ≡ Some files
+    → (words : Bor (List (Bor Text))) × (o ≡ Some words) × (files ≡ texts words.now)
+words_there None files e = absurd (some_none files (sym e))
+words_there (Some words) files e = (words, refl, sym (some_injective (texts words.now) files e))
+
+pub as_many_words : (words : List (Bor Text)) (files : List Text) → files ≡ texts words
+    → length files ≡ length words
+as_many_words words files e = ap length e ∙ length-map words (λ (s : Bor Text). s.now)
+
+module _ (behind : List Text) (found : Found) (r : Reads OfLink behind (rows_of found)) where
+  -- One file or more, and they were found.
+  all_there : (1 ≤ length r.given.files)
+      × (row_of_id (codes "file") (rows_of found) ≡ Some (row_of_all (codes "file") r.given.files))
+  all_there = go r.given.files r.files r.found.file
+    where
+      go : (files : List Text) → 1 ≤ length files
+          → row_of_id (codes "file") (rows_of found) ≡ first_row OfLink files
+          → (1 ≤ length files)
+          × (row_of_id (codes "file") (rows_of found) ≡ Some (row_of_all (codes "file") files))
+      go [] l e = absurd (omega (arith, l))
+      go (file ∷ files) l e = (l, e)
+
+  -- What the parser answers of them.
+  files_read : (o : Option (List Text))
+      → o ≡ option_map raw_values (matched_of found (codes "file")) → o ≡ Some r.given.files
+  files_read o e =
+      e ∙ raw_values-rows found (codes "file")
+      ∙ values_are (codes "file") r.given.files (rows_of found) all_there.1
+
+  pub link_is : (files : List Text) (workers fuel : ℕ)
+      → Some files ≡ option_map raw_values (matched_of found (codes "file"))
+      → length files ≤ most_files
+      → ((n : Option ℕ) → FoundNumber Workers (rows_of found) n
+      → workers ≡ unwrap_or n default_workers)
+      → ((n : Option ℕ) → FoundNumber Fuel (rows_of found) n → fuel ≡ unwrap_or n default_fuel)
+      → IsCommand (codes "link" ∷ behind) (Link files workers fuel)
+  link_is files workers fuel e l w u =
+      let same : files ≡ r.given.files =
+      some_injective files r.given.files (files_read (Some files) e) in
+      record {
+        behind = behind;
+        words_are = refl;
+        asks = record {
+          given = r.given;
+          gives = r.gives;
+          files_are = sym same;
+          some = subst (λ fs. 1 ≤ length fs) (sym same) all_there.0;
+          within = l;
+          workers_are = w r.given.workers r.found.workers;
+          fuel_is = u r.given.fuel r.found.fuel;
+        };
+      }
+
+  pub no_link : (o : Option (List Text))
+      → o ≡ option_map raw_values (matched_of found (codes "file"))
+      → ((files : List Text) → o ≡ Some files → length files ≤ most_files → ⊥)
+      → IsNoCommand (codes "link" ∷ behind)
+  no_link o e many =
+      too_many_files behind r.given r.gives (many r.given.files (files_read o e))
+
 -- ---- what a typed reading answers
 
 module _ (E : Type 0) (G : Text → Result ℕ E → Type 0) (bits : ℕ)
@@ -201,6 +280,8 @@ kind_of_check OfRun name (RecordIsOf q) e =
     absurd (unlike (codes "record") (codes "check") refl (sym q ∙ e))
 kind_of_check OfAudit name (AuditIsOf q) e =
     absurd (unlike (codes "audit") (codes "check") refl (sym q ∙ e))
+kind_of_check OfLink name (LinkIsOf q) e =
+    absurd (unlike (codes "link") (codes "check") refl (sym q ∙ e))
 
 pub kind_of_show : (kind : Kind) (name : Text) → IsOf kind name → name ≡ codes "show"
     → kind ≡ OfFile
@@ -211,6 +292,8 @@ kind_of_show OfRun name (RecordIsOf q) e =
     absurd (unlike (codes "record") (codes "show") refl (sym q ∙ e))
 kind_of_show OfAudit name (AuditIsOf q) e =
     absurd (unlike (codes "audit") (codes "show") refl (sym q ∙ e))
+kind_of_show OfLink name (LinkIsOf q) e =
+    absurd (unlike (codes "link") (codes "show") refl (sym q ∙ e))
 
 pub kind_of_run : (kind : Kind) (name : Text) → IsOf kind name → name ≡ codes "run" → kind ≡ OfRun
 kind_of_run OfFile name (CheckIsOf q) e =
@@ -222,6 +305,8 @@ kind_of_run OfFile name (BenchIsOf q) e =
 kind_of_run OfRun name is e = refl
 kind_of_run OfAudit name (AuditIsOf q) e =
     absurd (unlike (codes "audit") (codes "run") refl (sym q ∙ e))
+kind_of_run OfLink name (LinkIsOf q) e =
+    absurd (unlike (codes "link") (codes "run") refl (sym q ∙ e))
 
 pub kind_of_bench : (kind : Kind) (name : Text) → IsOf kind name → name ≡ codes "bench"
     → kind ≡ OfFile
@@ -232,6 +317,8 @@ kind_of_bench OfRun name (RecordIsOf q) e =
     absurd (unlike (codes "record") (codes "bench") refl (sym q ∙ e))
 kind_of_bench OfAudit name (AuditIsOf q) e =
     absurd (unlike (codes "audit") (codes "bench") refl (sym q ∙ e))
+kind_of_bench OfLink name (LinkIsOf q) e =
+    absurd (unlike (codes "link") (codes "bench") refl (sym q ∙ e))
 
 pub kind_of_record : (kind : Kind) (name : Text) → IsOf kind name → name ≡ codes "record"
     → kind ≡ OfRun
@@ -244,18 +331,41 @@ kind_of_record OfFile name (BenchIsOf q) e =
 kind_of_record OfRun name is e = refl
 kind_of_record OfAudit name (AuditIsOf q) e =
     absurd (unlike (codes "audit") (codes "record") refl (sym q ∙ e))
+kind_of_record OfLink name (LinkIsOf q) e =
+    absurd (unlike (codes "link") (codes "record") refl (sym q ∙ e))
 
--- A name that is none of the others is that of the audit.
+pub kind_of_audit : (kind : Kind) (name : Text) → IsOf kind name → name ≡ codes "audit"
+    → kind ≡ OfAudit
+kind_of_audit OfFile name (CheckIsOf q) e =
+    absurd (unlike (codes "check") (codes "audit") refl (sym q ∙ e))
+kind_of_audit OfFile name (ShowIsOf q) e =
+    absurd (unlike (codes "show") (codes "audit") refl (sym q ∙ e))
+kind_of_audit OfFile name (BenchIsOf q) e =
+    absurd (unlike (codes "bench") (codes "audit") refl (sym q ∙ e))
+kind_of_audit OfRun name (RunIsOf q) e =
+    absurd (unlike (codes "run") (codes "audit") refl (sym q ∙ e))
+kind_of_audit OfRun name (RecordIsOf q) e =
+    absurd (unlike (codes "record") (codes "audit") refl (sym q ∙ e))
+kind_of_audit OfAudit name is e = refl
+kind_of_audit OfLink name (LinkIsOf q) e =
+    absurd (unlike (codes "link") (codes "audit") refl (sym q ∙ e))
+
+-- A name that is none of the others is that of the link.
 pub kind_of_last : (kind : Kind) (name : Text) → IsOf kind name → (name ≡ codes "run" → ⊥)
     → (name ≡ codes "check" → ⊥) → (name ≡ codes "show" → ⊥) → (name ≡ codes "bench" → ⊥)
-    → (name ≡ codes "record" → ⊥) → (kind ≡ OfAudit) × (name ≡ codes "audit")
-kind_of_last OfFile name (CheckIsOf e) no_run no_check no_show no_bench no_record =
+    → (name ≡ codes "record" → ⊥) → (name ≡ codes "audit" → ⊥)
+    → (kind ≡ OfLink) × (name ≡ codes "link")
+kind_of_last OfFile name (CheckIsOf e) no_run no_check no_show no_bench no_record no_audit =
     absurd (no_check e)
-kind_of_last OfFile name (ShowIsOf e) no_run no_check no_show no_bench no_record =
+kind_of_last OfFile name (ShowIsOf e) no_run no_check no_show no_bench no_record no_audit =
     absurd (no_show e)
-kind_of_last OfFile name (BenchIsOf e) no_run no_check no_show no_bench no_record =
+kind_of_last OfFile name (BenchIsOf e) no_run no_check no_show no_bench no_record no_audit =
     absurd (no_bench e)
-kind_of_last OfRun name (RunIsOf e) no_run no_check no_show no_bench no_record = absurd (no_run e)
-kind_of_last OfRun name (RecordIsOf e) no_run no_check no_show no_bench no_record =
+kind_of_last OfRun name (RunIsOf e) no_run no_check no_show no_bench no_record no_audit =
+    absurd (no_run e)
+kind_of_last OfRun name (RecordIsOf e) no_run no_check no_show no_bench no_record no_audit =
     absurd (no_record e)
-kind_of_last OfAudit name (AuditIsOf e) no_run no_check no_show no_bench no_record = (refl, e)
+kind_of_last OfAudit name (AuditIsOf e) no_run no_check no_show no_bench no_record no_audit =
+    absurd (no_audit e)
+kind_of_last OfLink name (LinkIsOf e) no_run no_check no_show no_bench no_record no_audit =
+    (refl, e)

@@ -3,7 +3,7 @@ use Rattle.std.proofs.Common.{◌≡◌, ℕ, ◌+◌, ◌≤◌, List, [], ◌�
 use Rattle.std.specs.Prelude.{codes, nat_eq, Some, None}
 use Rattle.std.specs.List.{starts_with}
 use Rattle.fort_cmd.specs.Words.{IsNumber, BeginsWith, InTwo, InOne, Choice, Workers, Fuel, name_of, most_of, NamesFile, Given, AddsFiles, AddsNumber, Adds, AddsMarked, AddsNamed, AddsOption, Gives, GivesNoMore, GivesPart}
-use Rattle.fort_cmd.specs.Line.{Kind, OfFile, OfRun, OfAudit, TakesOptions}
+use Rattle.fort_cmd.specs.Line.{Kind, OfFile, OfRun, OfAudit, OfLink, TakesOptions}
 
 -- ---- the first word
 
@@ -251,3 +251,4 @@ pub options_stay : (kind : Kind) (ws : List (List ℕ)) (before after : Given) �
 options_stay OfRun ws before after g o = tt
 options_stay OfFile ws before after g o = no_option ws before after g o
 options_stay OfAudit ws before after g o = no_option ws before after g o
+options_stay OfLink ws before after g o = tt

@@ -4,19 +4,20 @@ use Rattle.std.specs.Prelude.{codes, not, Option, Some, None}
 use Rattle.std.specs.List.{before_first, after_first, prefix_len}
 use Rattle.std.specs.Str.{IsUtf8, bytes_eq}
 use Rattle.std.specs.Str.Parse.{digits_value, without_leading_plus}
-use Rattle.std.proofs.lemmas.Bool.{cases_lt, eqb-true}
+use Rattle.std.proofs.lemmas.Bool.{eqb-true}
 use Rattle.clap.specs.Lexer.{has_byte, long_of, name_and_value}
-use Rattle.clap.specs.Walk.{Row, Text, Waiting, Walk, arg_by_long, idle, option, subcommand_met, used, value, walked}
+use Rattle.clap.specs.Walk.{Row, Text, Waiting, Walk, arg_by_long, option, subcommand_met, used, value, walked}
 use Rattle.clap.specs.Faults.{check_fault, step_fault, turn_fault, use_fault}
 use Rattle.clap.specs.Kinds.{or_else}
 use Rattle.fort_cmd.specs.Words.{Adds, AddsMarked, AddsNamed, AddsNumber, AddsOption, InOne, InTwo, Choice, Workers, Fuel, Given, Gives, GivesNoMore, GivesPart, NamesFile, name_of}
-use Rattle.fort_cmd.specs.Line.{Found, FoundNumber, Kind, OfFile, OfRun, OfAudit, TakesOptions, files_wanted, id_of, row, row_of_id}
+use Rattle.fort_cmd.specs.Line.{AsMany, Found, FoundNumber, Kind, OfFile, OfRun, OfAudit, OfLink, TakesOptions, id_of, row, row_of_id}
 use Rattle.fort_cmd.proofs.Leaves.{leaf, option_built, rules}
+use Rattle.fort_cmd.proofs.Files.{HasOptions, HasRoom, Idle, Resting, Within, behind_file, next_id, place, rests, within_room}
 use Rattle.fort_cmd.proofs.Looks.{IsPlain, Look, Plain, Mark, Short, Long, flag_there, look}
-use Rattle.fort_cmd.proofs.Rows.{all, append_nil, file_found, id_at, none_at, some_none}
+use Rattle.fort_cmd.proofs.Rows.{all, append_nil, some_none}
 use Rattle.fort_cmd.proofs.Complete.{longer, option_found}
 use Rattle.fort_cmd.proofs.Turns
-use Rattle.fort_cmd.proofs.Turns.{Named, Unnamed, Optional, Pending, after, at, all_there, few, finish, finished_is, full_step, held, last, last_is, left_none, mark_walked, mark_walked_option, named, no_more, number_walked, one_turn, one_walked, option_after, option_after_two, option_means, option_settles, option_waits, plain_turn, plain_walked, right_none, roomy_step, settles, short_turn, trailing_turn, trailing_walked, two_turn, two_walked, unnamed_turn, whole, word_after, word_settles}
+use Rattle.fort_cmd.proofs.Turns.{Named, Unnamed, Optional, Pending, after, at, all_there, finish, finished_is, full_step, held, last, last_is, left_none, mark_walked, mark_walked_option, named, no_more, number_walked, one_turn, one_walked, option_after, option_after_two, option_means, option_settles, option_waits, plain_turn, plain_walked, rests_none, right_none, room_or_full, roomy_step, settles, short_turn, trailing_turn, trailing_walked, two_turn, two_walked, unnamed_turn, whole, word_found}
 
 -- Each word is a text.
 abbrev pub AllText : List Text → Type 0
@@ -33,22 +34,23 @@ module _ (kind : Kind) (name : Text) (rows : List Row) (pending : Pending) where
       left_none (settles kind rows pending) _ (sym (last_is kind name rows pending)
       ∙ sym (no_more kind name (at rows pending waiting position trailing)) ∙ e)
 
-  step_settles : (n : ℕ) → step_fault (leaf kind name) (suc n) (held rows pending) value ≡ []
+  step_settles : (n : ℕ)
+      → step_fault (leaf kind name) (place kind n) (held rows pending) value ≡ []
       → settles kind rows pending ≡ []
-  step_settles n e = elim (cases_lt n (files_wanted kind)) [
-    | inl l ↦ sym (roomy_step kind name n l rows pending) ∙ e
-    | inr l ↦ absurd (full_step kind name n l rows pending e)
+  step_settles n e = elim (room_or_full kind n) [
+    | inl room ↦ sym (roomy_step kind name n room rows pending) ∙ e
+    | inr full ↦ absurd (full_step kind name n full rows pending e)
   ]
 
   pub trailing_settles : (rest : List Text) (waiting : Waiting) (n : ℕ)
-      → whole kind name (at rows pending waiting (suc n) true) rest ≡ []
+      → whole kind name (at rows pending waiting (place kind n) true) rest ≡ []
       → settles kind rows pending ≡ []
-  trailing_settles [] waiting n e = end_settles waiting (suc n) true e
+  trailing_settles [] waiting n e = end_settles waiting (place kind n) true e
   trailing_settles (x ∷ rest) waiting n e =
       step_settles n
-      (sym (trailing_turn kind name rows pending waiting (suc n) x)
-      ∙ left_none (turn_fault (leaf kind name) [] (at rows pending waiting (suc n) true) x) _
-      (sym (Turns.more kind name (at rows pending waiting (suc n) true) x rest) ∙ e))
+      (sym (trailing_turn kind name rows pending waiting (place kind n) x)
+      ∙ left_none (turn_fault (leaf kind name) [] (at rows pending waiting (place kind n) true) x) _
+      (sym (Turns.more kind name (at rows pending waiting (place kind n) true) x rest) ∙ e))
 
   flag_settles : (waiting : Waiting) (position : ℕ) (word flag : Text) (given : Option Text)
       → subcommand_met [] waiting word ≡ None → bytes_eq word (codes "--") ≡ false
@@ -71,14 +73,14 @@ module _ (kind : Kind) (name : Text) (rows : List Row) (pending : Pending) where
           (sym (one_turn kind name rows pending waiting position word none no_mark flag choice v
           q by) ∙ e)
 
-  pub idle_settles : (ws : List Text) (n : ℕ) → AllText ws
-      → whole kind name (at rows pending idle (suc n) false) ws ≡ []
+  pub resting_settles : (ws : List Text) (r : Resting) (n : ℕ) → AllText ws
+      → whole kind name (at rows pending (rests r) (place kind n) false) ws ≡ []
       → settles kind rows pending ≡ []
-  idle_settles [] n u e = end_settles idle (suc n) false e
-  idle_settles (x ∷ rest) n u e = go (look x)
+  resting_settles [] r n u e = end_settles (rests r) (place kind n) false e
+  resting_settles (x ∷ rest) r n u e = go (look x)
     where
       w : Walk
-      w = at rows pending idle (suc n) false
+      w = at rows pending (rests r) (place kind n) false
 
       parts : or_else (turn_fault (leaf kind name) [] w x)
           (whole kind name (walked (rules kind) [] w x) rest) ≡ []
@@ -89,86 +91,87 @@ module _ (kind : Kind) (name : Text) (rows : List Row) (pending : Pending) where
 
       go : Look x → settles kind rows pending ≡ []
       go (Plain names plain) =
-          step_settles n (sym (plain_turn kind name rows pending (suc n) false x (λ q. plain))
-          ∙ turn)
+          step_settles n
+          (sym (plain_turn kind name rows pending r (place kind n) false x (λ q. plain)) ∙ turn)
       go (Mark q) =
           let behind : whole kind name (walked (rules kind) [] w x) rest ≡ [] =
           right_none (turn_fault (leaf kind name) [] w x) _ parts in
-          let there : whole kind name (at rows pending idle (suc n) true) rest ≡ [] =
+          let there : whole kind name (at rows pending (rests r) (place kind n) true) rest ≡ [] =
           ap (λ v. whole kind name v rest)
-          (sym (ap (walked (rules kind) [] w) q ∙ mark_walked kind rows pending (suc n)))
+          (sym (ap (walked (rules kind) [] w) q ∙ mark_walked kind rows pending r (place kind n)))
           ∙ behind in
-          trailing_settles rest idle n there
+          trailing_settles rest (rests r) n there
       go (Short flag flags q no_mark no_long short) =
-          absurd (short_turn kind name rows pending idle (suc n) x flag flags refl no_mark no_long
+          absurd (short_turn kind name rows pending (rests r) (place kind n) x flag flags
+          (rests_none r x) no_mark no_long
           short (flag_there flag flags (subst IsUtf8 q u.0)) turn)
       go (Long letter letters q no_mark long) =
-          flag_settles idle (suc n) x (name_and_value (letter ∷ letters)).0
-          (name_and_value (letter ∷ letters)).1 refl no_mark long turn
+          flag_settles (rests r) (place kind n) x (name_and_value (letter ∷ letters)).0
+          (name_and_value (letter ∷ letters)).1 (rests_none r x) no_mark long turn
 
 -- ---- the number of an option that stands in two words
 
 -- What stands behind an option that waits for its number.
-record Numbered (name : Text) (choice : Choice) (rows : List Row) (position : ℕ)
+record Numbered (kind : Kind) (name : Text) (choice : Choice) (rows : List Row) (position : ℕ)
     (ws : List Text) : Type 0 where
   number : Text
   rest : List Text
   words_are : ws ≡ number ∷ rest
   plain : IsPlain number
-  taken : whole OfRun name (at rows (Some (id_of choice, number ∷ [])) idle position false) rest
-      ≡ []
+  taken : whole kind name
+      (at rows (Some (id_of choice, number ∷ [])) (rests Idle) position false) rest ≡ []
   texts : AllText rest
 
-number_next : (name : Text) (choice : Choice) (rows : List Row) (n : ℕ) (ws : List Text)
+number_next : (kind : Kind) → HasOptions kind → (name : Text) (choice : Choice) (rows : List Row) (n : ℕ) (ws : List Text)
     → AllText ws
-    → whole OfRun name (at rows (Some (id_of choice, [])) (option (id_of choice)) (suc n) false) ws
-    ≡ [] → Numbered name choice rows (suc n) ws
-number_next name choice rows n [] u e =
-    absurd (option_waits choice rows
-    (end_settles OfRun name rows (Some (id_of choice, [])) (option (id_of choice)) (suc n)
+    → whole kind name (at rows (Some (id_of choice, [])) (option (id_of choice)) (place kind n) false) ws
+    ≡ [] → Numbered kind name choice rows (place kind n) ws
+number_next kind o name choice rows n [] u e =
+    absurd (option_waits kind o choice rows
+    (end_settles kind name rows (Some (id_of choice, [])) (option (id_of choice)) (place kind n)
     false e))
-number_next name choice rows n (x ∷ rest) u e = go (look x)
+number_next kind o name choice rows n (x ∷ rest) u e = go (look x)
   where
     w : Walk
-    w = at rows (Some (id_of choice, [])) (option (id_of choice)) (suc n) false
+    w = at rows (Some (id_of choice, [])) (option (id_of choice)) (place kind n) false
 
-    parts : or_else (turn_fault (leaf OfRun name) [] w x)
-        (whole OfRun name (walked (rules OfRun) [] w x) rest) ≡ []
-    parts = sym (Turns.more OfRun name w x rest) ∙ e
+    parts : or_else (turn_fault (leaf kind name) [] w x)
+        (whole kind name (walked (rules kind) [] w x) rest) ≡ []
+    parts = sym (Turns.more kind name w x rest) ∙ e
 
-    turn : turn_fault (leaf OfRun name) [] w x ≡ []
-    turn = left_none (turn_fault (leaf OfRun name) [] w x) _ parts
+    turn : turn_fault (leaf kind name) [] w x ≡ []
+    turn = left_none (turn_fault (leaf kind name) [] w x) _ parts
 
-    behind : whole OfRun name (walked (rules OfRun) [] w x) rest ≡ []
-    behind = right_none (turn_fault (leaf OfRun name) [] w x) _ parts
+    behind : whole kind name (walked (rules kind) [] w x) rest ≡ []
+    behind = right_none (turn_fault (leaf kind name) [] w x) _ parts
 
-    go : Look x → Numbered name choice rows (suc n) (x ∷ rest)
+    go : Look x → Numbered kind name choice rows (place kind n) (x ∷ rest)
     go (Plain names plain) = record {
       number = x;
       rest = rest;
       words_are = refl;
       plain = plain;
-      taken = ap (λ v. whole OfRun name v rest) (sym (number_walked choice rows (suc n) x plain))
+      taken = ap (λ v. whole kind name v rest) (sym (number_walked kind o choice rows (place kind n) x plain))
           ∙ behind;
       texts = u.1;
     }
     go (Mark q) =
-        let there : whole OfRun name
-        (at rows (Some (id_of choice, [])) (option (id_of choice)) (suc n) true) rest ≡ [] =
-        ap (λ v. whole OfRun name v rest)
-        (sym (ap (walked (rules OfRun) [] w) q
-        ∙ mark_walked_option OfRun rows (Some (id_of choice, [])) (id_of choice) (suc n)))
+        let there : whole kind name
+        (at rows (Some (id_of choice, [])) (option (id_of choice)) (place kind n) true) rest ≡ [] =
+        ap (λ v. whole kind name v rest)
+        (sym (ap (walked (rules kind) [] w) q
+        ∙ mark_walked_option kind rows (Some (id_of choice, [])) (id_of choice) (place kind n)))
         ∙ behind in
-        absurd (option_waits choice rows
-        (trailing_settles OfRun name rows (Some (id_of choice, [])) rest
+        absurd (option_waits kind o choice rows
+        (trailing_settles kind name rows (Some (id_of choice, [])) rest
         (option (id_of choice)) n there))
     go (Short flag flags q no_mark no_long short) =
-        absurd (short_turn OfRun name rows (Some (id_of choice, [])) (option (id_of choice)) (suc n)
+        absurd (short_turn kind name rows (Some (id_of choice, [])) (option (id_of choice)) (place kind n)
         x flag flags refl no_mark no_long short
         (flag_there flag flags (subst IsUtf8 q u.0)) turn)
     go (Long letter letters q no_mark long) =
-        absurd (option_waits choice rows
-        (flag_settles OfRun name rows (Some (id_of choice, [])) (option (id_of choice)) (suc n) x
+        absurd (option_waits kind o choice rows
+        (flag_settles kind name rows (Some (id_of choice, [])) (option (id_of choice)) (place kind n) x
         (name_and_value (letter ∷ letters)).0 (name_and_value (letter ∷ letters)).1
         refl no_mark long turn))
 
@@ -243,11 +246,12 @@ number_absent : (choice : Choice) (rows : List Row) (n : Option ℕ) → FoundNu
 number_absent choice rows None f e = refl
 number_absent choice rows (Some n) f e = absurd (some_none (row (id_of choice) f.0) (sym f.1 ∙ e))
 
-adds_number : (choice : Choice) (rows : List Row) (g : Given) (n : ℕ) → Found rows g
-    → row_of_id (id_of choice) rows ≡ None → AddsNumber choice g n (plus choice n g)
+adds_number : (kind : Kind) (choice : Choice) (rows : List Row) (g : Given) (n : ℕ)
+    → Found kind rows g → row_of_id (id_of choice) rows ≡ None
+    → AddsNumber choice g n (plus choice n g)
 unfolding plus
-adds_number Workers rows g n f e = (number_absent Workers rows g.workers f.workers e, refl)
-adds_number Fuel rows g n f e = (number_absent Fuel rows g.fuel f.fuel e, refl)
+adds_number kind Workers rows g n f e = (number_absent Workers rows g.workers f.workers e, refl)
+adds_number kind Fuel rows g n f e = (number_absent Fuel rows g.fuel f.fuel e, refl)
 
 plus_files : (choice : Choice) (n : ℕ) (g : Given) → (plus choice n g).files ≡ g.files
 unfolding plus
@@ -258,66 +262,60 @@ plus_files Fuel n g = refl
 
 record Trailed (kind : Kind) (rows : List Row) (files : List Text)
     (workers fuel : Option ℕ) : Type 0 where
-  found : Found rows (all files workers fuel)
-  as_many : length files ≡ files_wanted kind
+  found : Found kind rows (all files workers fuel)
+  as_many : AsMany kind (length files)
 
 module _ (kind : Kind) (name : Text) (workers fuel : Option ℕ) where
   trailing_sound : (rest files : List Text) (rows : List Row) (pending : Pending)
       (waiting : Waiting)
-      → whole kind name (at rows pending waiting (suc (length files)) true) rest ≡ []
-      → Found (after kind rows pending) (all files workers fuel)
-      → length files ≤ files_wanted kind
-      → Trailed kind (finish kind (at rows pending waiting (suc (length files)) true) rest)
+      → whole kind name (at rows pending waiting (place kind (length files)) true) rest ≡ []
+      → Found kind (after kind rows pending) (all files workers fuel)
+      → Within kind (length files)
+      → Trailed kind (finish kind (at rows pending waiting (place kind (length files)) true) rest)
       (files ++ rest) workers fuel
   trailing_sound [] files rows pending waiting e f l =
+      let w : Walk = at rows pending waiting (place kind (length files)) true in
       let ended : or_else (settles kind rows pending)
       (check_fault (leaf kind name) (after kind rows pending) false) ≡ [] =
-      sym (last_is kind name rows pending)
-      ∙ sym (no_more kind name (at rows pending waiting (suc (length files)) true)) ∙ e in
+      sym (last_is kind name rows pending) ∙ sym (no_more kind name w) ∙ e in
       let there =
       all_there name (after kind rows pending) workers fuel kind files f l
       (right_none (settles kind rows pending) _ ended) in
       let same : files ≡ files ++ [] = sym (append_nil files) in
-      subst (λ fs. Trailed kind (finish kind (at rows pending waiting (suc (length files)) true) [])
-      fs workers fuel) same (record {
-        found = subst (λ rs. Found rs (all files workers fuel))
+      subst (λ fs. Trailed kind (finish kind w []) fs workers fuel) same (record {
+        found = subst (λ rs. Found kind rs (all files workers fuel))
             (sym (finished_is kind rows pending)) f;
         as_many = there;
       })
   trailing_sound (x ∷ rest) files rows pending waiting e f l =
-      let w : Walk = at rows pending waiting (suc (length files)) true in
+      let w : Walk = at rows pending waiting (place kind (length files)) true in
       let parts : or_else (turn_fault (leaf kind name) [] w x)
       (whole kind name (walked (rules kind) [] w x) rest) ≡ [] =
       sym (Turns.more kind name w x rest) ∙ e in
-      let turn : step_fault (leaf kind name) (suc (length files)) (held rows pending) value ≡ [] =
-      sym (trailing_turn kind name rows pending waiting (suc (length files)) x)
+      let turn : step_fault (leaf kind name) (place kind (length files)) (held rows pending) value
+      ≡ [] =
+      sym (trailing_turn kind name rows pending waiting (place kind (length files)) x)
       ∙ left_none (turn_fault (leaf kind name) [] w x) _ parts in
-      elim (cases_lt (length files) (files_wanted kind)) [
-        | inr m ↦ absurd (full_step kind name (length files) m rows pending turn)
-        | inl less ↦
+      elim (room_or_full kind (length files)) [
+        | inr full ↦ absurd (full_step kind name (length files) full rows pending turn)
+        | inl room ↦
             let now : List Row = after kind rows pending in
-            let id : Text = id_at (length files) in
-            let two : length files < 2 = few kind (length files) less in
-            let none : row_of_id id now ≡ None = none_at files workers fuel now two f in
-            let found : Found (after kind now (Some (id, x ∷ [])))
-            (all (files ++ x ∷ []) workers fuel) =
-            subst (λ rs. Found rs (all (files ++ x ∷ []) workers fuel))
-            (sym (word_after kind now (length files) less x none))
-            (file_found files workers fuel now x two f) in
-            let step : walked (rules kind) [] w x
-            ≡ at now (Some (id, x ∷ [])) idle (suc (length (files ++ x ∷ []))) true =
-            trailing_walked kind (length files) less rows pending waiting x
-            ∙ ap (λ n. at now (Some (id, x ∷ [])) idle (suc n) true) (sym (longer files x)) in
-            let rec = trailing_sound rest (files ++ x ∷ []) now (Some (id, x ∷ [])) idle
+            let then : Pending = Some (next_id kind (length files), x ∷ []) in
+            let more : Walk =
+            at now then (rests (behind_file kind)) (place kind (length (files ++ x ∷ []))) true in
+            let step : walked (rules kind) [] w x ≡ more =
+            trailing_walked kind (length files) room rows pending waiting x
+            ∙ ap (λ n. at now then (rests (behind_file kind)) (place kind n) true)
+            (sym (longer files x)) in
+            let rec = trailing_sound rest (files ++ x ∷ []) now then (rests (behind_file kind))
             (ap (λ v. whole kind name v rest) (sym step)
-            ∙ right_none (turn_fault (leaf kind name) [] w x) _ parts) found
-            (omega (arith, less, longer files x)) in
+            ∙ right_none (turn_fault (leaf kind name) [] w x) _ parts)
+            (word_found now files workers fuel kind room f x)
+            (within_room kind (length files) (length (files ++ x ∷ [])) room (longer files x)) in
             subst (λ v. Trailed kind (finish kind v rest) (files ++ x ∷ rest) workers fuel)
             (sym step)
-            (subst (λ fs. Trailed kind
-            (finish kind
-            (at now (Some (id, x ∷ [])) idle (suc (length (files ++ x ∷ []))) true) rest) fs
-            workers fuel) (append_assoc files (x ∷ []) rest) rec)
+            (subst (λ fs. Trailed kind (finish kind more rest) fs workers fuel)
+            (append_assoc files (x ∷ []) rest) rec)
       ]
 
 -- ---- all words
@@ -326,8 +324,8 @@ module _ (kind : Kind) (name : Text) (workers fuel : Option ℕ) where
 pub record Result (kind : Kind) (rows : List Row) (ws : List Text) (g : Given) : Type 0 where
   pub given : Given
   pub gives : Gives ws g given
-  pub found : Found rows given
-  pub as_many : length given.files ≡ files_wanted kind
+  pub found : Found kind rows given
+  pub as_many : AsMany kind (length given.files)
   pub options : TakesOptions kind given
 
 -- A part in front of what is read.
@@ -336,7 +334,7 @@ went_on : (kind : Kind) (rows now : List Row) (ws rest : List Text) (g more : Gi
 went_on kind rows now ws rest g more part e r = record {
   given = r.given;
   gives = GivesPart more rest part r.gives;
-  found = subst (λ rs. Found rs r.given) e r.found;
+  found = subst (λ rs. Found kind rs r.given) e r.found;
   as_many = r.as_many;
   options = r.options;
 }
@@ -344,75 +342,83 @@ went_on kind rows now ws rest g more part e r = record {
 same_options : (kind : Kind) (g more : Given) → more.workers ≡ g.workers → more.fuel ≡ g.fuel
     → TakesOptions kind g → TakesOptions kind more
 same_options OfRun g more e q o = tt
+same_options OfLink g more e q o = tt
 same_options OfFile g more e q o = (e ∙ o.0, q ∙ o.1)
 same_options OfAudit g more e q o = (e ∙ o.0, q ∙ o.1)
 
+takes_options : (kind : Kind) → HasOptions kind → (g : Given) → TakesOptions kind g
+takes_options OfRun o g = tt
+takes_options OfLink o g = tt
+takes_options OfFile o g = absurd o
+takes_options OfAudit o g = absurd o
+
+-- where the walk stands with so many files
+abbrev stands : Kind → List Row → Pending → Resting → Given → Walk
+stands kind rows pending r g = at rows pending (rests r) (place kind (length g.files)) false
+
 -- What the rest of the words is shown to give.
 abbrev Rest : Kind → Text → List Text → Given → Type 0
-Rest kind name rest more = (now : List Row) (then : Pending)
-    → whole kind name (at now then idle (suc (length more.files)) false) rest ≡ []
-    → (settles kind now then ≡ [] → Found (after kind now then) more)
-    → length more.files ≤ files_wanted kind → TakesOptions kind more
-    → Result kind (finish kind (at now then idle (suc (length more.files)) false) rest) rest more
+Rest kind name rest more = (now : List Row) (then : Pending) (r : Resting)
+    → whole kind name (stands kind now then r more) rest ≡ []
+    → (settles kind now then ≡ [] → Found kind (after kind now then) more)
+    → Within kind (length more.files) → TakesOptions kind more
+    → Result kind (finish kind (stands kind now then r more) rest) rest more
 
 module _ (kind : Kind) (name : Text) (g : Given) (rows : List Row) (pending : Pending)
-    (s : settles kind rows pending ≡ []) (f : Found (after kind rows pending) g)
-    (l : length g.files ≤ files_wanted kind) (o : TakesOptions kind g) where
+    (r : Resting) (s : settles kind rows pending ≡ []) (f : Found kind (after kind rows pending) g)
+    (l : Within kind (length g.files)) (o : TakesOptions kind g) where
   file_sound : (x : Text) (rest : List Text) → NamesFile x → IsPlain x
       → Rest kind name rest (all (g.files ++ x ∷ []) g.workers g.fuel)
-      → whole kind name (at rows pending idle (suc (length g.files)) false) (x ∷ rest) ≡ []
-      → Result kind (finish kind (at rows pending idle (suc (length g.files)) false) (x ∷ rest))
-      (x ∷ rest) g
+      → whole kind name (stands kind rows pending r g) (x ∷ rest) ≡ []
+      → Result kind (finish kind (stands kind rows pending r g) (x ∷ rest)) (x ∷ rest) g
   file_sound x rest names plain next e =
       let n : ℕ = length g.files in
-      let w : Walk = at rows pending idle (suc n) false in
+      let w : Walk = stands kind rows pending r g in
       let parts : or_else (turn_fault (leaf kind name) [] w x)
       (whole kind name (walked (rules kind) [] w x) rest) ≡ [] =
       sym (Turns.more kind name w x rest) ∙ e in
-      let turn : step_fault (leaf kind name) (suc n) (held rows pending) value ≡ [] =
-      sym (plain_turn kind name rows pending (suc n) false x (λ q. plain))
+      let turn : step_fault (leaf kind name) (place kind n) (held rows pending) value ≡ [] =
+      sym (plain_turn kind name rows pending r (place kind n) false x (λ q. plain))
       ∙ left_none (turn_fault (leaf kind name) [] w x) _ parts in
-      elim (cases_lt n (files_wanted kind)) [
-        | inr m ↦ absurd (full_step kind name n m rows pending turn)
-        | inl less ↦
+      elim (room_or_full kind n) [
+        | inr full ↦ absurd (full_step kind name n full rows pending turn)
+        | inl room ↦
             let now : List Row = after kind rows pending in
-            let id : Text = id_at n in
-            let two : n < 2 = few kind n less in
+            let then : Pending = Some (next_id kind n, x ∷ []) in
             let more : Given = all (g.files ++ x ∷ []) g.workers g.fuel in
-            let none : row_of_id id now ≡ None = none_at g.files g.workers g.fuel now two f in
-            let found : Found (after kind now (Some (id, x ∷ []))) more =
-            subst (λ rs. Found rs more) (sym (word_after kind now n less x none))
-            (file_found g.files g.workers g.fuel now x two f) in
-            let step : walked (rules kind) [] w x
-            ≡ at now (Some (id, x ∷ [])) idle (suc (length more.files)) false =
-            plain_walked kind n less rows pending false x (λ q. plain)
-            ∙ ap (λ k. at now (Some (id, x ∷ [])) idle (suc k) false) (sym (longer g.files x))
+            let found : Found kind (after kind now then) more =
+            word_found now g.files g.workers g.fuel kind room f x in
+            let step : walked (rules kind) [] w x ≡ stands kind now then (behind_file kind) more =
+            plain_walked kind n room rows pending r false x (λ q. plain)
+            ∙ ap (λ k. at now then (rests (behind_file kind)) (place kind k) false)
+            (sym (longer g.files x))
             in
             went_on kind (finish kind w (x ∷ rest))
-            (finish kind (at now (Some (id, x ∷ [])) idle (suc (length more.files)) false) rest)
+            (finish kind (stands kind now then (behind_file kind) more) rest)
             (x ∷ rest) rest g more
             (AddsNamed x names refl refl) (ap (λ v. finish kind v rest) (sym step))
-            (next now (Some (id, x ∷ [])) (ap (λ v. whole kind name v rest) (sym step)
+            (next now then (behind_file kind) (ap (λ v. whole kind name v rest) (sym step)
             ∙ right_none (turn_fault (leaf kind name) [] w x) _ parts) (λ q. found)
-            (omega (arith, less, longer g.files x)) (same_options kind g more refl refl o))
+            (within_room kind n (length more.files) room (longer g.files x))
+            (same_options kind g more refl refl o))
       ]
 
   mark_sound : (x : Text) (rest : List Text) → x ≡ codes "--"
-      → whole kind name (at rows pending idle (suc (length g.files)) false) (x ∷ rest) ≡ []
-      → Result kind (finish kind (at rows pending idle (suc (length g.files)) false) (x ∷ rest))
-      (x ∷ rest) g
+      → whole kind name (stands kind rows pending r g) (x ∷ rest) ≡ []
+      → Result kind (finish kind (stands kind rows pending r g) (x ∷ rest)) (x ∷ rest) g
   mark_sound x rest q e =
-      let n : ℕ = length g.files in
-      let w : Walk = at rows pending idle (suc n) false in
-      let step : walked (rules kind) [] w x ≡ at rows pending idle (suc n) true =
-      ap (walked (rules kind) [] w) q ∙ mark_walked kind rows pending (suc n) in
+      let spot : ℕ = place kind (length g.files) in
+      let w : Walk = stands kind rows pending r g in
+      let step : walked (rules kind) [] w x ≡ at rows pending (rests r) spot true =
+      ap (walked (rules kind) [] w) q ∙ mark_walked kind rows pending r spot in
       let parts : or_else (turn_fault (leaf kind name) [] w x)
       (whole kind name (walked (rules kind) [] w x) rest) ≡ [] =
       sym (Turns.more kind name w x rest) ∙ e in
-      let t = trailing_sound kind name g.workers g.fuel rest g.files rows pending idle
+      let t = trailing_sound kind name g.workers g.fuel rest g.files rows pending (rests r)
       (ap (λ v. whole kind name v rest) (sym step)
       ∙ right_none (turn_fault (leaf kind name) [] w x) _ parts) f l in
-      went_on kind (finish kind w (x ∷ rest)) (finish kind (at rows pending idle (suc n) true) rest)
+      went_on kind (finish kind w (x ∷ rest))
+      (finish kind (at rows pending (rests r) spot true) rest)
       (x ∷ rest) [] g (all (g.files ++ rest) g.workers g.fuel)
       (AddsMarked rest (ap (λ y. y ∷ rest) q) refl refl) (ap (λ v. finish kind v rest) (sym step))
       (record {
@@ -423,199 +429,194 @@ module _ (kind : Kind) (name : Text) (g : Given) (rows : List Row) (pending : Pe
         options = same_options kind g (all (g.files ++ rest) g.workers g.fuel) refl refl o;
       })
 
-module _ (name : Text) (choice : Choice) (g : Given) (rows : List Row) (pending : Pending)
-    (s : settles OfRun rows pending ≡ []) (f : Found (after OfRun rows pending) g)
-    (l : length g.files ≤ 1) (flag : Text)
-    (by : arg_by_long (rules OfRun) flag ≡ Some (option_built choice)) where
+module _ (kind : Kind) (o : HasOptions kind) (name : Text) (choice : Choice) (g : Given)
+    (rows : List Row) (pending : Pending) (r : Resting)
+    (s : settles kind rows pending ≡ []) (f : Found kind (after kind rows pending) g)
+    (l : Within kind (length g.files)) (flag : Text)
+    (by : arg_by_long (rules kind) flag ≡ Some (option_built choice)) where
   two_sound : (x number : Text) (rest : List Text) → x ≡ name_of choice
       → bytes_eq x (codes "--") ≡ false → long_of x ≡ Some (flag, None) → IsPlain number
-      → whole OfRun name
-      (at (after OfRun rows pending) (Some (id_of choice, number ∷ [])) idle (suc (length g.files))
-      false) rest ≡ [] → AllText rest
-      → Rest OfRun name rest (plus choice (digits_value 10 (without_leading_plus number)) g)
-      → Result OfRun
-      (finish OfRun (at rows pending idle (suc (length g.files)) false) (x ∷ number ∷ rest))
+      → whole kind name
+      (stands kind (after kind rows pending) (Some (id_of choice, number ∷ [])) Idle g) rest ≡ []
+      → AllText rest
+      → Rest kind name rest (plus choice (digits_value 10 (without_leading_plus number)) g)
+      → Result kind (finish kind (stands kind rows pending r g) (x ∷ number ∷ rest))
       (x ∷ number ∷ rest) g
   two_sound x number rest q no_mark long plain e u next =
       let n : ℕ = digits_value 10 (without_leading_plus number) in
-      let place : ℕ = suc (length g.files) in
-      let now : List Row = after OfRun rows pending in
+      let spot : ℕ = place kind (length g.files) in
+      let now : List Row = after kind rows pending in
       let then : Pending = Some (id_of choice, number ∷ []) in
       let more : Given = plus choice n g in
-      let w : Walk = at rows pending idle place false in
-      let t : settles OfRun now then ≡ [] = idle_settles OfRun name now
-      then rest (length g.files) u e in
-      let means = option_means choice number now (sym (option_settles choice now number) ∙ t) in
-      let adds : AddsNumber choice g n more = adds_number choice now g n f means.0 in
-      let found : Found (after OfRun now then) more =
-      subst (λ rs. Found rs more) (sym (option_after_two choice now number means.0))
-      (option_found choice now g more n number f adds means.1) in
+      let w : Walk = stands kind rows pending r g in
+      let t : settles kind now then ≡ [] =
+      resting_settles kind name now then rest Idle (length g.files) u e in
+      let means =
+      option_means choice number now (sym (option_settles kind o choice now number) ∙ t) in
+      let adds : AddsNumber choice g n more = adds_number kind choice now g n f means.0 in
+      let found : Found kind (after kind now then) more =
+      subst (λ rs. Found kind rs more) (sym (option_after_two kind o choice now number means.0))
+      (option_found kind choice now g more n number f adds means.1) in
       let files : more.files ≡ g.files = plus_files choice n g in
-      let step : walked (rules OfRun) [] (walked (rules OfRun) [] w x) number ≡ at now
-      then idle (suc (length more.files)) false =
-      ap (λ v. walked (rules OfRun) [] v number)
-      (two_walked OfRun rows pending place x no_mark flag choice by long)
-      ∙ number_walked choice now place number plain
-      ∙ ap (λ fs. at now then idle (suc (length fs)) false) (sym files) in
-      went_on OfRun (finish OfRun w (x ∷ number ∷ rest))
-      (finish OfRun (at now then idle (suc (length more.files)) false) rest) (x ∷ number ∷ rest)
+      let step : walked (rules kind) [] (walked (rules kind) [] w x) number
+      ≡ stands kind now then Idle more =
+      ap (λ v. walked (rules kind) [] v number)
+      (two_walked kind rows pending r spot x no_mark flag choice by long)
+      ∙ number_walked kind o choice now spot number plain
+      ∙ ap (λ fs. at now then (rests Idle) (place kind (length fs)) false) (sym files) in
+      went_on kind (finish kind w (x ∷ number ∷ rest))
+      (finish kind (stands kind now then Idle more) rest) (x ∷ number ∷ rest)
       rest g more
       (AddsOption choice n (InTwo number means.1 (ap (λ y. y ∷ number ∷ rest) q)) adds)
-      (ap (λ v. finish OfRun v rest) (sym step))
-      (next now
-      then (ap (λ fs. whole OfRun name (at now then idle (suc (length fs)) false) rest)
-      files ∙ e) (λ z. found) (omega (arith, l, ap length files)) tt)
+      (ap (λ v. finish kind v rest) (sym step))
+      (next now then Idle
+      (ap (λ fs. whole kind name (at now then (rests Idle) (place kind (length fs)) false) rest)
+      files ∙ e) (λ z. found) (subst (λ fs. Within kind (length fs)) (sym files) l)
+      (takes_options kind o more))
 
   one_sound : (x given : Text) (rest : List Text) → x ≡ name_of choice ++ codes "=" ++ given
       → bytes_eq x (codes "--") ≡ false → long_of x ≡ Some (flag, Some given)
-      → whole OfRun name (at rows pending idle (suc (length g.files)) false) (x ∷ rest) ≡ []
-      → Rest OfRun name rest (plus choice (digits_value 10 (without_leading_plus given)) g)
-      → Result OfRun (finish OfRun (at rows pending idle (suc (length g.files)) false) (x ∷ rest))
-      (x ∷ rest) g
+      → whole kind name (stands kind rows pending r g) (x ∷ rest) ≡ []
+      → Rest kind name rest (plus choice (digits_value 10 (without_leading_plus given)) g)
+      → Result kind (finish kind (stands kind rows pending r g) (x ∷ rest)) (x ∷ rest) g
   one_sound x given rest q no_mark long e next =
       let n : ℕ = digits_value 10 (without_leading_plus given) in
-      let place : ℕ = suc (length g.files) in
-      let now : List Row = after OfRun rows pending in
+      let spot : ℕ = place kind (length g.files) in
+      let now : List Row = after kind rows pending in
       let then : List Row = used (option_built choice) (given ∷ []) now in
       let more : Given = plus choice n g in
-      let w : Walk = at rows pending idle place false in
-      let parts : or_else (turn_fault (leaf OfRun name) [] w x)
-      (whole OfRun name (walked (rules OfRun) [] w x) rest) ≡ [] =
-      sym (Turns.more OfRun name w x rest) ∙ e in
-      let turn : or_else (settles OfRun rows pending)
+      let w : Walk = stands kind rows pending r g in
+      let parts : or_else (turn_fault (leaf kind name) [] w x)
+      (whole kind name (walked (rules kind) [] w x) rest) ≡ [] =
+      sym (Turns.more kind name w x rest) ∙ e in
+      let turn : or_else (settles kind rows pending)
       (use_fault false (option_built choice) (given ∷ []) now) ≡ [] =
-      sym (one_turn OfRun name rows pending idle place x refl no_mark flag choice given long by)
-      ∙ left_none (turn_fault (leaf OfRun name) [] w x) _ parts in
-      let means = option_means choice given now (right_none (settles OfRun rows pending) _ turn) in
-      let adds : AddsNumber choice g n more = adds_number choice now g n f means.0 in
-      let found : Found
-      then more =
-      subst (λ rs. Found rs more) (sym (option_after choice now given means.0))
-      (option_found choice now g more n given f adds means.1) in
+      sym (one_turn kind name rows pending (rests r) spot x (rests_none r x) no_mark flag choice
+      given long by)
+      ∙ left_none (turn_fault (leaf kind name) [] w x) _ parts in
+      let means = option_means choice given now (right_none (settles kind rows pending) _ turn) in
+      let adds : AddsNumber choice g n more = adds_number kind choice now g n f means.0 in
+      let found : Found kind then more =
+      subst (λ rs. Found kind rs more) (sym (option_after choice now given means.0))
+      (option_found kind choice now g more n given f adds means.1) in
       let files : more.files ≡ g.files = plus_files choice n g in
-      let step : walked (rules OfRun) [] w x ≡ at then None idle (suc (length more.files)) false =
-      one_walked OfRun rows pending place x no_mark flag choice by given long
-      ∙ ap (λ fs. at then None idle (suc (length fs)) false) (sym files) in
-      went_on OfRun (finish OfRun w (x ∷ rest))
-      (finish OfRun (at then None idle (suc (length more.files)) false) rest) (x ∷ rest) rest g
+      let step : walked (rules kind) [] w x ≡ stands kind then None Idle more =
+      one_walked kind rows pending r spot x no_mark flag choice by given long
+      ∙ ap (λ fs. at then None (rests Idle) (place kind (length fs)) false) (sym files) in
+      went_on kind (finish kind w (x ∷ rest))
+      (finish kind (stands kind then None Idle more) rest) (x ∷ rest) rest g
       more
       (AddsOption choice n (InOne given means.1 (ap (λ y. y ∷ rest) q)) adds)
-      (ap (λ v. finish OfRun v rest) (sym step))
-      (next then None (ap (λ v. whole OfRun name v rest) (sym step)
-      ∙ right_none (turn_fault (leaf OfRun name) [] w x) _ parts) (λ z. found)
-      (omega (arith, l, ap length files)) tt)
+      (ap (λ v. finish kind v rest) (sym step))
+      (next then None Idle (ap (λ v. whole kind name v rest) (sym step)
+      ∙ right_none (turn_fault (leaf kind name) [] w x) _ parts) (λ z. found)
+      (subst (λ fs. Within kind (length fs)) (sym files) l) (takes_options kind o more))
 
 -- What fewer words are shown to give.
 abbrev Fewer : Kind → Text → ℕ → Type 0
 Fewer kind name k = (ws : List Text) (more : Given) → length ws ≤ k → AllText ws
     → Rest kind name ws more
 
-option_read : (name : Text) (choice : Choice) (g : Given) (rows : List Row) (pending : Pending)
-    → settles OfRun rows pending ≡ [] → Found (after OfRun rows pending) g
-    → length g.files ≤ 1 → (flag : Text)
-    → arg_by_long (rules OfRun) flag ≡ Some (option_built choice) → (k : ℕ) → Fewer OfRun name k
+option_read : (kind : Kind) → HasOptions kind → (name : Text) (choice : Choice) (g : Given)
+    (rows : List Row) (pending : Pending) (r : Resting)
+    → settles kind rows pending ≡ [] → Found kind (after kind rows pending) g
+    → Within kind (length g.files) → (flag : Text)
+    → arg_by_long (rules kind) flag ≡ Some (option_built choice) → (k : ℕ) → Fewer kind name k
     → (x : Text) (rest : List Text)
     → length rest ≤ k → AllText rest → bytes_eq x (codes "--") ≡ false → (v : Option Text)
     → Written choice x v → long_of x ≡ Some (flag, v)
-    → whole OfRun name (at rows pending idle (suc (length g.files)) false) (x ∷ rest) ≡ []
-    → Result OfRun (finish OfRun (at rows pending idle (suc (length g.files)) false) (x ∷ rest))
-    (x ∷ rest) g
-option_read name choice g rows pending s f l flag by k next x rest m u no_mark v (InOneWord given q)
-    long e =
-    one_sound name choice g rows pending s f l flag by x given rest q no_mark long e
+    → whole kind name (stands kind rows pending r g) (x ∷ rest) ≡ []
+    → Result kind (finish kind (stands kind rows pending r g) (x ∷ rest)) (x ∷ rest) g
+option_read kind o name choice g rows pending r s f l flag by k next x rest m u no_mark v
+    (InOneWord given q) long e =
+    one_sound kind o name choice g rows pending r s f l flag by x given rest q no_mark long e
     (next rest (plus choice (digits_value 10 (without_leading_plus given)) g) m u)
-option_read name choice g rows pending s f l flag by k next x rest m u no_mark v (InTwoWords q) long
-    e =
-    let w : Walk = at rows pending idle (suc (length g.files)) false in
-    let parts : or_else (turn_fault (leaf OfRun name) [] w x)
-    (whole OfRun name (walked (rules OfRun) [] w x) rest) ≡ [] =
-    sym (Turns.more OfRun name w x rest) ∙ e in
-    let behind : whole OfRun name
-    (at (after OfRun rows pending) (Some (id_of choice, [])) (option (id_of choice))
-    (suc (length g.files)) false) rest ≡ [] =
-    ap (λ v. whole OfRun name v rest)
-    (sym (two_walked OfRun rows pending (suc (length g.files)) x no_mark flag choice by long))
-    ∙ right_none (turn_fault (leaf OfRun name) [] w x) _ parts in
-    let t = number_next name choice (after OfRun rows pending) (length g.files) rest u behind in
-    subst (λ r. Result OfRun (finish OfRun w (x ∷ r)) (x ∷ r) g) (sym t.words_are)
-    (two_sound name choice g rows pending s f l flag by x t.number t.rest q no_mark long t.plain
-    t.taken t.texts
+option_read kind o name choice g rows pending r s f l flag by k next x rest m u no_mark v
+    (InTwoWords q) long e =
+    let spot : ℕ = place kind (length g.files) in
+    let w : Walk = stands kind rows pending r g in
+    let parts : or_else (turn_fault (leaf kind name) [] w x)
+    (whole kind name (walked (rules kind) [] w x) rest) ≡ [] =
+    sym (Turns.more kind name w x rest) ∙ e in
+    let behind : whole kind name
+    (at (after kind rows pending) (Some (id_of choice, [])) (option (id_of choice)) spot false) rest
+    ≡ [] =
+    ap (λ v. whole kind name v rest)
+    (sym (two_walked kind rows pending r spot x no_mark flag choice by long))
+    ∙ right_none (turn_fault (leaf kind name) [] w x) _ parts in
+    let t =
+    number_next kind o name choice (after kind rows pending) (length g.files) rest u behind in
+    subst (λ ws. Result kind (finish kind w (x ∷ ws)) (x ∷ ws) g) (sym t.words_are)
+    (two_sound kind o name choice g rows pending r s f l flag by x t.number t.rest q no_mark long
+    t.plain t.taken t.texts
     (next t.rest (plus choice (digits_value 10 (without_leading_plus t.number)) g)
     (omega (arith, m, ap length t.words_are)) t.texts))
 
 flag_read : (kind : Kind) (name : Text) (g : Given) (rows : List Row) (pending : Pending)
-    → settles kind rows pending ≡ [] → Found (after kind rows pending) g
-    → length g.files ≤ files_wanted kind → (k : ℕ) → Fewer kind name k
+    (r : Resting) → settles kind rows pending ≡ [] → Found kind (after kind rows pending) g
+    → Within kind (length g.files) → (k : ℕ) → Fewer kind name k
     → (x : Text) (rest : List Text) → length rest ≤ k → AllText rest
     → bytes_eq x (codes "--") ≡ false
     → (t : Text) → x ≡ 45 ∷ 45 ∷ t → long_of x ≡ Some (name_and_value t)
     → Named kind (name_and_value t).0
-    → whole kind name (at rows pending idle (suc (length g.files)) false) (x ∷ rest) ≡ []
-    → Result kind (finish kind (at rows pending idle (suc (length g.files)) false) (x ∷ rest))
-    (x ∷ rest) g
-flag_read kind name g rows pending s f l k next x rest m u no_mark t q long (Unnamed by) e =
-    absurd (unnamed_turn kind name rows pending idle (suc (length g.files)) x refl no_mark
-    (name_and_value t).0 (name_and_value t).1 long by
-    (left_none
-    (turn_fault (leaf kind name) [] (at rows pending idle (suc (length g.files)) false) x) _
-    (sym (Turns.more kind name (at rows pending idle (suc (length g.files)) false) x rest) ∙ e)))
-flag_read OfRun name g rows pending s f l k next x rest m u no_mark t q long
-    (Optional choice is same by) e =
-    option_read name choice g rows pending s f l (name_and_value t).0 by k next x rest m u no_mark
-    (name_and_value t).1 (written choice x t q same) long e
-flag_read OfFile name g rows pending s f l k next x rest m u no_mark t q long
-    (Optional choice is same by) e = absurd cc
-flag_read OfAudit name g rows pending s f l k next x rest m u no_mark t q long
-    (Optional choice is same by) e = absurd cc
+    → whole kind name (stands kind rows pending r g) (x ∷ rest) ≡ []
+    → Result kind (finish kind (stands kind rows pending r g) (x ∷ rest)) (x ∷ rest) g
+flag_read kind name g rows pending r s f l k next x rest m u no_mark t q long (Unnamed by) e =
+    let w : Walk = stands kind rows pending r g in
+    absurd (unnamed_turn kind name rows pending (rests r) (place kind (length g.files)) x
+    (rests_none r x) no_mark (name_and_value t).0 (name_and_value t).1 long by
+    (left_none (turn_fault (leaf kind name) [] w x) _ (sym (Turns.more kind name w x rest) ∙ e)))
+flag_read kind name g rows pending r s f l k next x rest m u no_mark t q long
+    (Optional choice o same by) e =
+    option_read kind o name choice g rows pending r s f l (name_and_value t).0 by k next x rest m u
+    no_mark (name_and_value t).1 (written choice x t q same) long e
 
 word_read : (kind : Kind) (name : Text) (g : Given) (rows : List Row) (pending : Pending)
-    → settles kind rows pending ≡ [] → Found (after kind rows pending) g
-    → length g.files ≤ files_wanted kind → TakesOptions kind g → (k : ℕ) → Fewer kind name k
+    (r : Resting) → settles kind rows pending ≡ [] → Found kind (after kind rows pending) g
+    → Within kind (length g.files) → TakesOptions kind g → (k : ℕ) → Fewer kind name k
     → (x : Text) (rest : List Text) → length rest ≤ k → IsUtf8 x → AllText rest → Look x
-    → whole kind name (at rows pending idle (suc (length g.files)) false) (x ∷ rest) ≡ []
-    → Result kind (finish kind (at rows pending idle (suc (length g.files)) false) (x ∷ rest))
-    (x ∷ rest) g
-word_read kind name g rows pending s f l o k next x rest m t u (Plain names plain) e =
-    file_sound kind name g rows pending s f l o x rest names plain
+    → whole kind name (stands kind rows pending r g) (x ∷ rest) ≡ []
+    → Result kind (finish kind (stands kind rows pending r g) (x ∷ rest)) (x ∷ rest) g
+word_read kind name g rows pending r s f l o k next x rest m t u (Plain names plain) e =
+    file_sound kind name g rows pending r s f l o x rest names plain
     (next rest (all (g.files ++ x ∷ []) g.workers g.fuel) m u) e
-word_read kind name g rows pending s f l o k next x rest m t u (Mark q) e =
-    mark_sound kind name g rows pending s f l o x rest q e
-word_read kind name g rows pending s f l o k next x rest m t u
+word_read kind name g rows pending r s f l o k next x rest m t u (Mark q) e =
+    mark_sound kind name g rows pending r s f l o x rest q e
+word_read kind name g rows pending r s f l o k next x rest m t u
     (Short flag flags q no_mark no_long short) e =
-    absurd (short_turn kind name rows pending idle (suc (length g.files)) x flag flags refl no_mark
-    no_long short (flag_there flag flags (subst IsUtf8 q t))
-    (left_none
-    (turn_fault (leaf kind name) [] (at rows pending idle (suc (length g.files)) false) x) _
-    (sym (Turns.more kind name (at rows pending idle (suc (length g.files)) false) x rest) ∙ e)))
-word_read kind name g rows pending s f l o k next x rest m t u (Long letter letters q no_mark long)
-    e =
-    flag_read kind name g rows pending s f l k next x rest m u no_mark (letter ∷ letters) q long
+    let w : Walk = stands kind rows pending r g in
+    absurd (short_turn kind name rows pending (rests r) (place kind (length g.files)) x flag flags
+    (rests_none r x) no_mark no_long short (flag_there flag flags (subst IsUtf8 q t))
+    (left_none (turn_fault (leaf kind name) [] w x) _ (sym (Turns.more kind name w x rest) ∙ e)))
+word_read kind name g rows pending r s f l o k next x rest m t u
+    (Long letter letters q no_mark long) e =
+    flag_read kind name g rows pending r s f l k next x rest m u no_mark (letter ∷ letters) q long
     (named kind (name_and_value (letter ∷ letters)).0) e
 
 -- Words that are taken give what a command of the kind takes, and the matches have it.
 words_read : (k : ℕ) (kind : Kind) (name : Text) (ws : List Text) (g : Given) → length ws ≤ k
     → AllText ws → Rest kind name ws g
-words_read k kind name [] g m u rows pending e wait l o =
-    let w : Walk = at rows pending idle (suc (length g.files)) false in
+words_read k kind name [] g m u rows pending r e wait l o =
+    let w : Walk = stands kind rows pending r g in
     let ended : or_else (settles kind rows pending)
     (check_fault (leaf kind name) (after kind rows pending) false) ≡ [] =
     sym (last_is kind name rows pending) ∙ sym (no_more kind name w) ∙ e in
-    let f : Found (after kind rows pending) g = wait (left_none (settles kind rows pending) _ ended)
-    in
+    let f : Found kind (after kind rows pending) g =
+    wait (left_none (settles kind rows pending) _ ended) in
     record {
       given = g;
       gives = GivesNoMore refl refl;
-      found = subst (λ rs. Found rs g) (sym (finished_is kind rows pending)) f;
+      found = subst (λ rs. Found kind rs g) (sym (finished_is kind rows pending)) f;
       as_many =
           all_there name (after kind rows pending) g.workers g.fuel kind g.files f l
           (right_none (settles kind rows pending) _ ended);
       options = o;
     }
-words_read zero kind name (x ∷ rest) g m u rows pending e wait l o = absurd (omega (arith, m))
-words_read (suc k) kind name (x ∷ rest) g m u rows pending e wait l o =
+words_read zero kind name (x ∷ rest) g m u rows pending r e wait l o = absurd (omega (arith, m))
+words_read (suc k) kind name (x ∷ rest) g m u rows pending r e wait l o =
     let s : settles kind rows pending ≡ [] =
-    idle_settles kind name rows pending (x ∷ rest) (length g.files) u e in
-    word_read kind name g rows pending s (wait s) l o k
+    resting_settles kind name rows pending (x ∷ rest) r (length g.files) u e in
+    word_read kind name g rows pending r s (wait s) l o k
     (λ ws more n v. words_read k kind name ws more n v) x rest (omega (arith, m)) u.0 u.1
     (look x) e
 

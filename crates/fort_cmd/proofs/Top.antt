@@ -1,5 +1,5 @@
 -- The parser's walk over all words: the first names a command, and the rest is read by it.
-use Rattle.std.proofs.Common.{◌≡◌, ℕ, Bool, true, false, refl, ap, ap₂, sym, ◌∙◌, subst, arith, List, [], ◌∷◌, ◌++◌, length, append_assoc}
+use Rattle.std.proofs.Common.{◌≡◌, ℕ, Bool, true, false, refl, ap, ap₂, sym, ◌∙◌, ◌≤◌, subst, List, [], ◌∷◌, ◌++◌, length, append_assoc}
 use Rattle.std.specs.Prelude.{codes, find, fold, unwrap_or, Option, Some, None, slice_get}
 use Rattle.std.specs.Str.{IsUtf8, bytes_eq, chars}
 use Rattle.std.proofs.lemmas.Slice.Eq.{bytes_eq-Decides}
@@ -11,15 +11,16 @@ use Rattle.clap.specs.Kinds.{Kinds, or_else}
 use Rattle.clap.specs.declared.error.kind.ErrorKind.TheVariants as kind
 use Rattle.clap.proofs.FaultLemmas.{stopped_fault}
 use Rattle.fort_cmd.specs.declared.command.Command.{Command}
-use Rattle.fort_cmd.specs.declared.command.Command.TheVariants.{Check, Show, Run, Bench, Record, Audit}
+use Rattle.fort_cmd.specs.declared.command.Command.TheVariants.{Check, Show, Run, Bench, Record, Audit, Link}
 use Rattle.fort_cmd.specs.Words.{Given, Gives, IsCommand, IsNoCommand, nothing, only}
-use Rattle.fort_cmd.specs.Line.{Kind, OfFile, OfRun, OfAudit, IsOf, CheckIsOf, ShowIsOf, RunIsOf, BenchIsOf, RecordIsOf, AuditIsOf, Reads, TakesOptions, files_wanted, line}
+use Rattle.fort_cmd.specs.Line.{AsMany, Kind, OfFile, OfRun, OfAudit, OfLink, IsOf, CheckIsOf, ShowIsOf, RunIsOf, BenchIsOf, RecordIsOf, AuditIsOf, LinkIsOf, Reads, TakesOptions, line}
+use Rattle.fort_cmd.proofs.Files.{Idle, place, rests, within_none}
 use Rattle.fort_cmd.proofs.Leaves.{above, leaf, whole_line}
 use Rattle.fort_cmd.proofs.Looks.{Look, Plain, Mark, Short, Long, flag_there, look}
 use Rattle.fort_cmd.proofs.Rows.{append_nil, none_found, some_none}
 use Rattle.fort_cmd.proofs.Turns.{at, finish, left_none, or_else_none, whole}
 use Rattle.fort_cmd.proofs.Complete.{all_taken}
-use Rattle.fort_cmd.proofs.Sound.{AllText, all_read}
+use Rattle.fort_cmd.proofs.Sound.{AllText, Result, all_read}
 
 abbrev names : Names
 names = names_of whole_line
@@ -31,39 +32,47 @@ start = walk_from nothing_held
 abbrev met : Text → List Text → Walk
 met name behind = record start { stopped = Some (name, behind) }
 
+-- the walk behind a command's name, before its words
+abbrev begins : Walk
+begins = at [] None idle 1 false
+
 -- ---- a command's name
 
 of_name : (P : Kind → Text → Type 0) → P OfFile (codes "check") → P OfFile (codes "show")
     → P OfRun (codes "run") → P OfFile (codes "bench") → P OfRun (codes "record")
-    → P OfAudit (codes "audit") → (kind : Kind) (name : Text) → IsOf kind name → P kind name
-of_name P check show run bench record' audit OfFile name (CheckIsOf e) =
+    → P OfAudit (codes "audit") → P OfLink (codes "link") → (kind : Kind) (name : Text) → IsOf kind name → P kind name
+of_name P check show run bench record' audit link OfFile name (CheckIsOf e) =
     subst (P OfFile) (sym e) check
-of_name P check show run bench record' audit OfFile name (ShowIsOf e) =
+of_name P check show run bench record' audit link OfFile name (ShowIsOf e) =
     subst (P OfFile) (sym e) show
-of_name P check show run bench record' audit OfRun name (RunIsOf e) = subst (P OfRun) (sym e) run
-of_name P check show run bench record' audit OfFile name (BenchIsOf e) =
+of_name P check show run bench record' audit link OfRun name (RunIsOf e) = subst (P OfRun) (sym e) run
+of_name P check show run bench record' audit link OfFile name (BenchIsOf e) =
     subst (P OfFile) (sym e) bench
-of_name P check show run bench record' audit OfRun name (RecordIsOf e) =
+of_name P check show run bench record' audit link OfRun name (RecordIsOf e) =
     subst (P OfRun) (sym e) record'
-of_name P check show run bench record' audit OfAudit name (AuditIsOf e) =
+of_name P check show run bench record' audit link OfAudit name (AuditIsOf e) =
     subst (P OfAudit) (sym e) audit
+of_name P check show run bench record' audit link OfLink name (LinkIsOf e) =
+    subst (P OfLink) (sym e) link
 
 name_walked : (kind : Kind) (name : Text) → IsOf kind name
     → walked [] names start name ≡ met name []
 unfolding walked
 name_walked =
     of_name (λ kind name. walked [] names start name ≡ met name []) refl refl refl refl refl refl
+    refl
 
 name_faultless : (kind : Kind) (name : Text) → IsOf kind name
     → turn_fault above names start name ≡ []
 name_faultless =
     of_name (λ kind name. turn_fault above names start name ≡ []) refl refl refl refl refl refl
+    refl
 
 name_found : (kind : Kind) (name : Text) → IsOf kind name
     → find (λ s. answers_to name (label_of s)) whole_line.subs ≡ Some (leaf kind name)
 name_found =
     of_name (λ kind name. find (λ s. answers_to name (label_of s)) whole_line.subs
-    ≡ Some (leaf kind name)) refl refl refl refl refl refl
+    ≡ Some (leaf kind name)) refl refl refl refl refl refl refl
 
 met_stays : (name : Text) (behind more : List Text)
     → fold (walked [] names) (met name behind) more ≡ met name (behind ++ more)
@@ -85,14 +94,14 @@ module _ (kind : Kind) (name : Text) (is : IsOf kind name) (behind : List Text) 
       (ap (λ w. walk_fault above names w behind) (name_walked kind name is)
       ∙ stopped_fault above names start (name, []) behind)
 
-  pub name_fault : fault_of line (name ∷ behind) ≡ whole kind name (at [] None idle 1 false) behind
+  pub name_fault : fault_of line (name ∷ behind) ≡ whole kind name begins behind
   unfolding defaults_fault
   name_fault =
       rw (walk_is, above_faultless, name_found kind name is)
-      (or_else_none (whole kind name (at [] None idle 1 false) behind))
+      (or_else_none (whole kind name begins behind))
 
   pub name_entered : subcommand_of line (name ∷ behind)
-      ≡ Some (name, finish kind (at [] None idle 1 false) behind)
+      ≡ Some (name, finish kind begins behind)
   name_entered = rw (walk_is, name_found kind name is) refl
 
 -- ---- words of a command
@@ -106,7 +115,7 @@ record Behind (ws : List Text) : Type 0 where
   words_are : ws ≡ name ∷ behind
   given : Given
   gives : Gives behind nothing given
-  as_many : length given.files ≡ files_wanted kind
+  as_many : AsMany kind (length given.files)
   options : TakesOptions kind given
 
 behind_of : (ws : List Text) (c : Command) → IsCommand ws c → Behind ws
@@ -176,18 +185,37 @@ behind_of ws (Audit file kept) i = record {
   as_many = refl;
   options = (refl, refl);
 }
+behind_of ws (Link files workers fuel) i = record {
+  kind = OfLink;
+  name = codes "link";
+  is = LinkIsOf refl;
+  behind = i.behind;
+  words_are = i.words_are;
+  given = i.asks.given;
+  gives = i.asks.gives;
+  as_many = subst (λ fs. 1 ≤ length fs) (sym i.asks.files_are) i.asks.some;
+  options = tt;
+}
+
+-- The walk begins with no file, whatever the kind.
+begins_is : (kind : Kind) → at [] None (rests Idle) (place kind 0) false ≡ begins
+begins_is OfFile = refl
+begins_is OfRun = refl
+begins_is OfAudit = refl
+begins_is OfLink = refl
 
 pub command_taken : (ws : List Text) (c : Command) → IsCommand ws c → fault_of line ws ≡ []
 command_taken ws c i =
     let b = behind_of ws c i in
     ap (fault_of line) b.words_are ∙ name_fault b.kind b.name b.is b.behind
-    ∙ all_taken b.kind b.name b.behind nothing b.given b.gives [] None refl none_found b.as_many
-    b.options
+    ∙ sym (ap (λ w. whole b.kind b.name w b.behind) (begins_is b.kind))
+    ∙ all_taken b.kind b.name b.behind nothing b.given b.gives [] None Idle refl
+    (none_found b.kind) b.as_many b.options
 
 pub no_name : (ws : List Text) → subcommand_of line ws ≡ None → IsNoCommand ws
 no_name ws e c i =
     let b = behind_of ws c i in
-    some_none (b.name, finish b.kind (at [] None idle 1 false) b.behind)
+    some_none (b.name, finish b.kind begins b.behind)
     (sym (ap (subcommand_of line) b.words_are ∙ name_entered b.kind b.name b.is b.behind) ∙ e)
 
 -- ---- words that are taken
@@ -201,23 +229,29 @@ head : (word : Text) → Head word
 head word =
     go (bytes_eq (codes "check") word) (bytes_eq (codes "show") word) (bytes_eq (codes "run") word)
     (bytes_eq (codes "bench") word) (bytes_eq (codes "record") word)
-    (bytes_eq (codes "audit") word) refl refl refl refl refl refl
+    (bytes_eq (codes "audit") word) (bytes_eq (codes "link") word) refl refl refl refl refl refl refl
   where
     same : (name : Text) → bytes_eq name word ≡ true → word ≡ name
     same name e = sym ((bytes_eq-Decides name word).0 e)
 
-    go : (a b c d e f : Bool) → bytes_eq (codes "check") word ≡ a → bytes_eq (codes "show") word ≡ b
+    go : (a b c d e f g : Bool) → bytes_eq (codes "check") word ≡ a
+        → bytes_eq (codes "show") word ≡ b
         → bytes_eq (codes "run") word ≡ c → bytes_eq (codes "bench") word ≡ d
-        → bytes_eq (codes "record") word ≡ e → bytes_eq (codes "audit") word ≡ f → Head word
-    go true b c d e f p q r s t u = IsName OfFile (CheckIsOf (same (codes "check") p))
-    go false true c d e f p q r s t u = IsName OfFile (ShowIsOf (same (codes "show") q))
-    go false false true d e f p q r s t u = IsName OfRun (RunIsOf (same (codes "run") r))
-    go false false false true e f p q r s t u = IsName OfFile (BenchIsOf (same (codes "bench") s))
-    go false false false false true f p q r s t u =
+        → bytes_eq (codes "record") word ≡ e → bytes_eq (codes "audit") word ≡ f
+        → bytes_eq (codes "link") word ≡ g → Head word
+    go true b c d e f g p q r s t u v = IsName OfFile (CheckIsOf (same (codes "check") p))
+    go false true c d e f g p q r s t u v = IsName OfFile (ShowIsOf (same (codes "show") q))
+    go false false true d e f g p q r s t u v = IsName OfRun (RunIsOf (same (codes "run") r))
+    go false false false true e f g p q r s t u v =
+        IsName OfFile (BenchIsOf (same (codes "bench") s))
+    go false false false false true f g p q r s t u v =
         IsName OfRun (RecordIsOf (same (codes "record") t))
-    go false false false false false true p q r s t u =
+    go false false false false false true g p q r s t u v =
         IsName OfAudit (AuditIsOf (same (codes "audit") u))
-    go false false false false false false p q r s t u = IsNone (rw (p, q, r, s, t, u) refl)
+    go false false false false false false true p q r s t u v =
+        IsName OfLink (LinkIsOf (same (codes "link") v))
+    go false false false false false false false p q r s t u v =
+        IsNone (rw (p, q, r, s, t, u, v) refl)
 
 abbrev behind_mark : Walk
 behind_mark = record start { is_trailing = true }
@@ -284,13 +318,27 @@ pub record Taken (ws : List Text) (name : Text) (rows : List Row) : Type 0 where
   pub words_are : ws ≡ name ∷ behind
   pub reads : Reads kind behind rows
 
+none_given : (kind : Kind) → TakesOptions kind nothing
+none_given OfRun = tt
+none_given OfLink = tt
+none_given OfFile = (refl, refl)
+none_given OfAudit = (refl, refl)
+
+-- Words that are taken from the first on give what the matches have.
+read_from : (kind : Kind) (name : Text) (rest : List Text) → AllText rest
+    → whole kind name begins rest ≡ [] → Result kind (finish kind begins rest) rest nothing
+read_from kind name rest u e =
+    let from : at [] None (rests Idle) (place kind 0) false ≡ begins = begins_is kind in
+    subst (λ w. Result kind (finish kind w rest) rest nothing) from
+    (all_read kind name rest nothing u [] None Idle (ap (λ w. whole kind name w rest) from ∙ e)
+    (λ z. none_found kind) (within_none kind) (none_given kind))
+
 named_taken : (kind : Kind) (word : Text) (is : IsOf kind word) (rest : List Text) → AllText rest
     → fault_of line (word ∷ rest) ≡ [] → (name : Text) (rows : List Row)
     → subcommand_of line (word ∷ rest) ≡ Some (name, rows) → Taken (word ∷ rest) name rows
 named_taken kind word is rest u e name rows entered =
-    let now : List Row = finish kind (at [] None idle 1 false) rest in
-    let r = all_read kind word rest nothing u [] None (sym (name_fault kind word is rest)
-    ∙ e) (λ z. none_found) (omega arith) (none_given kind) in
+    let now : List Row = finish kind begins rest in
+    let r = read_from kind word rest u (sym (name_fault kind word is rest) ∙ e) in
     let same : (word, now) ≡ (name, rows) =
     ap (λ o. unwrap_or o (name, rows)) (sym (name_entered kind word is rest) ∙ entered) in
     let taken : Taken (word ∷ rest) word now = record {
@@ -307,11 +355,6 @@ named_taken kind word is rest u e name rows entered =
       };
     } in
     subst (λ (p : Text × List Row). Taken (word ∷ rest) p.0 p.1) same taken
-  where
-    none_given : (k : Kind) → TakesOptions k nothing
-    none_given OfRun = tt
-    none_given OfFile = (refl, refl)
-    none_given OfAudit = (refl, refl)
 
 pub all_words : (ws : List Text) → AllText ws → fault_of line ws ≡ []
     → (name : Text) (rows : List Row) → subcommand_of line ws ≡ Some (name, rows)

@@ -1,12 +1,12 @@
 -- The parser's walk over one more word.
-use Rattle.std.proofs.Common.{◌≡◌, ◌<◌, ◌≤◌, ◌+◌, ◌^◌, ◌&&◌, ◌||◌, ℕ, zero, suc, Bool, true, false, refl, sym, ◌∙◌, arith, List, [], ◌∷◌, ◌++◌, length}
+use Rattle.std.proofs.Common.{◌≡◌, ◌<◌, ◌≤◌, ◌+◌, ◌^◌, ◌&&◌, ◌||◌, ◌⊎◌, ℕ, zero, suc, Bool, true, false, refl, sym, ◌∙◌, arith, inl, inr, List, [], ◌∷◌, ◌++◌, length}
 use Rattle.std.specs.Prelude.{codes, fold, min, Option, Some, None, slice_get}
 use Rattle.std.specs.Str.{bytes_eq, chars}
 use Rattle.std.specs.Str.Parse.{digits_value, without_leading_plus}
 use Rattle.std.proofs.lemmas.Bool.{ne_eqb}
 use Rattle.std.proofs.lemmas.Slice.Eq.{bytes_eq-Decides}
 use Rattle.clap.specs.Lexer.{long_of, short_of}
-use Rattle.clap.specs.Walk.{Held, Row, Rule, Text, Waiting, Walk, arg_by_id, arg_by_index, arg_by_long, arg_by_short, finished, has_row, idle, is_pending, option, positional_held, settled, settled_rows, subcommand_met, to_positional, used, value, walked, with_default, word_met}
+use Rattle.clap.specs.Walk.{Held, Row, Rule, Text, Waiting, Walk, arg_by_id, arg_by_index, arg_by_long, arg_by_short, finished, has_row, idle, is_pending, option, option_word, positional_held, settled, settled_rows, subcommand_met, to_positional, used, value, walked, with_default, word_met}
 use Rattle.clap.specs.Faults.{check_fault, default_fault, defaults_fault, flags_fault, positional_fault, repeat_fault, settle_fault, step_fault, turn_fault, use_fault, values_fault, walk_fault, word_fault}
 use Rattle.clap.specs.Kinds.{Kinds, or_else}
 use Rattle.clap.specs.declared.builder.value_parser.ValueParser.{ValueParser}
@@ -15,10 +15,11 @@ use Rattle.clap.specs.declared.error.kind.ErrorKind.TheVariants as kind
 use Rattle.clap.specs.ValueTests.{accepts}
 use Rattle.clap.proofs.ValueTestLemmas.{Accepts-accepts, accepts-Accepts}
 use Rattle.fort_cmd.specs.Words.{Choice, Workers, Fuel, IsNumber, most_of}
-use Rattle.fort_cmd.specs.Line.{Found, Kind, OfFile, OfRun, OfAudit, files_wanted, id_of, row, row_of_id}
-use Rattle.fort_cmd.proofs.Leaves.{leaf, option_built, rules, word_built}
+use Rattle.fort_cmd.specs.Line.{AsMany, Found, Kind, OfFile, OfRun, OfAudit, OfLink, id_of, row, row_of_id}
+use Rattle.fort_cmd.proofs.Leaves.{leaf, option_built, rules, word_built, words_built}
+use Rattle.fort_cmd.proofs.Files.{HasOptions, HasRoom, Idle, Resting, Several, Within, behind_file, id_at, next_id, next_rule, place, rests}
 use Rattle.fort_cmd.proofs.Looks.{IsPlain}
-use Rattle.fort_cmd.proofs.Rows.{all, has_none, id_at, none_has, row_added}
+use Rattle.fort_cmd.proofs.Rows.{all, file_found, has_none, link_found, none_at, none_has, row_added}
 
 -- ---- faults
 
@@ -94,8 +95,8 @@ no_more kind name w = refl
 
 -- ---- the arguments by their names and places
 
-pub room : (kind : Kind) (n : ℕ) → n < files_wanted kind
-    → arg_by_index (rules kind) (suc n) ≡ Some (word_built (id_at n) (suc n))
+pub room : (kind : Kind) (n : ℕ) → HasRoom kind n
+    → arg_by_index (rules kind) (place kind n) ≡ Some (next_rule kind n)
 room OfFile zero l = refl
 room OfFile (suc n) l = absurd (omega (arith, l))
 room OfRun zero l = refl
@@ -103,16 +104,26 @@ room OfRun (suc n) l = absurd (omega (arith, l))
 room OfAudit zero l = refl
 room OfAudit (suc zero) l = refl
 room OfAudit (suc (suc n)) l = absurd (omega (arith, l))
+room OfLink n l = refl
 
-pub full : (kind : Kind) (n : ℕ) → files_wanted kind ≤ n → arg_by_index (rules kind) (suc n) ≡ None
-full OfFile n l = rw (ne_eqb 1 (suc n) (λ e. omega (arith, l, e))) refl
-full OfRun n l = rw (ne_eqb 1 (suc n) (λ e. omega (arith, l, e))) refl
-full OfAudit n l =
-    rw (ne_eqb 1 (suc n) (λ e. omega (arith, l, e)), ne_eqb 2 (suc n) (λ e. omega (arith, l, e)))
-    refl
+-- There is room for one more file, or no argument takes it.
+pub room_or_full : (kind : Kind) (n : ℕ)
+    → HasRoom kind n ⊎ (arg_by_index (rules kind) (place kind n) ≡ None)
+room_or_full OfFile zero = inl (omega arith)
+room_or_full OfFile (suc n) = inr (rw (ne_eqb 1 (suc (suc n)) (λ e. omega (arith, e))) refl)
+room_or_full OfRun zero = inl (omega arith)
+room_or_full OfRun (suc n) = inr (rw (ne_eqb 1 (suc (suc n)) (λ e. omega (arith, e))) refl)
+room_or_full OfAudit zero = inl (omega arith)
+room_or_full OfAudit (suc zero) = inl (omega arith)
+room_or_full OfAudit (suc (suc n)) =
+    inr (rw (
+      ne_eqb 1 (suc (suc (suc n))) (λ e. omega (arith, e)),
+      ne_eqb 2 (suc (suc (suc n))) (λ e. omega (arith, e)),
+    ) refl)
+room_or_full OfLink n = inl tt
 
-pub word_by_id : (kind : Kind) (n : ℕ) → n < files_wanted kind
-    → arg_by_id (rules kind) (id_at n) ≡ Some (word_built (id_at n) (suc n))
+pub word_by_id : (kind : Kind) (n : ℕ) → HasRoom kind n
+    → arg_by_id (rules kind) (next_id kind n) ≡ Some (next_rule kind n)
 word_by_id OfFile zero l = refl
 word_by_id OfFile (suc n) l = absurd (omega (arith, l))
 word_by_id OfRun zero l = refl
@@ -120,21 +131,31 @@ word_by_id OfRun (suc n) l = absurd (omega (arith, l))
 word_by_id OfAudit zero l = refl
 word_by_id OfAudit (suc zero) l = refl
 word_by_id OfAudit (suc (suc n)) l = absurd (omega (arith, l))
+word_by_id OfLink n l = refl
 
-pub option_by_id : (choice : Choice)
-    → arg_by_id (rules OfRun) (id_of choice) ≡ Some (option_built choice)
-option_by_id Workers = refl
-option_by_id Fuel = refl
+pub option_by_id : (kind : Kind) → HasOptions kind → (choice : Choice)
+    → arg_by_id (rules kind) (id_of choice) ≡ Some (option_built choice)
+option_by_id OfRun o Workers = refl
+option_by_id OfRun o Fuel = refl
+option_by_id OfLink o Workers = refl
+option_by_id OfLink o Fuel = refl
+option_by_id OfFile o choice = absurd o
+option_by_id OfAudit o choice = absurd o
 
-pub option_by_long : (choice : Choice)
-    → arg_by_long (rules OfRun) (id_of choice) ≡ Some (option_built choice)
-option_by_long Workers = refl
-option_by_long Fuel = refl
+pub option_by_long : (kind : Kind) → HasOptions kind → (choice : Choice)
+    → arg_by_long (rules kind) (id_of choice) ≡ Some (option_built choice)
+option_by_long OfRun o Workers = refl
+option_by_long OfRun o Fuel = refl
+option_by_long OfLink o Workers = refl
+option_by_long OfLink o Fuel = refl
+option_by_long OfFile o choice = absurd o
+option_by_long OfAudit o choice = absurd o
 
 pub none_by_short : (kind : Kind) (x : ℕ) → arg_by_short (rules kind) x ≡ None
 none_by_short OfFile x = refl
 none_by_short OfRun x = refl
 none_by_short OfAudit x = refl
+none_by_short OfLink x = refl
 
 -- ---- a use of an argument
 
@@ -213,57 +234,101 @@ option_means choice word rows e = (
 
 -- ---- what is pending
 
-module _ (kind : Kind) (rows : List Row) (n : ℕ) (l : n < files_wanted kind) (word : Text)
-    (none : row_of_id (id_at n) rows ≡ None) where
-  pub word_settles : settles kind rows (Some (id_at n, word ∷ [])) ≡ []
-  word_settles = rw (word_by_id kind n l) (word_fits (id_at n) (suc n) word rows none)
+module _ (rows : List Row) (files : List Text) (workers fuel : Option ℕ) where
+  pub word_settles : (kind : Kind) → HasRoom kind (length files)
+      → Found kind rows (all files workers fuel) → (word : Text)
+      → settles kind rows (Some (next_id kind (length files), word ∷ [])) ≡ []
+  word_settles OfFile l f word =
+      rw (word_by_id OfFile (length files) l)
+      (word_fits (id_at (length files)) (suc (length files)) word rows
+      (none_at OfFile tt files workers fuel rows l f))
+  word_settles OfRun l f word =
+      rw (word_by_id OfRun (length files) l)
+      (word_fits (id_at (length files)) (suc (length files)) word rows
+      (none_at OfRun tt files workers fuel rows l f))
+  word_settles OfAudit l f word =
+      rw (word_by_id OfAudit (length files) l)
+      (word_fits (id_at (length files)) (suc (length files)) word rows
+      (none_at OfAudit tt files workers fuel rows l f))
+  word_settles OfLink l f word = refl
 
-  pub word_after : after kind rows (Some (id_at n, word ∷ [])) ≡ rows ++ row (id_at n) word ∷ []
-  word_after = rw (word_by_id kind n l) (row_added (id_at n) word rows none)
+  -- The next file is found once it isn't pending any more.
+  pub word_found : (kind : Kind) → HasRoom kind (length files)
+      → Found kind rows (all files workers fuel) → (word : Text)
+      → Found kind (after kind rows (Some (next_id kind (length files), word ∷ [])))
+      (all (files ++ word ∷ []) workers fuel)
+  word_found OfFile l f word =
+      rw (
+        word_by_id OfFile (length files) l,
+        row_added (id_at (length files)) word rows (none_at OfFile tt files workers fuel rows l f),
+      )
+      (file_found OfFile tt files workers fuel rows l f word)
+  word_found OfRun l f word =
+      rw (
+        word_by_id OfRun (length files) l,
+        row_added (id_at (length files)) word rows (none_at OfRun tt files workers fuel rows l f),
+      )
+      (file_found OfRun tt files workers fuel rows l f word)
+  word_found OfAudit l f word =
+      rw (
+        word_by_id OfAudit (length files) l,
+        row_added (id_at (length files)) word rows (none_at OfAudit tt files workers fuel rows l f),
+      )
+      (file_found OfAudit tt files workers fuel rows l f word)
+  word_found OfLink l f word = link_found files workers fuel rows f word
 
-module _ (choice : Choice) (rows : List Row) where
-  pub option_waits : settles OfRun rows (Some (id_of choice, [])) ≡ [] → ⊥
+module _ (k : Kind) (o : HasOptions k) (choice : Choice) (rows : List Row) where
+  pub option_waits : settles k rows (Some (id_of choice, [])) ≡ [] → ⊥
   option_waits e =
-      let bad : settles OfRun rows (Some (id_of choice, [])) ≡ kind.InvalidValue ∷ [] =
-      rw (option_by_id choice) refl in
+      let bad : settles k rows (Some (id_of choice, [])) ≡ kind.InvalidValue ∷ [] =
+      rw (option_by_id k o choice) refl in
       let z : kind.InvalidValue ∷ [] ≡ [] = sym bad ∙ e in cc
 
   pub option_settles : (word : Text)
-      → settles OfRun rows (Some (id_of choice, word ∷ []))
+      → settles k rows (Some (id_of choice, word ∷ []))
       ≡ use_fault false (option_built choice) (word ∷ []) rows
-  option_settles word = rw (option_by_id choice) refl
-
-  pub option_after : (word : Text) → row_of_id (id_of choice) rows ≡ None
-      → used (option_built choice) (word ∷ []) rows ≡ rows ++ row (id_of choice) word ∷ []
-  option_after word none = row_added (id_of choice) word rows none
+  option_settles word = rw (option_by_id k o choice) refl
 
   pub option_after_two : (word : Text) → row_of_id (id_of choice) rows ≡ None
-      → after OfRun rows (Some (id_of choice, word ∷ [])) ≡ rows ++ row (id_of choice) word ∷ []
-  option_after_two word none = rw (option_by_id choice) (option_after word none)
+      → after k rows (Some (id_of choice, word ∷ [])) ≡ rows ++ row (id_of choice) word ∷ []
+  option_after_two word none =
+      rw (option_by_id k o choice) (row_added (id_of choice) word rows none)
+
+pub option_after : (choice : Choice) (rows : List Row) (word : Text)
+    → row_of_id (id_of choice) rows ≡ None
+    → used (option_built choice) (word ∷ []) rows ≡ rows ++ row (id_of choice) word ∷ []
+option_after choice rows word none = row_added (id_of choice) word rows none
 
 -- ---- a word that is no flag
 
-plain_met : (k : Kind) (trailing : Bool) (position : ℕ) (word : Text) (h : Held)
-    → (trailing ≡ false → IsPlain word)
-    → word_met (rules k) [] trailing idle position word h ≡ (h, value)
-plain_met k true position word h is = refl
-plain_met k false position word h is = let p = is refl in rw (p.no_mark, p.no_long, p.no_short) refl
+pub rests_none : (r : Resting) (word : Text) → subcommand_met [] (rests r) word ≡ None
+rests_none Idle word = refl
+rests_none Several word = refl
 
-word_faultless : (k : Kind) (name : Text) (trailing : Bool) (word : Text) (h : Held)
+plain_met : (k : Kind) (r : Resting) (trailing : Bool) (position : ℕ) (word : Text) (h : Held)
     → (trailing ≡ false → IsPlain word)
-    → word_fault (leaf k name) [] trailing idle word h ≡ []
-word_faultless k name true word h is = refl
-word_faultless k name false word h is =
+    → word_met (rules k) [] trailing (rests r) position word h ≡ (h, value)
+plain_met k r true position word h is = refl
+plain_met k Idle false position word h is =
+    let p = is refl in rw (p.no_mark, p.no_long, p.no_short) refl
+plain_met k Several false position word h is =
     let p = is refl in rw (p.no_mark, p.no_long, p.no_short) refl
 
-pub plain_turn : (k : Kind) (name : Text) (rows : List Row) (pending : Pending) (position : ℕ)
-    (trailing : Bool) (word : Text) → (trailing ≡ false → IsPlain word)
-    → turn_fault (leaf k name) [] (at rows pending idle position trailing) word
+word_faultless : (k : Kind) (name : Text) (r : Resting) (trailing : Bool) (word : Text) (h : Held)
+    → (trailing ≡ false → IsPlain word)
+    → word_fault (leaf k name) [] trailing (rests r) word h ≡ []
+word_faultless k name r true word h is = refl
+word_faultless k name r false word h is =
+    let p = is refl in rw (rests_none r word, p.no_mark, p.no_long, p.no_short) refl
+
+pub plain_turn : (k : Kind) (name : Text) (rows : List Row) (pending : Pending) (r : Resting)
+    (position : ℕ) (trailing : Bool) (word : Text) → (trailing ≡ false → IsPlain word)
+    → turn_fault (leaf k name) [] (at rows pending (rests r) position trailing) word
     ≡ step_fault (leaf k name) position (held rows pending) value
-plain_turn k name rows pending position trailing word is =
+plain_turn k name rows pending r position trailing word is =
     rw (
-      plain_met k trailing position word (held rows pending) is,
-      word_faultless k name trailing word (held rows pending) is,
+      plain_met k r trailing position word (held rows pending) is,
+      word_faultless k name r trailing word (held rows pending) is,
     ) refl
 
 -- ---- a word that goes to an argument without a name
@@ -277,21 +342,27 @@ or_false true = refl
 or_false false = refl
 
 word_fault_is : (k : Kind) (n : ℕ) (h : Held)
-    → positional_fault (rules k) false (word_built (id_at n) (suc n)) h
-    ≡ settle_fault (rules k) false h
-word_fault_is k n h = rw (and_false (is_pending (word_built (id_at n) (suc n)) h.pending)) refl
+    → positional_fault (rules k) false (next_rule k n) h ≡ settle_fault (rules k) false h
+word_fault_is OfFile n h =
+    rw (and_false (is_pending (word_built (id_at n) (suc n)) h.pending)) refl
+word_fault_is OfRun n h =
+    rw (and_false (is_pending (word_built (id_at n) (suc n)) h.pending)) refl
+word_fault_is OfAudit n h =
+    rw (and_false (is_pending (word_built (id_at n) (suc n)) h.pending)) refl
+word_fault_is OfLink n h =
+    rw (and_false (is_pending (words_built (codes "file") 1) h.pending)) refl
 
-pub roomy_step : (k : Kind) (name : Text) (n : ℕ) → n < files_wanted k
+pub roomy_step : (k : Kind) (name : Text) (n : ℕ) → HasRoom k n
     → (rows : List Row) (pending : Pending)
-    → step_fault (leaf k name) (suc n) (held rows pending) value ≡ settles k rows pending
+    → step_fault (leaf k name) (place k n) (held rows pending) value ≡ settles k rows pending
 roomy_step k name n l rows pending = rw (room k n l) (word_fault_is k n (held rows pending))
 
-pub full_step : (k : Kind) (name : Text) (n : ℕ) → files_wanted k ≤ n
+pub full_step : (k : Kind) (name : Text) (n : ℕ) → arg_by_index (rules k) (place k n) ≡ None
     → (rows : List Row) (pending : Pending)
-    → step_fault (leaf k name) (suc n) (held rows pending) value ≡ [] → ⊥
-full_step k name n l rows pending e =
-    let bad : step_fault (leaf k name) (suc n) (held rows pending) value
-    ≡ kind.UnknownArgument ∷ [] = rw (full k n l) refl in
+    → step_fault (leaf k name) (place k n) (held rows pending) value ≡ [] → ⊥
+full_step k name n full rows pending e =
+    let bad : step_fault (leaf k name) (place k n) (held rows pending) value
+    ≡ kind.UnknownArgument ∷ [] = rw full refl in
     let z : kind.UnknownArgument ∷ [] ≡ [] = sym bad ∙ e in cc
 
 next_place : (n : ℕ) → n < 2 → min (suc n + 1) 18446744073709551615 ≡ suc (suc n)
@@ -299,46 +370,75 @@ next_place zero l = refl
 next_place (suc zero) l = refl
 next_place (suc (suc n)) l = absurd (omega (arith, l))
 
-pub few : (k : Kind) (n : ℕ) → n < files_wanted k → n < 2
-few OfFile n l = omega (arith, l)
-few OfRun n l = omega (arith, l)
-few OfAudit n l = l
-
 held_is : (k : Kind) (n : ℕ) (rows : List Row) (pending : Pending) (word : Text)
-    → positional_held (rules k) (word_built (id_at n) (suc n)) word (held rows pending)
-    ≡ held (after k rows pending) (Some (id_at n, word ∷ []))
-held_is k n rows pending word =
+    → positional_held (rules k) (next_rule k n) word (held rows pending)
+    ≡ held (after k rows pending) (Some (next_id k n, word ∷ []))
+held_is OfFile n rows pending word =
     rw (and_false (is_pending (word_built (id_at n) (suc n)) pending)) refl
+held_is OfRun n rows pending word =
+    rw (and_false (is_pending (word_built (id_at n) (suc n)) pending)) refl
+held_is OfAudit n rows pending word =
+    rw (and_false (is_pending (word_built (id_at n) (suc n)) pending)) refl
+held_is OfLink n rows pending word =
+    rw (and_false (is_pending (words_built (codes "file") 1) pending)) refl
 
-pub given_walked : (k : Kind) (n : ℕ) → n < files_wanted k
+-- where the walk stands behind a file
+abbrev pub behind : Kind → ℕ → List Row → Pending → Bool → Text → Walk
+behind k n rows pending trailing word =
+    at (after k rows pending) (Some (next_id k n, word ∷ [])) (rests (behind_file k))
+    (place k (suc n)) trailing
+
+pub given_walked : (k : Kind) (n : ℕ) → HasRoom k n
     → (rows : List Row) (pending : Pending) (waiting : Waiting) (trailing : Bool) (word : Text)
-    → to_positional (rules k) (arg_by_index (rules k) (suc n)) word
-    (at rows pending waiting (suc n) trailing) (held rows pending)
-    ≡ at (after k rows pending) (Some (id_at n, word ∷ [])) idle (suc (suc n)) trailing
-given_walked k n l rows pending waiting trailing word =
-    rw (room k n l, held_is k n rows pending word, next_place n (few k n l), or_false trailing) refl
+    → to_positional (rules k) (arg_by_index (rules k) (place k n)) word
+    (at rows pending waiting (place k n) trailing) (held rows pending)
+    ≡ behind k n rows pending trailing word
+given_walked OfFile n l rows pending waiting trailing word =
+    rw (
+      room OfFile n l,
+      held_is OfFile n rows pending word,
+      next_place n (omega (arith, l)),
+      or_false trailing,
+    ) refl
+given_walked OfRun n l rows pending waiting trailing word =
+    rw (
+      room OfRun n l,
+      held_is OfRun n rows pending word,
+      next_place n (omega (arith, l)),
+      or_false trailing,
+    ) refl
+given_walked OfAudit n l rows pending waiting trailing word =
+    rw (
+      room OfAudit n l,
+      held_is OfAudit n rows pending word,
+      next_place n l,
+      or_false trailing,
+    ) refl
+given_walked OfLink n l rows pending waiting trailing word =
+    rw (held_is OfLink n rows pending word, or_false trailing) refl
 
-pub plain_walked : (k : Kind) (n : ℕ) → n < files_wanted k
-    → (rows : List Row) (pending : Pending) (trailing : Bool) (word : Text)
+pub plain_walked : (k : Kind) (n : ℕ) → HasRoom k n
+    → (rows : List Row) (pending : Pending) (r : Resting) (trailing : Bool) (word : Text)
     → (trailing ≡ false → IsPlain word)
-    → walked (rules k) [] (at rows pending idle (suc n) trailing) word
-    ≡ at (after k rows pending) (Some (id_at n, word ∷ [])) idle (suc (suc n)) trailing
+    → walked (rules k) [] (at rows pending (rests r) (place k n) trailing) word
+    ≡ behind k n rows pending trailing word
 unfolding walked
-plain_walked k n l rows pending trailing word is =
-    rw (plain_met k trailing (suc n) word (held rows pending) is)
-    (given_walked k n l rows pending idle trailing word)
+plain_walked k n l rows pending r trailing word is =
+    rw (plain_met k r trailing (place k n) word (held rows pending) is)
+    (given_walked k n l rows pending (rests r) trailing word)
 
 -- ---- behind the mark
 
-pub mark_turn : (k : Kind) (name : Text) (rows : List Row) (pending : Pending) (position : ℕ)
-    → turn_fault (leaf k name) [] (at rows pending idle position false) (codes "--") ≡ []
-mark_turn k name rows pending position = refl
+pub mark_turn : (k : Kind) (name : Text) (rows : List Row) (pending : Pending) (r : Resting)
+    (position : ℕ)
+    → turn_fault (leaf k name) [] (at rows pending (rests r) position false) (codes "--") ≡ []
+mark_turn k name rows pending r position = rw (rests_none r (codes "--")) refl
 
-pub mark_walked : (k : Kind) (rows : List Row) (pending : Pending) (position : ℕ)
-    → walked (rules k) [] (at rows pending idle position false) (codes "--")
-    ≡ at rows pending idle position true
+pub mark_walked : (k : Kind) (rows : List Row) (pending : Pending) (r : Resting) (position : ℕ)
+    → walked (rules k) [] (at rows pending (rests r) position false) (codes "--")
+    ≡ at rows pending (rests r) position true
 unfolding walked
-mark_walked k rows pending position = refl
+mark_walked k rows pending r position = rw (rests_none r (codes "--")) refl
 
 pub mark_walked_option : (k : Kind) (rows : List Row) (pending : Pending) (id : Text) (position : ℕ)
     → walked (rules k) [] (at rows pending (option id) position false) (codes "--")
@@ -352,10 +452,10 @@ pub trailing_turn : (k : Kind) (name : Text) (rows : List Row) (pending : Pendin
     ≡ step_fault (leaf k name) position (held rows pending) value
 trailing_turn k name rows pending waiting position word = refl
 
-pub trailing_walked : (k : Kind) (n : ℕ) → n < files_wanted k
+pub trailing_walked : (k : Kind) (n : ℕ) → HasRoom k n
     → (rows : List Row) (pending : Pending) (waiting : Waiting) (word : Text)
-    → walked (rules k) [] (at rows pending waiting (suc n) true) word
-    ≡ at (after k rows pending) (Some (id_at n, word ∷ [])) idle (suc (suc n)) true
+    → walked (rules k) [] (at rows pending waiting (place k n) true) word
+    ≡ behind k n rows pending true word
 unfolding walked
 trailing_walked k n l rows pending waiting word = given_walked k n l rows pending waiting true word
 
@@ -386,21 +486,29 @@ short_turn k name rows pending waiting position word flag flags none no_mark no_
 -- The argument of a long name.
 pub data Named (k : Kind) (name : Text) : Type 0 where
   Unnamed : arg_by_long (rules k) name ≡ None → Named k name
-  Optional : (choice : Choice) → k ≡ OfRun → name ≡ id_of choice
+  Optional : (choice : Choice) → HasOptions k → name ≡ id_of choice
       → arg_by_long (rules k) name ≡ Some (option_built choice) → Named k name
+
+named_by : (choice : Choice) (name : Text) → bytes_eq (id_of choice) name ≡ true
+    → name ≡ id_of choice
+named_by choice name e = sym ((bytes_eq-Decides (id_of choice) name).0 e)
 
 pub named : (k : Kind) (name : Text) → Named k name
 named OfFile name = Unnamed refl
 named OfAudit name = Unnamed refl
 named OfRun name = go (bytes_eq (id_of Workers) name) (bytes_eq (id_of Fuel) name) refl refl
   where
-    is : (choice : Choice) → bytes_eq (id_of choice) name ≡ true → name ≡ id_of choice
-    is choice e = sym ((bytes_eq-Decides (id_of choice) name).0 e)
-
     go : (a b : Bool) → bytes_eq (id_of Workers) name ≡ a → bytes_eq (id_of Fuel) name ≡ b
         → Named OfRun name
-    go true b e q = Optional Workers refl (is Workers e) (rw e refl)
-    go false true e q = Optional Fuel refl (is Fuel q) (rw (e, q) refl)
+    go true b e q = Optional Workers tt (named_by Workers name e) (rw e refl)
+    go false true e q = Optional Fuel tt (named_by Fuel name q) (rw (e, q) refl)
+    go false false e q = Unnamed (rw (e, q) refl)
+named OfLink name = go (bytes_eq (id_of Workers) name) (bytes_eq (id_of Fuel) name) refl refl
+  where
+    go : (a b : Bool) → bytes_eq (id_of Workers) name ≡ a → bytes_eq (id_of Fuel) name ≡ b
+        → Named OfLink name
+    go true b e q = Optional Workers tt (named_by Workers name e) (rw e refl)
+    go false true e q = Optional Fuel tt (named_by Fuel name q) (rw (e, q) refl)
     go false false e q = Unnamed (rw (e, q) refl)
 
 pub or_else_none : (a : Kinds) → or_else a [] ≡ a
@@ -438,36 +546,44 @@ module _ (k : Kind) (name : Text) (rows : List Row) (pending : Pending) (waiting
       (or_else (settles k rows pending)
       (use_fault false (option_built choice) (v ∷ []) (after k rows pending))))
 
-module _ (k : Kind) (rows : List Row) (pending : Pending) (position : ℕ) (word : Text)
+module _ (k : Kind) (rows : List Row) (pending : Pending) (r : Resting) (position : ℕ) (word : Text)
     (no_mark : bytes_eq word (codes "--") ≡ false) (flag : Text) (choice : Choice)
     (by : arg_by_long (rules k) flag ≡ Some (option_built choice)) where
   pub two_walked : long_of word ≡ Some (flag, None)
-      → walked (rules k) [] (at rows pending idle position false) word
+      → walked (rules k) [] (at rows pending (rests r) position false) word
       ≡ at (after k rows pending) (Some (id_of choice, [])) (option (id_of choice)) position false
   unfolding walked
-  two_walked long = rw (no_mark, long, by) refl
+  two_walked long = rw (rests_none r word, no_mark, long, by) refl
 
   pub one_walked : (v : Text) → long_of word ≡ Some (flag, Some v)
-      → walked (rules k) [] (at rows pending idle position false) word
+      → walked (rules k) [] (at rows pending (rests r) position false) word
       ≡ at (used (option_built choice) (v ∷ []) (after k rows pending)) None idle position false
   unfolding walked
-  one_walked v long = rw (no_mark, long, by) refl
+  one_walked v long = rw (rests_none r word, no_mark, long, by) refl
 
 -- ---- the number of an option, as a word of its own
 
-pub number_turn : (choice : Choice) (name : Text) (rows : List Row) (position : ℕ) (word : Text)
-    → IsPlain word
-    → turn_fault (leaf OfRun name) []
+pub number_turn : (k : Kind) (choice : Choice) (name : Text) (rows : List Row) (position : ℕ)
+    (word : Text) → IsPlain word
+    → turn_fault (leaf k name) []
     (at rows (Some (id_of choice, [])) (option (id_of choice)) position false) word ≡ []
-number_turn choice name rows position word p = rw (p.no_mark, p.no_long, p.no_short) refl
+number_turn k choice name rows position word p = rw (p.no_mark, p.no_long, p.no_short) refl
 
-pub number_walked : (choice : Choice) (rows : List Row) (position : ℕ) (word : Text) → IsPlain word
-    → walked (rules OfRun) []
+number_word : (k : Kind) → HasOptions k → (choice : Choice) (rows : List Row) (word : Text)
+    → option_word (arg_by_id (rules k) (id_of choice)) (id_of choice) word
+    (held rows (Some (id_of choice, [])))
+    ≡ (held rows (Some (id_of choice, word ∷ [])), idle)
+number_word k o Workers rows word = rw (option_by_id k o Workers) refl
+number_word k o Fuel rows word = rw (option_by_id k o Fuel) refl
+
+pub number_walked : (k : Kind) → HasOptions k → (choice : Choice) (rows : List Row) (position : ℕ)
+    (word : Text) → IsPlain word
+    → walked (rules k) []
     (at rows (Some (id_of choice, [])) (option (id_of choice)) position false) word
     ≡ at rows (Some (id_of choice, word ∷ [])) idle position false
 unfolding walked
-number_walked Workers rows position word p = rw (p.no_mark, p.no_long, p.no_short) refl
-number_walked Fuel rows position word p = rw (p.no_mark, p.no_long, p.no_short) refl
+number_walked k o choice rows position word p =
+    rw (p.no_mark, p.no_long, p.no_short, number_word k o choice rows word) refl
 
 -- ---- the end
 
@@ -492,6 +608,11 @@ no_defaults OfRun rows =
     (with_default (with_default rows (option_built Workers)) (option_built Fuel)) refl
     ∙ default_kept (option_built Fuel) (with_default rows (option_built Workers)) refl
     ∙ default_kept (option_built Workers) rows refl
+no_defaults OfLink rows =
+    default_kept (words_built (codes "file") 1)
+    (with_default (with_default rows (option_built Workers)) (option_built Fuel)) refl
+    ∙ default_kept (option_built Fuel) (with_default rows (option_built Workers)) refl
+    ∙ default_kept (option_built Workers) rows refl
 no_defaults OfAudit rows =
     default_kept (word_built (codes "record") 2) (with_default rows (word_built (codes "file") 1))
     refl ∙ default_kept (word_built (codes "file") 1) rows refl
@@ -510,6 +631,18 @@ defaults_faultless OfRun rows =
     (with_default (with_default rows (option_built Workers)) (option_built Fuel))
     (word_built (codes "file") 1)) _
     (default_faultless (word_built (codes "file") 1)
+    (with_default (with_default rows (option_built Workers)) (option_built Fuel)) refl)
+    refl))
+defaults_faultless OfLink rows =
+    both_none (default_fault rows (option_built Workers)) _
+    (default_faultless (option_built Workers) rows refl)
+    (both_none (default_fault (with_default rows (option_built Workers)) (option_built Fuel)) _
+    (default_faultless (option_built Fuel) (with_default rows (option_built Workers)) refl)
+    (both_none
+    (default_fault
+    (with_default (with_default rows (option_built Workers)) (option_built Fuel))
+    (words_built (codes "file") 1)) _
+    (default_faultless (words_built (codes "file") 1)
     (with_default (with_default rows (option_built Workers)) (option_built Fuel)) refl)
     refl))
 defaults_faultless OfAudit rows =
@@ -532,8 +665,8 @@ last_is k name rows pending =
     rw (defaults_faultless k (after k rows pending), no_defaults k (after k rows pending)) refl
 
 module _ (name : Text) (rows : List Row) (workers fuel : Option ℕ) where
-  pub nothing_wanting : (k : Kind) (files : List Text) → Found rows (all files workers fuel)
-      → length files ≡ files_wanted k → check_fault (leaf k name) rows false ≡ []
+  pub nothing_wanting : (k : Kind) (files : List Text) → Found k rows (all files workers fuel)
+      → AsMany k (length files) → check_fault (leaf k name) rows false ≡ []
   nothing_wanting OfFile [] f l = absurd (omega (arith, l))
   nothing_wanting OfFile (x ∷ files) f l = rw (f.file) refl
   nothing_wanting OfRun [] f l = absurd (omega (arith, l))
@@ -541,14 +674,16 @@ module _ (name : Text) (rows : List Row) (workers fuel : Option ℕ) where
   nothing_wanting OfAudit [] f l = absurd (omega (arith, l))
   nothing_wanting OfAudit (x ∷ []) f l = absurd (omega (arith, l))
   nothing_wanting OfAudit (x ∷ y ∷ files) f l = rw (f.file, f.kept) refl
+  nothing_wanting OfLink [] f l = absurd (omega (arith, l))
+  nothing_wanting OfLink (x ∷ files) f l = rw (f.file) refl
 
   wanting : (k : Kind) → check_fault (leaf k name) rows false ≡ []
       → check_fault (leaf k name) rows false ≡ kind.MissingRequiredArgument ∷ [] → ⊥
   wanting k e bad = let z : kind.MissingRequiredArgument ∷ [] ≡ [] = sym bad ∙ e in cc
 
-  pub all_there : (k : Kind) (files : List Text) → Found rows (all files workers fuel)
-      → length files ≤ files_wanted k → check_fault (leaf k name) rows false ≡ []
-      → length files ≡ files_wanted k
+  pub all_there : (k : Kind) (files : List Text) → Found k rows (all files workers fuel)
+      → Within k (length files) → check_fault (leaf k name) rows false ≡ []
+      → AsMany k (length files)
   all_there OfFile [] f l e = absurd (wanting OfFile e (rw (f.file) refl))
   all_there OfFile (x ∷ files) f l e = omega (arith, l)
   all_there OfRun [] f l e = absurd (wanting OfRun e (rw (f.file) refl))
@@ -556,3 +691,5 @@ module _ (name : Text) (rows : List Row) (workers fuel : Option ℕ) where
   all_there OfAudit [] f l e = absurd (wanting OfAudit e (rw (f.file) refl))
   all_there OfAudit (x ∷ []) f l e = absurd (wanting OfAudit e (rw (f.file, f.kept) refl))
   all_there OfAudit (x ∷ y ∷ files) f l e = omega (arith, l)
+  all_there OfLink [] f l e = absurd (wanting OfLink e (rw (f.file) refl))
+  all_there OfLink (x ∷ files) f l e = omega arith

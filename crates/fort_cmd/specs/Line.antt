@@ -1,7 +1,8 @@
 -- The command line as the argument parser knows it, and what its matches give.
-use Rattle.std.specs.Prelude.{◌≡◌, ℕ, List, [], ◌∷◌, length, slice_get, find, option_map, Option, Some, None, codes, true}
+use Rattle.std.specs.Prelude.{◌≡◌, ℕ, ◌≤◌, List, [], ◌∷◌, length, slice_get, find, option_map, Option, Some, None, codes, true}
 use Rattle.std.specs.Str.{bytes_eq}
 use Rattle.clap.specs.Words.{App, Row, Rule, Text, new_app, new_rule, with_rule, with_subcommand}
+use Rattle.clap.specs.declared.builder.action.ArgAction.TheVariants.{Append}
 use Rattle.clap.specs.declared.builder.value_parser.ValueParser.TheVariants as parser
 use Rattle.clap.specs.declared.builder.value_parser.Reading.TheVariants as reading
 use Rattle.clap.specs.declared.parser.matches.ValueSource.TheVariants as source
@@ -25,14 +26,19 @@ option_rule choice =
 abbrev pub word_rule : Text → Rule
 word_rule id = record (new_rule id) { required = true }
 
+-- words of which at least one has to stand there
+abbrev pub words_rule : Text → Rule
+words_rule id = record (word_rule id) { action = Some Append }
+
 -- ---- the commands
 
--- what stands behind a command's own word: a file, or a number in its place; a file and options; or
--- a file and a record
+-- what stands behind a command's own word: a file, or a number in its place; a file and options; a
+-- file and a record; or files and options
 pub data Kind : Type 0 where
   OfFile : Kind
   OfRun : Kind
   OfAudit : Kind
+  OfLink : Kind
 
 abbrev pub sub_of : Kind → Text → App
 sub_of OfFile name = with_rule (new_app name) (word_rule (codes "file"))
@@ -41,6 +47,9 @@ sub_of OfRun name =
     (word_rule (codes "file"))
 sub_of OfAudit name =
     with_rule (with_rule (new_app name) (word_rule (codes "file"))) (word_rule (codes "record"))
+sub_of OfLink name =
+    with_rule (with_rule (with_rule (new_app name) (option_rule Workers)) (option_rule Fuel))
+    (words_rule (codes "file"))
 
 -- The command of this name is of this kind.
 pub data IsOf : Kind → Text → Type 0 where
@@ -50,6 +59,7 @@ pub data IsOf : Kind → Text → Type 0 where
   BenchIsOf : {name : Text} → name ≡ codes "bench" → IsOf OfFile name
   RecordIsOf : {name : Text} → name ≡ codes "record" → IsOf OfRun name
   AuditIsOf : {name : Text} → name ≡ codes "audit" → IsOf OfAudit name
+  LinkIsOf : {name : Text} → name ≡ codes "link" → IsOf OfLink name
 
 -- no help word, and no program's name in front
 abbrev pub quiet : App → App
@@ -71,22 +81,28 @@ line = with_sub
     (with_sub
     (with_sub
     (with_sub
+    (with_sub
     (with_sub (with_sub (quiet (new_app (codes "fortress"))) OfFile (codes "check")) OfFile
     (codes "show"))
-    OfRun (codes "run")) OfFile (codes "bench")) OfRun (codes "record")) OfAudit (codes "audit")
+    OfRun (codes "run")) OfFile (codes "bench")) OfRun (codes "record")) OfAudit (codes "audit"))
+    OfLink (codes "link")
 
 -- ---- what matches give
 
--- the value of an argument that was given once
-abbrev pub row : Text → Text → Row
-row id value =
+-- the values of an argument, one for each time that it was given
+abbrev pub row_of_all : Text → List Text → Row
+row_of_all id values =
     record {
       id = id;
-      values = value ∷ [];
+      values = values;
       count = None;
       source = Some source.CommandLine;
       reading = reading.AsWritten;
     }
+
+-- the value of an argument that was given once
+abbrev pub row : Text → Text → Row
+row id value = row_of_all id (value ∷ [])
 
 abbrev pub row_of_id : Text → List Row → Option Row
 row_of_id id rows = find (λ r. bytes_eq r.id id) rows
@@ -98,29 +114,41 @@ FoundNumber choice rows (Some n) = (value : Text)
     × (row_of_id (id_of choice) rows ≡ Some (row (id_of choice) value))
     × IsNumber (most_of choice) value n
 
--- What words give was found.
-pub record Found (rows : List Row) (g : Given) : Type 0 where
+-- the row of the first file; of a link, that of all its files
+abbrev pub first_row : Kind → List Text → Option Row
+first_row OfLink [] = None
+first_row OfLink (file ∷ files) = Some (row_of_all (codes "file") (file ∷ files))
+first_row _ files = option_map (row (codes "file")) (slice_get files 0)
+
+-- the row of the second file; a link has none
+abbrev pub second_row : Kind → List Text → Option Row
+second_row OfLink files = None
+second_row _ files = option_map (row (codes "record")) (slice_get files 1)
+
+-- What words give a command of a kind was found.
+pub record Found (kind : Kind) (rows : List Row) (g : Given) : Type 0 where
   pub workers : FoundNumber Workers rows g.workers
   pub fuel : FoundNumber Fuel rows g.fuel
-  pub file : row_of_id (codes "file") rows ≡ option_map (row (codes "file")) (slice_get g.files 0)
-  pub kept : row_of_id (codes "record") rows
-      ≡ option_map (row (codes "record")) (slice_get g.files 1)
+  pub file : row_of_id (codes "file") rows ≡ first_row kind g.files
+  pub kept : row_of_id (codes "record") rows ≡ second_row kind g.files
 
--- the files of a kind of command
-abbrev pub files_wanted : Kind → ℕ
-files_wanted OfFile = 1
-files_wanted OfRun = 1
-files_wanted OfAudit = 2
+-- So many files are as many as a kind of command has.
+abbrev pub AsMany : Kind → ℕ → Type 0
+AsMany OfFile n = n ≡ 1
+AsMany OfRun n = n ≡ 1
+AsMany OfAudit n = n ≡ 2
+AsMany OfLink n = 1 ≤ n
 
--- Only a run takes options.
+-- Only a run and a link take options.
 abbrev pub TakesOptions : Kind → Given → Type 0
 TakesOptions OfRun g = Unit {0}
+TakesOptions OfLink g = Unit {0}
 TakesOptions _ g = (g.workers ≡ None) × (g.fuel ≡ None)
 
 -- Words behind a command's own give what the matches found, and it is what such a command takes.
 pub record Reads (kind : Kind) (words : List Text) (rows : List Row) : Type 0 where
   pub given : Given
   pub gives : Gives words nothing given
-  pub found : Found rows given
-  pub files : length given.files ≡ files_wanted kind
+  pub found : Found kind rows given
+  pub files : AsMany kind (length given.files)
   pub options : TakesOptions kind given

@@ -1,11 +1,11 @@
 -- The words after the program's name. It restates the chapter "The command line" of
 -- docs/LANGUAGE.md. The code takes words off the front and keeps what they give; here the words are
 -- parts, one behind another.
-use Rattle.std.specs.Prelude.{◌≡◌, ℕ, ◌≤◌, false, List, [], ◌∷◌, ◌++◌, ◌⊎◌, Option, Some, None, unwrap_or, codes, nat_eq}
+use Rattle.std.specs.Prelude.{◌≡◌, ℕ, ◌≤◌, false, List, [], ◌∷◌, ◌++◌, length, ◌⊎◌, Option, Some, None, unwrap_or, codes, nat_eq}
 use Rattle.std.specs.List.{starts_with}
 use Rattle.std.specs.Str.Parse.{IsNumeral, digits_value, without_leading_plus}
 use Rattle.fort_cmd.specs.declared.command.Command.{Command}
-use Rattle.fort_cmd.specs.declared.command.Command.TheVariants.{Check, Show, Run, Bench, Record, Audit}
+use Rattle.fort_cmd.specs.declared.command.Command.TheVariants.{Check, Show, Run, Bench, Record, Audit, Link}
 use Rattle.fort_cmd.specs.declared.command.CmdFault.{CmdFault}
 use Rattle.fort_cmd.specs.declared.command.CmdFault.TheVariants as a_fault
 
@@ -85,7 +85,8 @@ pub data Gives : (words : List (List ℕ)) (before after : Given) → Type 0 whe
 
 -- ---- commands
 
--- the workers and the fuel of a run where no word gives them, and the most accounts of the bank
+-- the workers and the fuel of a run where no word gives them, the most accounts of the bank, and the
+-- most files that may be linked
 abbrev pub default_workers : ℕ
 default_workers = 4
 
@@ -94,6 +95,9 @@ default_fuel = 2000000
 
 abbrev pub most_accounts : ℕ
 most_accounts = 10000
+
+abbrev pub most_files : ℕ
+most_files = 64
 
 -- these files, and no option
 abbrev pub only : List (List ℕ) → Given
@@ -104,6 +108,17 @@ pub record AsksRun (words : List (List ℕ)) (file : List ℕ) (workers fuel : �
   pub given : Given
   pub gives : Gives words nothing given
   pub files_are : given.files ≡ file ∷ []
+  pub workers_are : workers ≡ unwrap_or given.workers default_workers
+  pub fuel_is : fuel ≡ unwrap_or given.fuel default_fuel
+
+-- Words ask for a run of these files, linked, from 1 to the most of them, with so many workers and
+-- this fuel.
+pub record AsksLink (words files : List (List ℕ)) (workers fuel : ℕ) : Type 0 where
+  pub given : Given
+  pub gives : Gives words nothing given
+  pub files_are : given.files ≡ files
+  pub some : 1 ≤ length files
+  pub within : length files ≤ most_files
   pub workers_are : workers ≡ unwrap_or given.workers default_workers
   pub fuel_is : fuel ≡ unwrap_or given.fuel default_fuel
 
@@ -121,6 +136,7 @@ word_of (Run file workers fuel) = codes "run"
 word_of (Bench accounts) = codes "bench"
 word_of (Record file workers fuel) = codes "record"
 word_of (Audit file kept) = codes "audit"
+word_of (Link files workers fuel) = codes "link"
 
 -- The words behind a command's own ask for it.
 abbrev pub Asks : List (List ℕ) → Command → Type 0
@@ -130,6 +146,7 @@ Asks words (Run file workers fuel) = AsksRun words file workers fuel
 Asks words (Bench accounts) = AsksBank words accounts
 Asks words (Record file workers fuel) = AsksRun words file workers fuel
 Asks words (Audit file kept) = Gives words nothing (only (file ∷ kept ∷ []))
+Asks words (Link files workers fuel) = AsksLink words files workers fuel
 
 -- The words are this command: its own word, and behind it words that ask for it.
 pub record IsCommand (words : List (List ℕ)) (command : Command) : Type 0 where
@@ -137,7 +154,7 @@ pub record IsCommand (words : List (List ℕ)) (command : Command) : Type 0 wher
   pub words_are : words ≡ word_of command ∷ behind
   pub asks : Asks behind command
 
--- the file of a command's component, if it reads one
+-- the file of a command's component, if it reads just one
 abbrev pub file_of : Command → Option (List ℕ)
 file_of (Check file) = Some file
 file_of (Show file) = Some file
@@ -145,6 +162,7 @@ file_of (Run file workers fuel) = Some file
 file_of (Bench accounts) = None
 file_of (Record file workers fuel) = Some file
 file_of (Audit file kept) = Some file
+file_of (Link files workers fuel) = None
 
 -- The words are no command.
 abbrev pub IsNoCommand : List (List ℕ) → Type 0

@@ -2,7 +2,7 @@
 ghost use Rattle.std.specs.Prelude.{◌≡◌, ◌≢◌, ◌∷◌, ◌↔◌, ℕ, List as Seq, Option, Some, unwrap_or, map, codes, string_bytes, IfOk, IfErr, IsTrue};
 ghost use Rattle.clap.specs.Words.{Row, found_of, kind_of, rows_of};
 ghost use Rattle.fort_cmd.specs.Words.{Explains, Fuel, IsCommand, Workers, default_fuel, default_workers, file_of};
-ghost use Rattle.fort_cmd.specs.Line.{FoundNumber, IsOf, Kind, OfFile, OfRun, OfAudit, Reads, row, row_of_id};
+ghost use Rattle.fort_cmd.specs.Line.{FoundNumber, IsOf, Kind, OfFile, OfRun, OfAudit, OfLink, Reads, row, row_of_id};
 ghost use Rattle.fort_cmd.specs.declared.command.CmdFault.TheVariants as a_fault;
 
 use crate::line::line;
@@ -20,6 +20,9 @@ const DEFAULT_FUEL: u64 = 2_000_000;
 /// The most accounts of the bank.
 const MOST_ACCOUNTS: u32 = 10_000;
 
+/// The most files that may be linked.
+const MOST_FILES: usize = 64;
+
 /// What the words ask for.
 #[derive(Drop)]
 pub enum Command {
@@ -36,6 +39,8 @@ pub enum Command {
     Record(Bytes, u32, u64),
     /// `audit FILE RECORD`: the component's file, and that of the record.
     Audit(Bytes, Bytes),
+    /// `link FILE.. [--workers N] [--fuel N]`: the files, from 1 to 64, and the rest as for `run`.
+    Link(List<Bytes>, u32, u64),
 }
 
 /// Why there is no command.
@@ -64,7 +69,8 @@ impl From<AllocError> for CmdFault {
 impl Command {
     ghost use Rattle.std.specs.Prelude.{◌≡◌, option_map};
 
-    /// The name of the component's file that the command reads; `bench` reads none.
+    /// The name of the component's file, where the command reads just one: `bench` reads none, and
+    /// `link` reads files of several.
     pub fn file(&self) -> Option<&Bytes>
         ensures { option_map (λ f. f.now) result ≡ file_of self.now }
     {
@@ -75,16 +81,17 @@ impl Command {
             Command::Bench(_) => None,
             Command::Record(file, _, _) => Some(file),
             Command::Audit(file, _) => Some(file),
+            Command::Link(_, _, _) => None,
         }
     }
 }
 
 /// The command that the words after the program's name are: `check FILE`, `show FILE`, `run FILE
-/// [--workers N] [--fuel N]`, `bench N`, `record FILE [--workers N] [--fuel N]` or `audit FILE
-/// RECORD`. Options and files stand in any order, each once at most, but RECORD behind FILE;
-/// `--name N` and `--name=N` mean the same, and behind the first `--` every word is a file.
-/// Without the options there are 4 workers, and the fuel is 2,000,000. The chapter "The command
-/// line".
+/// [--workers N] [--fuel N]`, `bench N`, `record FILE [--workers N] [--fuel N]`, `audit FILE
+/// RECORD` or `link FILE.. [--workers N] [--fuel N]` with 1 to 64 files. Options and files stand in
+/// any order, each option once at most, and RECORD behind FILE; `--name N` and `--name=N` mean the
+/// same, and behind the first `--` every word is a file. Without the options there are 4 workers,
+/// and the fuel is 2,000,000. The chapter "The command line".
 ///
 /// # Errors
 ///
@@ -137,7 +144,10 @@ fn named(alloc: Global, name: &str, given: &ArgMatches<'_>) -> Result<Command, C
     if name == "record" {
         return record_of(alloc, given);
     }
-    audit_of(alloc, given)
+    if name == "audit" {
+        return audit_of(alloc, given);
+    }
+    link_of(alloc, given)
 }
 
 /// The command to run.
@@ -207,6 +217,33 @@ fn audit_of(alloc: Global, given: &ArgMatches<'_>) -> Result<Command, CmdFault>
     let file = word_of(alloc, given, "file")?;
     let kept = word_of(alloc, given, "record")?;
     Ok(Command::Audit(file, kept))
+}
+
+/// The files to link and run, if they aren't too many.
+fn link_of(alloc: Global, given: &ArgMatches<'_>) -> Result<Command, CmdFault>
+    ensures ok { (behind : Seq (Seq ℕ)) → Reads OfLink behind (rows_of (found_of given.now))
+        → IfOk result (IsCommand (codes "link" ∷ behind)) }
+    ensures cause { (behind : Seq (Seq ℕ)) → Reads OfLink behind (rows_of (found_of given.now))
+        → IfErr result (Explains (codes "link" ∷ behind)) }
+{
+    match given.get_strs("file") {
+        Some(words) if words.len() <= MOST_FILES => {
+            let files = bytes_of(alloc, words)?;
+            Ok(Command::Link(files, workers_of(given), fuel_of(given)))
+        }
+        _ => Err(CmdFault::NotACommand),
+    }
+}
+
+/// The bytes of each word.
+fn bytes_of(alloc: Global, words: &[&str]) -> Result<List<Bytes>, Memory>
+    ensures { IfOk result (λ bytes. bytes ≡ map (λ word. word.now) words.now) }
+{
+    let mut all = List::new(alloc);
+    for word in words {
+        all.push(List::from_slice(alloc, word.as_bytes())?)?;
+    }
+    Ok(all)
 }
 
 /// The word that was found for an argument that has to stand there.

@@ -5,7 +5,7 @@ ghost use Rattle.clap.specs.declared.builder.command.Command.TheViews.{out-Comma
 ghost use Rattle.fort_cmd.specs.Line as the;
 ghost use Rattle.fort_cmd.specs.Words.{Workers, Fuel};
 
-use clap::{Arg, Command, value_parser};
+use clap::{Arg, ArgAction, Command, value_parser};
 use std::alloc::{AllocError, Global};
 
 /// All commands, with no help word.
@@ -18,13 +18,15 @@ pub(crate) fn line<'a>(alloc: Global) -> Result<Command<'a>, AllocError>
     let bench = of_file(alloc, "bench")?;
     let record = of_run(alloc, "record")?;
     let audit = of_audit(alloc, "audit")?;
+    let link = of_link(alloc, "link")?;
     quiet(alloc)
         .subcommand(check)?
         .subcommand(show)?
         .subcommand(run)?
         .subcommand(bench)?
         .subcommand(record)?
-        .subcommand(audit)
+        .subcommand(audit)?
+        .subcommand(link)
 }
 
 /// The command line without commands.
@@ -66,12 +68,31 @@ fn of_audit<'a>(alloc: Global, name: &'a str) -> Result<Command<'a>, AllocError>
         .arg(word(alloc, "record"))
 }
 
+/// A command that takes one FILE or more, and the options of a run.
+fn of_link<'a>(alloc: Global, name: &'a str) -> Result<Command<'a>, AllocError>
+    ensures app { IfOk result (λ c. app_of c ≡ the.sub_of the.OfLink name.now) }
+    ensures local { IfOk result (λ c. (fields_of c).has_globals ≡ false) }
+{
+    Command::new(alloc, name)
+        .arg(workers(alloc))?
+        .arg(fuel(alloc))?
+        .arg(words(alloc, "file"))
+}
+
 /// A word that has to stand there.
 fn word<'a>(alloc: Global, id: &'a str) -> Arg<'a>
     ensures rule { rule_of result ≡ the.word_rule id.now }
     ensures local { result.global ≡ false }
 {
     Arg::new(alloc, id).required(true)
+}
+
+/// Words of which at least one has to stand there.
+fn words<'a>(alloc: Global, id: &'a str) -> Arg<'a>
+    ensures rule { rule_of result ≡ the.words_rule id.now }
+    ensures local { result.global ≡ false }
+{
+    word(alloc, id).action(ArgAction::Append)
 }
 
 /// `--workers N`, from 1 to 64.

@@ -12,7 +12,7 @@ use Rattle.fort_machine.specs.Texts.{text}
 
 abbrev pub usage : List ℕ
 usage = codes
-    "usage: fortress check FILE | show FILE | run FILE [--workers N] [--fuel N] | bench N | record FILE [--workers N] [--fuel N] | audit FILE RECORD\n"
+    "usage: fortress check FILE | show FILE | run FILE [--workers N] [--fuel N] | bench N | record FILE [--workers N] [--fuel N] | audit FILE RECORD | link FILE... [--workers N] [--fuel N]\n"
 
 abbrev pub read_fault : List ℕ
 read_fault = codes "read fault\n"

@@ -10,7 +10,8 @@ use std::alloc::Global;
 /// What the words may be. It stands in one line.
 const USAGE: &str = "usage: fortress check FILE | show FILE \
     | run FILE [--workers N] [--fuel N] | bench N \
-    | record FILE [--workers N] [--fuel N] | audit FILE RECORD\n";
+    | record FILE [--workers N] [--fuel N] | audit FILE RECORD \
+    | link FILE... [--workers N] [--fuel N]\n";
 
 /// The note of a refusal: the file's name as it was given, the place, and the rule with its name.
 /// It ends with a line feed. The chapter "Statuses and notes".

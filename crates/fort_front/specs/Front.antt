@@ -1,5 +1,6 @@
 -- The chapters "Grammar", "Operators", "Types", "Members", "Overload rules" and "Typing", their
--- refusals one after another, then "Threads that are spawned" and docs/TRANSLATION.md: what `check_grammar` and `check` answer.
+-- refusals one after another, then "Threads that are spawned" and docs/TRANSLATION.md: what
+-- `check_grammar` and `check` answer.
 use Rattle.std.specs.Prelude.{◌≡◌, List, Result, Ok, Err}
 use Rattle.fort_base.specs.declared.refusal.Place.{Place}
 use Rattle.fort_base.specs.declared.refusal.Rule.{Rule}

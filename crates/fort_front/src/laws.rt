@@ -26,7 +26,8 @@ pub fn one_program()
 {}
 
 /// A law of token lists whose tokens are in order, as those of a file are, and of the components
-/// whose tokens they are: the program of such a one that is accepted is as it is written. The chapter is "Programs as written" of docs/MACHINE.md.
+/// whose tokens they are: the program of such a one that is accepted is as it is written.
+/// The chapter is "Programs as written" of docs/MACHINE.md.
 pub fn accepted_is_written()
     ensures tokens { AcceptedIsWritten }
     ensures component { AcceptedComponentIsWritten }

@@ -4,7 +4,7 @@ use Rattle.fort_base.specs.declared.refusal.Memory.{Memory}
 use Rattle.fort_core.specs.declared.program.Program.{Program}
 use Rattle.fort_port.specs.Outside.{Holding}
 use Rattle.fort_cmd.specs.declared.command.Command.{Command}
-use Rattle.fort_cmd.specs.declared.command.Command.TheVariants.{Check, Show, Run, Bench, Record, Audit}
+use Rattle.fort_cmd.specs.declared.command.Command.TheVariants.{Check, Show, Run, Bench, Record, Audit, Link}
 use Rattle.fort_cmd.specs.Words.{IsCommand}
 use Rattle.fort_audit_record.specs.Text.{IsRecordText, IsFormFault}
 use Rattle.fort_audit_record.specs.declared.reading.Record as a_record
@@ -15,15 +15,17 @@ use Rattle.fort_run.specs.Reply.{IsFile, IsText, IsOfOneFile, Means, JudgedBoth,
 use Rattle.fort_run.specs.Said.{said}
 use Rattle.fort_run.specs.declared.answer.Answer.{Answer}
 
--- A command that isn't an audit is about one file.
-pub of_one_file : (command : Command) → ((name kept : List ℕ) → command ≡ Audit name kept → ⊥)
+-- A command of a text that isn't an audit is about one file.
+pub of_one_file : (holding : List ℕ → Holding) (command : Command) (text : List ℕ)
+    → IsText holding command text → ((name kept : List ℕ) → command ≡ Audit name kept → ⊥)
     → IsOfOneFile command
-of_one_file (Check name) differs = tt
-of_one_file (Show name) differs = tt
-of_one_file (Run name workers fuel) differs = tt
-of_one_file (Bench accounts) differs = tt
-of_one_file (Record name workers fuel) differs = tt
-of_one_file (Audit name kept) differs = absurd (differs name kept refl)
+of_one_file holding (Check name) text is differs = tt
+of_one_file holding (Show name) text is differs = tt
+of_one_file holding (Run name workers fuel) text is differs = tt
+of_one_file holding (Bench accounts) text is differs = tt
+of_one_file holding (Record name workers fuel) text is differs = tt
+of_one_file holding (Audit name kept) text is differs = absurd (differs name kept refl)
+of_one_file holding (Link names workers fuel) text is differs = absurd is
 
 -- What is meant to say of both files is what the call means to say.
 pub both_mean : (holding : List ℕ → Holding) (before after : ℕ) (command : Command)

@@ -1,5 +1,5 @@
 -- Where no count rose, the words and the file decide the status, want of memory aside.
-use Rattle.std.proofs.Common.{◌≡◌, ℕ, ◌<◌, ◌≤◌, List, length, ap, ◌∙◌, sym, subst, arith, inl, inr}
+use Rattle.std.proofs.Common.{◌≡◌, ℕ, ◌<◌, ◌≤◌, List, [], ◌++◌, length, ap, ◌∙◌, sym, subst, arith, inl, inr, append-nil}
 use Rattle.std.specs.Prelude.{◌⊎◌}
 use Rattle.fort_base.specs.declared.refusal.Rule.{Rule}
 use Rattle.fort_base.specs.declared.refusal.Place.{Place}
@@ -7,16 +7,18 @@ use Rattle.fort_core.specs.declared.program.Program.{Program}
 use Rattle.fort_core.specs.declared.journal.Journal.{Journal}
 use Rattle.fort_machine.specs.Journals.{Records}
 use Rattle.fort_cmd.specs.declared.command.Command.{Command}
-use Rattle.fort_cmd.specs.declared.command.Command.TheVariants.{Check, Show, Run, Bench, Record, Audit}
+use Rattle.fort_cmd.specs.declared.command.Command.TheVariants.{Check, Show, Run, Bench, Record, Audit, Link}
 use Rattle.fort_run.specs.declared.top.Finish.{Finish}
 use Rattle.fort_cmd.specs.Words.{IsCommand, IsNoCommand}
+use Rattle.fort_link.specs.declared.answer.Spot.{Spot}
 use Rattle.fort_port.specs.Outside.{Held, Rose}
 use Rattle.fort_audit.specs.Audits.{Prints}
 use Rattle.fort_audit.specs.declared.answer.Audited.TheVariants.{Yes, NotARun, OtherOutput}
-use Rattle.fort_run.specs.Reply.{Reply, IsFile, IsText, IsAcceptedAs, BreaksOne, Writing, Writes, its_output, its_record, TellsEnding, TellsRun, RunSays, Runs, Refuses, CheckSays, Accepts, AcceptsNone, accepted, bench_name, bench_fuel, IsShownAs, IsNoComponent, ShowSays, Shows, ShowsNone, AuditMeans, OfProgram, OfNone, RecordMeans, RecordRead, RecordUnread, RecordTooLarge, RecordSays, IsKept, Formless, audited, record_limit, IsOfOneFile, CommandSays, Judged, JudgedBoth, NoCommand, Unread, TooLarge, file_limit}
+use Rattle.fort_run.specs.Reply.{Reply, IsFile, IsText, IsAcceptedAs, BreaksOne, Writing, Writes, its_output, its_record, TellsEnding, TellsRun, RunSays, Runs, Refuses, CheckSays, Accepts, AcceptsNone, accepted, bench_name, bench_fuel, IsShownAs, IsNoComponent, ShowSays, Shows, ShowsNone, AuditMeans, OfProgram, OfNone, RecordMeans, RecordRead, RecordUnread, RecordTooLarge, RecordSays, IsKept, Formless, audited, record_limit, size_of, IsOfOneFile, IsOfText, CommandSays, AreAcceptedAs, BreakOne, LinkSays, RunsWhole, RefusesWhole, LinkMeans, FilesRead, FilesUnread, FilesTooLarge, Judged, JudgedBoth, JudgedAll, NoCommand, Unread, TooLarge, file_limit}
 use Rattle.fort_run.specs.Delivery.{Takes, Whole, OutFailed, NotesFailed}
-use Rattle.fort_run.specs.Outcome.{Outside, MeansToSay, Ends, Said, WantsMemory, IsCalm, IsAbout, Asks, RunsWith, AsksAll, IsWhole, AsksAudit, Keeps, Answers}
-use Rattle.fort_run.proofs.Apart.{Fronts, accepted_apart, one_program_of, shown_apart}
+use Rattle.fort_run.specs.Outcome.{Outside, MeansToSay, Ends, Said, WantsMemory, IsCalm, IsAbout, Asks, RunsWith, AsksAll, IsWhole, AsksAudit, AsksLink, Keeps, Answers}
+use Rattle.fort_run.proofs.Apart.{Fronts, accepted_apart, one_program_of, one_program_together, shown_apart, together_apart}
+use Rattle.fort_run.proofs.Linked.{as_long, held_files, no_larger}
 use Rattle.fort_cmd.proofs.Commands.{one_command}
 
 -- What was meant was said, or memory was wanting.
@@ -39,6 +41,7 @@ same_text_of o (Run name workers fuel) file found about is = subst (λ h. IsFile
 same_text_of o (Bench accounts) file found about is = is ∙ sym about
 same_text_of o (Record name workers fuel) file found about is = subst (λ h. IsFile h found) about is
 same_text_of o (Audit name kept) file found about is = subst (λ h. IsFile h found) about is
+same_text_of o (Link names workers fuel) file found about is = absurd about
 
 same_file : (o : Outside) (a b : Command) (file found : List ℕ) → Asks o a file
     → IsCommand o.words b → IsText o.holding b found → found ≡ file
@@ -52,6 +55,9 @@ judged : (o : Outside) (reply : Reply) (command : Command) (file : List ℕ) →
     → CommandSays command file reply
 judged o reply command file one c asks within (JudgedBoth name kept file' is read within' means) =
     absurd (subst IsOfOneFile (one_command o.words command (Audit name kept) asks.is is) one)
+judged o reply command file one c asks within (JudgedAll names workers fuel is means) =
+    absurd
+    (subst IsOfOneFile (one_command o.words command (Link names workers fuel) asks.is is) one)
 judged o reply command file one c asks within (Judged command' file' is read within' calm says) =
     subst (λ x. CommandSays command x reply) (same_file o command command' file file' asks is read)
     (subst (λ x. CommandSays x file' reply) (one_command o.words command' command is asks.is) says)
@@ -79,6 +85,9 @@ audit_of o reply name kept file c asks within (JudgedBoth name' kept' file' is r
     subst (λ x. AuditMeans x file (o.holding kept) o.faults_were o.faults_are reply) n
     (subst (λ x. AuditMeans name' x (o.holding kept) o.faults_were o.faults_are reply) f
     (subst (λ x. AuditMeans name' file' (o.holding x) o.faults_were o.faults_are reply) k means))
+audit_of o reply name kept file c asks within (JudgedAll names workers fuel is means) = absurd
+    (subst IsOfText
+    (one_command o.words (Audit name kept) (Link names workers fuel) asks.is is) tt)
 audit_of o reply name kept file c asks within (NoCommand none calm e) =
     absurd (none (Audit name kept) asks.is)
 audit_of o reply name kept file c asks within (Unread command' is rose e) = absurd (c.shelf rose)
@@ -166,6 +175,7 @@ runs (Record name workers given) file fuel writes reply w says = (
       (subst (λ n. RunSays its_record name file n reply) (sym w.0) says),
 )
 runs (Audit name kept) file fuel writes reply w says = absurd w
+runs (Link names workers given) file fuel writes reply w says = absurd w
 
 runs_one : (command : Command) (fuel : ℕ) (writes : Writing) → RunsWith command fuel writes
     → IsOfOneFile command
@@ -175,6 +185,7 @@ runs_one (Run name workers given) fuel writes w = tt
 runs_one (Bench accounts) fuel writes w = tt
 runs_one (Record name workers given) fuel writes w = tt
 runs_one (Audit name kept) fuel writes w = absurd w
+runs_one (Link names workers given) fuel writes w = absurd w
 
 -- What is said of a file that breaks a rule, where all rules are asked of it.
 audit_refused : Fronts
@@ -206,6 +217,8 @@ all_refused laws o reply (Record name workers fuel) file rule place c asks all w
 all_refused laws o reply (Audit name kept) file rule place c asks all within b m =
     audit_refused laws o name kept file rule place reply b
     (audit_of o reply name kept file c asks within m)
+all_refused laws o reply (Link names workers fuel) file rule place c asks all within b m =
+    absurd asks.about
 
 -- ---- audits
 
@@ -267,6 +280,81 @@ long_record p bytes before after reply calm long (RecordUnread rose e) = absurd 
 long_record p bytes before after reply calm long (RecordTooLarge found is l same e) =
     ap (λ (x : Reply). x.status) e
 
+-- ---- links
+
+-- What is meant to say of the files of a link.
+link_of : (o : Outside) (reply : Reply) (first rest files : List (List ℕ)) (fuel : ℕ) → IsCalm o
+    → AsksLink o first rest files fuel → MeansToSay o reply
+    → LinkMeans (first ++ rest) fuel o.holding o.faults_were o.faults_are reply
+link_of o reply first rest files fuel c a (Judged command file is read within calm says) = absurd
+    (subst (λ x. CommandSays x file reply)
+    (one_command o.words command (Link (first ++ rest) a.workers fuel) is a.is) says)
+link_of o reply first rest files fuel c a (JudgedBoth name kept file is read within means) = absurd
+    (subst IsOfText
+    (one_command o.words (Audit name kept) (Link (first ++ rest) a.workers fuel) is a.is) tt)
+link_of o reply first rest files fuel c a (JudgedAll names workers given is means) =
+    let same : Link names workers given ≡ Link (first ++ rest) a.workers fuel =
+    one_command o.words (Link names workers given) (Link (first ++ rest) a.workers fuel) is a.is in
+    let n : names ≡ first ++ rest = cc in
+    let f : given ≡ fuel = cc in
+    subst (λ x. LinkMeans x fuel o.holding o.faults_were o.faults_are reply) n
+    (subst (λ x. LinkMeans names x o.holding o.faults_were o.faults_are reply) f means)
+link_of o reply first rest files fuel c a (NoCommand none calm e) =
+    absurd (none (Link (first ++ rest) a.workers fuel) a.is)
+link_of o reply first rest files fuel c a (Unread command is rose e) = absurd (c.shelf rose)
+link_of o reply first rest files fuel c a (TooLarge command file is read long calm e) = absurd
+    (subst (λ x. IsText o.holding x file)
+    (one_command o.words command (Link (first ++ rest) a.workers fuel) is a.is) read)
+
+-- What is said of files within the limit.
+files_judged : (o : Outside) (reply : Reply) (names files : List (List ℕ)) (fuel : ℕ) → IsCalm o
+    → AsksLink o names [] files fuel → size_of files ≤ file_limit → MeansToSay o reply
+    → LinkSays names files fuel reply
+files_judged o reply names files fuel c a within m =
+    go (subst (λ x. LinkMeans x fuel o.holding o.faults_were o.faults_are reply)
+    (append-nil names) (link_of o reply names [] files fuel c a m))
+  where
+    go : LinkMeans names fuel o.holding o.faults_were o.faults_are reply
+        → LinkSays names files fuel reply
+    go (FilesRead read are w calm says) =
+        subst (λ x. LinkSays names x fuel reply) (held_files o.holding names files read a.held are)
+        says
+    go (FilesUnread rose e) = absurd (c.shelf rose)
+    go (FilesTooLarge large calm e) =
+        absurd (no_larger o.holding names files a.held within large)
+
+-- Files that go on behind the limit together.
+files_long : (o : Outside) (reply : Reply) (first rest files : List (List ℕ)) (fuel : ℕ)
+    → IsCalm o → AsksLink o first rest files fuel → file_limit < size_of files
+    → MeansToSay o reply → reply.status ≡ 8
+files_long o reply first rest files fuel c a long m =
+    go (link_of o reply first rest files fuel c a m)
+  where
+    go : LinkMeans (first ++ rest) fuel o.holding o.faults_were o.faults_are reply
+        → reply.status ≡ 8
+    go (FilesRead read are w calm says) =
+        absurd (let l : size_of files ≤ size_of read =
+        as_long o.holding first rest files read a.held are in omega arith)
+    go (FilesUnread rose e) = absurd (c.shelf rose)
+    go (FilesTooLarge large calm e) = ap (λ (x : Reply). x.status) e
+
+-- What is said of accepted files tells a run of the whole's program.
+run_of_link : Fronts → (names files : List (List ℕ)) (fuel : ℕ) (p : Program) (reply : Reply)
+    → AreAcceptedAs files p → LinkSays names files fuel reply → TellsRun its_output p fuel reply
+run_of_link laws names files fuel p reply is (RunsWhole q accepted says) =
+    subst (λ x. TellsRun its_output x fuel reply)
+    (one_program_together laws files q p accepted is) says
+run_of_link laws names files fuel p reply is (RefusesWhole rule spot broken e) =
+    absurd (together_apart laws files p rule spot is broken)
+
+link_refused : Fronts → (names files : List (List ℕ)) (fuel : ℕ) (rule : Rule) (spot : Spot)
+    (reply : Reply) → BreakOne files rule spot → LinkSays names files fuel reply
+    → reply.status ≡ 1
+link_refused laws names files fuel rule spot reply b (RunsWhole p is says) =
+    absurd (together_apart laws files p rule spot is b)
+link_refused laws names files fuel rule spot reply b (RefusesWhole rule' spot' broken e) =
+    ap (λ (x : Reply). x.status) e
+
 no_component : Fronts → (name file : List ℕ) (rule : Rule) (place : Place) (reply : Reply)
     → IsNoComponent file rule place → ShowSays name file reply → reply.status ≡ 1
 no_component laws name file rule place reply n (Shows text s e) =
@@ -279,6 +367,8 @@ no_command : (o : Outside) (reply : Reply) → IsNoCommand o.words → MeansToSa
 no_command o reply none (Judged command file is read within calm says) = absurd (none command is)
 no_command o reply none (JudgedBoth name kept file is read within means) =
     absurd (none (Audit name kept) is)
+no_command o reply none (JudgedAll names workers fuel is means) =
+    absurd (none (Link names workers fuel) is)
 no_command o reply none (NoCommand out calm e) = ap (λ (x : Reply). x.status) e
 no_command o reply none (Unread command is rose e) = absurd (none command is)
 no_command o reply none (TooLarge command file is read long calm e) = absurd (none command is)
@@ -293,6 +383,9 @@ too_large o reply command file c asks long (JudgedBoth name kept file' is read w
     absurd (let same : length file' ≡ length file =
     ap length (same_file o command (Audit name kept) file file' asks is read)
     in omega arith)
+too_large o reply command file c asks long (JudgedAll names workers fuel is means) = absurd
+    (subst (λ x. IsAbout o.holding x file)
+    (one_command o.words command (Link names workers fuel) asks.is is) asks.about)
 too_large o reply command file c asks long (NoCommand none calm e) = absurd (none command asks.is)
 too_large o reply command file c asks long (Unread command' is rose e) = absurd (c.shelf rose)
 too_large o reply command file c asks long (TooLarge command' file' is read long' calm e) =
@@ -358,5 +451,18 @@ answers laws o finish ends = record {
         either o finish 8 c ends
         (λ r m. long_record p bytes o.faults_were o.faults_are r c.shelf long
         (record_of laws o r p bytes c asks m));
+    links = λ names files fuel program asks within is. elim (settled o finish c ends) [
+      | inl w ↦ inl (whole o finish its_output program fuel w.0
+          (run_of_link laws names files fuel program w.0 is
+          (files_judged o w.0 names files fuel c asks within w.1)) w.2 w.4 w.3 w.5)
+      | inr e ↦ inr e
+    ];
+    links_none = λ names files fuel rule spot asks within broken.
+        either o finish 1 c ends
+        (λ r m. link_refused laws names files fuel rule spot r broken
+        (files_judged o r names files fuel c asks within m));
+    files_too_large = λ first rest files fuel asks long.
+        either o finish 8 c ends
+        (λ r m. files_long o r first rest files fuel c asks long m);
   };
 }

@@ -1,6 +1,9 @@
 pub mod Fronts
 pub mod Written
+pub mod OneWhole
 pub mod Apart
+pub mod Linked
+pub mod Whole
 pub mod Complete
 pub mod Meaning
 pub mod Refused

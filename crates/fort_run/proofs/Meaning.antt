@@ -3,9 +3,9 @@ use Rattle.std.proofs.Common.{◌≡◌, ℕ, ◌≤◌, List, length, Result, O
 use Rattle.fort_base.specs.declared.refusal.Memory.{Memory}
 use Rattle.fort_port.specs.Outside.{Holding}
 use Rattle.fort_cmd.specs.declared.command.Command.{Command}
-use Rattle.fort_cmd.specs.declared.command.Command.TheVariants.{Check, Show, Run, Bench, Record, Audit}
-use Rattle.fort_cmd.specs.Words.{IsCommand}
-use Rattle.fort_run.specs.Reply.{IsText, IsBounded, CommandSays, Means, Judged, file_limit, no_run}
+use Rattle.fort_cmd.specs.declared.command.Command.TheVariants.{Check, Show, Run, Bench, Record, Audit, Link}
+use Rattle.fort_cmd.specs.Words.{IsCommand, most_files}
+use Rattle.fort_run.specs.Reply.{IsText, IsBounded, CommandSays, LinkMeans, Means, Judged, JudgedAll, file_limit, no_run}
 use Rattle.fort_run.specs.Said.{said}
 use Rattle.fort_diag.specs.Notes.{want_of_memory}
 use Rattle.fort_run.specs.Delivery.{Delivers, TakesOrFails}
@@ -68,6 +68,9 @@ memory_wanted o finish notes s j = record {
     audits = λ p bytes output asks within keeps. inr s;
     audits_none = λ p bytes asks within none. inr s;
     record_too_large = λ p bytes asks long. inr s;
+    links = λ names files fuel program asks within is. inr s;
+    links_none = λ names files fuel rule spot asks within broken. inr s;
+    files_too_large = λ first rest files fuel asks long. inr s;
   };
 }
 
@@ -80,3 +83,21 @@ bounded words (Run name workers fuel) is = tt
 bounded words (Bench accounts) is = is.asks.is.within
 bounded words (Record name workers fuel) is = tt
 bounded words (Audit name kept) is = tt
+bounded words (Link names workers fuel) is = tt
+
+-- What is meant to say of the files of a link is what the call means to say.
+pub all_mean : (words : List (List ℕ)) (holding : List ℕ → Holding) (before after : ℕ)
+    (command : Command) (names : List (List ℕ)) (workers fuel : ℕ) (r : Result Answer Memory)
+    → command ≡ Link names workers fuel → IsCommand words command
+    → IfOk r (λ a. LinkMeans names fuel holding before after (said a))
+    → IfOk r (λ a. Means words holding before after (said a))
+all_mean words holding before after command names workers fuel (Ok a) e is means =
+    JudgedAll names workers fuel (subst (IsCommand words) e is) means
+all_mean words holding before after command names workers fuel (Err m) e is means = tt
+
+-- The files of a link are from 1 to the most.
+pub some_files : (words : List (List ℕ)) (command : Command) (names : List (List ℕ))
+    (workers fuel : ℕ) → command ≡ Link names workers fuel → IsCommand words command
+    → (1 ≤ length names) × (length names ≤ most_files)
+some_files words command names workers fuel e is =
+    let link = subst (IsCommand words) e is in (link.asks.some, link.asks.within)

@@ -3,7 +3,7 @@
 use Rattle.std.specs.Prelude.{◌≡◌, ℕ, ◌<◌, List, [], ◌++◌, length}
 use Rattle.fort_port.specs.Outside.{Holding, Untold, Absent, Held, Rose}
 use Rattle.fort_cmd.specs.declared.command.Command.{Command}
-use Rattle.fort_run.specs.Reply.{IsFile, IsText, file_limit}
+use Rattle.fort_run.specs.Reply.{AreTooLarge, IsFile, IsText, file_limit}
 use Rattle.fort_run.specs.declared.file.Unread.{Unread}
 use Rattle.fort_run.specs.declared.file.Unread.TheVariants as an_unread
 
@@ -27,6 +27,13 @@ StopsAt holding command before after an_unread.Failed = Rose before after
 StopsAt holding command before after an_unread.TooLarge = (after ≡ before)
     × ((text : List ℕ) × IsText holding command text × (file_limit < length text))
 StopsAt holding command before after an_unread.Memory = Unit {0}
+
+-- Why files aren't all read: the same, of the first of them together.
+abbrev pub StopsAmong : (List ℕ → Holding) → List (List ℕ) → ℕ → ℕ → Unread → Type 0
+StopsAmong holding names before after an_unread.Failed = Rose before after
+StopsAmong holding names before after an_unread.TooLarge =
+    (after ≡ before) × AreTooLarge holding names
+StopsAmong holding names before after an_unread.Memory = Unit {0}
 
 -- A text is larger than a file may be; or memory was wanting.
 abbrev pub IsTooLarge : List ℕ → Unread → Type 0

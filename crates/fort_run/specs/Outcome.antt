@@ -1,12 +1,12 @@
 -- How a call ends: its status, and what stands on both outputs. It restates the chapter "Statuses
 -- and notes" of docs/LANGUAGE.md.
-use Rattle.std.specs.Prelude.{◌≡◌, ℕ, ◌*◌, ◌<◌, ◌≤◌, List, ◌⊎◌, length}
+use Rattle.std.specs.Prelude.{◌≡◌, ℕ, ◌*◌, ◌<◌, ◌≤◌, List, [], ◌∷◌, ◌++◌, ◌⊎◌, length}
 use Rattle.fort_base.specs.declared.refusal.Rule.{Rule}
 use Rattle.fort_base.specs.declared.refusal.Place.{Place}
 use Rattle.fort_core.specs.declared.program.Program.{Program}
 use Rattle.fort_port.specs.Outside.{Holding, Held, Rose}
 use Rattle.fort_cmd.specs.declared.command.Command.{Command}
-use Rattle.fort_cmd.specs.declared.command.Command.TheVariants.{Check, Show, Run, Bench, Record, Audit}
+use Rattle.fort_cmd.specs.declared.command.Command.TheVariants.{Check, Show, Run, Bench, Record, Audit, Link}
 use Rattle.fort_cmd.specs.Words.{IsCommand, IsNoCommand}
 use Rattle.fort_bench.specs.Bank.{bank}
 use Rattle.fort_core.specs.declared.term.Term.{Term}
@@ -16,7 +16,8 @@ use Rattle.fort_audit_record.specs.Text.{IsRecordText}
 use Rattle.fort_core.specs.declared.journal.Journal.{Journal}
 use Rattle.fort_audit.specs.Audits.{Prints}
 use Rattle.fort_diag.specs.Notes.{want_of_memory}
-use Rattle.fort_run.specs.Reply.{Reply, Means, IsAcceptedAs, BreaksOne, Writing, Writes, its_output, its_record, TellsEnding, IsShownAs, IsNoComponent, accepted, bench_fuel, file_limit, record_limit, no_run}
+use Rattle.fort_run.specs.Reply.{Reply, Means, IsAcceptedAs, AreAcceptedAs, BreaksOne, BreakOne, Writing, Writes, its_output, its_record, TellsEnding, IsShownAs, IsNoComponent, accepted, bench_fuel, file_limit, record_limit, size_of, no_run}
+use Rattle.fort_link.specs.declared.answer.Spot.{Spot}
 use Rattle.fort_run.specs.Delivery.{Change, Delivers, Takes, TakesOrFails}
 use Rattle.fort_run.specs.declared.top.Finish.{Finish}
 
@@ -48,7 +49,7 @@ pub record IsCalm (o : Outside) : Type 0 where
   pub notes : Rose o.notes.faults_were o.notes.faults_are → ⊥
 
 -- The text that a command is about: the component's file that the shelf has under its name; or the
--- bank.
+-- bank. A link is about no single text.
 abbrev pub IsAbout : (List ℕ → Holding) → Command → List ℕ → Type 0
 IsAbout holding (Check name) text = holding name ≡ Held text
 IsAbout holding (Show name) text = holding name ≡ Held text
@@ -56,6 +57,7 @@ IsAbout holding (Run name workers fuel) text = holding name ≡ Held text
 IsAbout holding (Bench accounts) text = text ≡ bank accounts (4 * accounts)
 IsAbout holding (Record name workers fuel) text = holding name ≡ Held text
 IsAbout holding (Audit name kept) text = holding name ≡ Held text
+IsAbout holding (Link names workers fuel) text = ⊥
 
 -- The words are this command, and this is the text that it is about.
 pub record Asks (o : Outside) (command : Command) (text : List ℕ) : Type 0 where
@@ -70,6 +72,7 @@ RunsWith (Run name workers given) fuel writes = (fuel ≡ given) × (writes ≡ 
 RunsWith (Bench accounts) fuel writes = (fuel ≡ bench_fuel) × (writes ≡ its_output)
 RunsWith (Record name workers given) fuel writes = (fuel ≡ given) × (writes ≡ its_record)
 RunsWith (Audit name kept) fuel writes = ⊥
+RunsWith (Link names workers given) fuel writes = ⊥
 
 -- The command asks all the rules of its text.
 abbrev pub AsksAll : Command → Type 0
@@ -100,6 +103,20 @@ pub record AsksAudit (o : Outside) (p : Program) (bytes : List ℕ) : Type 0 whe
   pub within : length file ≤ file_limit
   pub accepted : IsAcceptedAs file p
   pub held : o.holding kept ≡ Held bytes
+
+-- The shelf has these files, under these names.
+abbrev pub AreHeld : (List ℕ → Holding) → List (List ℕ) → List (List ℕ) → Type 0
+AreHeld holding [] [] = Unit {0}
+AreHeld holding (name ∷ names) (file ∷ files) =
+    (holding name ≡ Held file) × AreHeld holding names files
+AreHeld holding names files = ⊥
+
+-- The words ask to link files and run the whole with this fuel, and the shelf has these under the
+-- first of their names.
+pub record AsksLink (o : Outside) (first rest files : List (List ℕ)) (fuel : ℕ) : Type 0 where
+  pub workers : ℕ
+  pub is : IsCommand o.words (Link (first ++ rest) workers fuel)
+  pub held : AreHeld o.holding first files
 
 -- Bytes are the record of a run of a program, which printed this output.
 pub record Keeps (p : Program) (bytes output : List ℕ) : Type 0 where
@@ -136,6 +153,16 @@ pub record IsComplete (o : Outside) (finish : Finish) : Type 0 where
       → (finish.status ≡ 9) ⊎ (finish.status ≡ 7)
   pub record_too_large : (p : Program) (bytes : List ℕ) → AsksAudit o p bytes
       → record_limit < length bytes → (finish.status ≡ 8) ⊎ (finish.status ≡ 7)
+  pub links : (names files : List (List ℕ)) (fuel : ℕ) (program : Program)
+      → AsksLink o names [] files fuel → size_of files ≤ file_limit
+      → AreAcceptedAs files program
+      → IsWhole o finish its_output program fuel ⊎ (finish.status ≡ 7)
+  pub links_none : (names files : List (List ℕ)) (fuel : ℕ) (rule : Rule) (spot : Spot)
+      → AsksLink o names [] files fuel → size_of files ≤ file_limit
+      → BreakOne files rule spot → (finish.status ≡ 1) ⊎ (finish.status ≡ 7)
+  pub files_too_large : (first rest files : List (List ℕ)) (fuel : ℕ)
+      → AsksLink o first rest files fuel → file_limit < size_of files
+      → (finish.status ≡ 8) ⊎ (finish.status ≡ 7)
 
 -- What is promised of a call.
 pub record Answers (o : Outside) (finish : Finish) : Type 0 where

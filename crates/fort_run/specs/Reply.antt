@@ -1,7 +1,7 @@
 -- What a call means to say. It restates the chapters "The command line" and "Statuses and notes" of
 -- docs/LANGUAGE.md. The code finds the reply by reading in pieces; the words below speak of whole
 -- files.
-use Rattle.std.specs.Prelude.{◌≡◌, ℕ, ◌*◌, ◌<◌, ◌≤◌, List, [], ◌∷◌, ◌++◌, codes, length}
+use Rattle.std.specs.Prelude.{◌≡◌, ℕ, ◌*◌, ◌<◌, ◌≤◌, List, [], ◌∷◌, ◌++◌, codes, get_or, length, map, sum}
 use Rattle.fort_audit.specs.Audits.{Audits}
 use Rattle.fort_audit.specs.Notes.{note_of}
 use Rattle.fort_audit.specs.declared.answer.Audited.{Audited}
@@ -12,11 +12,15 @@ use Rattle.fort_base.specs.declared.refusal.Rule.{Rule}
 use Rattle.fort_base.specs.declared.refusal.Place.{Place}
 use Rattle.fort_lex_token.specs.declared.token.Tokens.{Tokens}
 use Rattle.fort_lex.specs.Files.{HasTokens, BreaksRule}
-use Rattle.fort_front.specs.Front.{IsGrammatical, BreaksGrammar, IsAccepted, Breaks}
+use Rattle.fort_tree.specs.declared.declarations.Component.{Component}
+use Rattle.fort_front.specs.Front.{IsGrammatical, BreaksGrammar, IsAccepted, IsAcceptedComponent, Breaks, BreaksComponent}
+use Rattle.fort_link.specs.Answer.{IsLinked, BreaksLink}
+use Rattle.fort_link.specs.Spots.{StandsIn}
+use Rattle.fort_link.specs.declared.answer.Spot.{Spot}
 use Rattle.fort_lex_canonical.specs.Canonical.{canonical}
 use Rattle.fort_port.specs.Outside.{Holding, Untold, Absent, Held, Rose}
 use Rattle.fort_cmd.specs.declared.command.Command.{Command}
-use Rattle.fort_cmd.specs.declared.command.Command.TheVariants.{Check, Show, Run, Bench, Record, Audit}
+use Rattle.fort_cmd.specs.declared.command.Command.TheVariants.{Check, Show, Run, Bench, Record, Audit, Link}
 use Rattle.fort_cmd.specs.Words.{IsCommand, IsNoCommand, most_accounts}
 use Rattle.fort_bench.specs.Bank.{bank}
 use Rattle.fort_core.specs.declared.journal.Ending.{Ending}
@@ -216,6 +220,74 @@ pub data AuditMeans (name file : List ℕ) (holding : Holding) (before after : �
       → reply ≡ record { status = 1; out = []; note = refusal name rule place; journal = no_run }
       → AuditMeans name file holding before after reply
 
+-- ---- link
+
+-- These are the bytes of the files of these names, one for each, where the shelf tells them.
+abbrev pub AreFiles : (List ℕ → Holding) → List (List ℕ) → List (List ℕ) → Type 0
+AreFiles holding [] [] = Unit {0}
+AreFiles holding (name ∷ names) (file ∷ files) =
+    IsFile (holding name) file × AreFiles holding names files
+AreFiles holding names files = ⊥
+
+-- how many bytes files have together
+abbrev pub size_of : List (List ℕ) → ℕ
+size_of files = sum (map length files)
+
+-- Of these names the first have files that are larger together than one file may be.
+pub record AreTooLarge (holding : List ℕ → Holding) (names : List (List ℕ)) : Type 0 where
+  pub first : List (List ℕ)
+  pub rest : List (List ℕ)
+  pub parts : names ≡ first ++ rest
+  pub files : List (List ℕ)
+  pub are : AreFiles holding first files
+  pub large : file_limit < size_of files
+
+-- The files are accepted: linked, they are one component, which keeps all rules; and this is its
+-- program.
+pub record AreAcceptedAs (files : List (List ℕ)) (program : Program) : Type 0 where
+  pub whole : Component
+  pub linked : IsLinked files whole
+  pub accepted : IsAcceptedComponent whole program
+
+-- The files break this rule, at this place of one of them: a rule of lexing, of the grammar or of
+-- linking; or, linked, they are a component that breaks one behind the grammar.
+pub data BreakOne (files : List (List ℕ)) (rule : Rule) (spot : Spot) : Type 0 where
+  in_linking : BreaksLink files rule spot → BreakOne files rule spot
+  in_whole : (whole : Component) (place : Place) → IsLinked files whole
+      → BreaksComponent whole rule place → StandsIn files place spot → BreakOne files rule spot
+
+-- the note of a refusal at a place of one of the files, by that file's word
+abbrev pub refusal_at : List (List ℕ) → Rule → Spot → List ℕ
+refusal_at names rule spot = refusal (get_or names spot.file []) rule spot.place
+
+-- What is said of files to link and run with this fuel.
+pub data LinkSays (names files : List (List ℕ)) (fuel : ℕ) (reply : Reply) : Type 0 where
+  -- They are accepted: a run of the whole's program.
+  RunsWhole : (p : Program) → AreAcceptedAs files p → TellsRun its_output p fuel reply
+      → LinkSays names files fuel reply
+  -- They are refused: 1, and in which file, where and by which rule.
+  RefusesWhole : (rule : Rule) (spot : Spot) → BreakOne files rule spot
+      → reply ≡ record { status = 1; out = []; note = refusal_at names rule spot; journal = no_run }
+      → LinkSays names files fuel reply
+
+-- What is meant to say of the files of these names, to link and run with this fuel, for what the
+-- shelf tells and its counts of faults before and after.
+pub data LinkMeans (names : List (List ℕ)) (fuel : ℕ) (holding : List ℕ → Holding)
+    (before after : ℕ) (reply : Reply) : Type 0 where
+  -- They were read to their ends: what is said of them.
+  FilesRead : (files : List (List ℕ)) → AreFiles holding names files
+      → size_of files ≤ file_limit
+      → after ≡ before → LinkSays names files fuel reply
+      → LinkMeans names fuel holding before after reply
+  -- The shelf's count of faults rose: 3.
+  FilesUnread : Rose before after
+      → reply ≡ record { status = 3; out = []; note = read_fault; journal = no_run }
+      → LinkMeans names fuel holding before after reply
+  -- Together they go on behind the limit: 8.
+  FilesTooLarge : AreTooLarge holding names → after ≡ before
+      → reply ≡ record { status = 8; out = []; note = too_large; journal = no_run }
+      → LinkMeans names fuel holding before after reply
+
 -- ---- all commands
 
 -- the fuel of the bank, and the name that its notes call it by
@@ -226,7 +298,7 @@ abbrev pub bench_name : List ℕ
 bench_name = codes "bench"
 
 -- These are the bytes that a command is about: those of its component's file, where the shelf tells
--- them, or the bank's text.
+-- them, or the bank's text. A link is about several files.
 abbrev pub IsText : (List ℕ → Holding) → Command → List ℕ → Type 0
 IsText holding (Check name) text = IsFile (holding name) text
 IsText holding (Show name) text = IsFile (holding name) text
@@ -234,6 +306,7 @@ IsText holding (Run name workers fuel) text = IsFile (holding name) text
 IsText holding (Bench accounts) text = text ≡ bank accounts (4 * accounts)
 IsText holding (Record name workers fuel) text = IsFile (holding name) text
 IsText holding (Audit name kept) text = IsFile (holding name) text
+IsText holding (Link names workers fuel) text = ⊥
 
 -- The number of accounts is one that words may give.
 abbrev pub IsBounded : Command → Type 0
@@ -243,14 +316,21 @@ IsBounded (Run name workers fuel) = Unit {0}
 IsBounded (Bench accounts) = accounts ≤ most_accounts
 IsBounded (Record name workers fuel) = Unit {0}
 IsBounded (Audit name kept) = Unit {0}
+IsBounded (Link names workers fuel) = Unit {0}
 
--- A command that isn't an audit is about one text alone.
+-- A command that isn't a link is about a text, be it with another file.
+abbrev pub IsOfText : Command → Type 0
+IsOfText (Link names workers fuel) = ⊥
+IsOfText other = Unit {0}
+
+-- A command that is neither an audit nor a link is about one text alone.
 abbrev pub IsOfOneFile : Command → Type 0
 IsOfOneFile (Audit name kept) = ⊥
+IsOfOneFile (Link names workers fuel) = ⊥
 IsOfOneFile other = Unit {0}
 
--- What a command says of its text, once that is there; an audit has two files, and isn't here. How
--- many workers there are is not asked.
+-- What a command says of its text, once that is there; an audit and a link have further files, and
+-- aren't here. How many workers there are is not asked.
 abbrev pub CommandSays : Command → List ℕ → Reply → Type 0
 CommandSays (Check name) text reply = CheckSays name text reply
 CommandSays (Show name) text reply = ShowSays name text reply
@@ -258,6 +338,7 @@ CommandSays (Run name workers fuel) text reply = RunSays its_output name text fu
 CommandSays (Bench accounts) text reply = RunSays its_output bench_name text bench_fuel reply
 CommandSays (Record name workers fuel) text reply = RunSays its_record name text fuel reply
 CommandSays (Audit name kept) text reply = ⊥
+CommandSays (Link names workers fuel) text reply = ⊥
 
 -- What a call means to say, for its words, what the shelf tells, and its counts of faults before
 -- and after.
@@ -272,6 +353,11 @@ pub data Means (words : List (List ℕ)) (holding : List ℕ → Holding) (befor
   JudgedBoth : (name kept file : List ℕ) → IsCommand words (Audit name kept)
       → IsFile (holding name) file → length file ≤ file_limit
       → AuditMeans name file (holding kept) before after reply
+      → Means words holding before after reply
+  -- They ask to link files: what is meant to say of these.
+  JudgedAll : (names : List (List ℕ)) (workers fuel : ℕ)
+      → IsCommand words (Link names workers fuel)
+      → LinkMeans names fuel holding before after reply
       → Means words holding before after reply
   -- The words are no command: 2, and no file is asked for.
   NoCommand : IsNoCommand words → after ≡ before

@@ -1,10 +1,13 @@
 -- The replies that the code tells apart. It restates the chapter "Statuses and notes" of
 -- docs/LANGUAGE.md.
-use Rattle.std.specs.Prelude.{◌≡◌, ℕ, List, []}
+use Rattle.std.specs.Prelude.{◌≡◌, ℕ, List, [], Result, Ok, Err}
+use Rattle.fort_core.specs.declared.program.Program.{Program}
 use Rattle.fort_base.specs.declared.refusal.CheckFault.{CheckFault}
 use Rattle.fort_base.specs.declared.refusal.CheckFault.TheVariants as a_fault
+use Rattle.fort_link.specs.declared.answer.LinkFault.{LinkFault}
+use Rattle.fort_link.specs.declared.answer.LinkFault.TheVariants as a_link_fault
 use Rattle.fort_diag.specs.Notes.{usage, read_fault, too_large, out_of_fuel, refusal}
-use Rattle.fort_run.specs.Reply.{Reply, no_run, accepted}
+use Rattle.fort_run.specs.Reply.{Reply, AreAcceptedAs, BreakOne, no_run, accepted}
 use Rattle.fort_run.specs.declared.answer.Answer.{Answer}
 use Rattle.fort_run.specs.declared.answer.Answer.TheVariants.{Ran, Accepted, Shown, Refused, NoCommand, Unread, TooLarge, RecordRefused}
 use Rattle.fort_run.specs.declared.answer.Told.{Told}
@@ -36,3 +39,10 @@ said (RecordRefused note) = record { status = 9; out = []; note = note; journal 
 abbrev pub RefusedBy : List ℕ → CheckFault → Answer → Type 0
 RefusedBy name (a_fault.Refused rule place) answer = answer ≡ Refused (refusal name rule place)
 RefusedBy name a_fault.Memory answer = ⊥
+
+-- The files are accepted with this program, or this is the rule that they break; want of memory
+-- needs no cause.
+abbrev pub LinkChecks : List (List ℕ) → Result Program LinkFault → Type 0
+LinkChecks files (Ok program) = AreAcceptedAs files program
+LinkChecks files (Err (a_link_fault.Refused rule spot)) = BreakOne files rule spot
+LinkChecks files (Err a_link_fault.Memory) = Unit {0}

@@ -19,8 +19,18 @@ pub(crate) fn deliver<K: Sink, N: Sink>(
     requires out { K.can_write out.old }
     requires notes { N.can_write notes.old }
     ensures { Delivers status text.now note.now
-        (record { was = K.written out.old; is = K.written out.new; faults_were = K.faults out.old; faults_are = K.faults out.new })
-        (record { was = N.written notes.old; is = N.written notes.new; faults_were = N.faults notes.old; faults_are = N.faults notes.new }) result }
+        (record {
+          was = K.written out.old;
+          is = K.written out.new;
+          faults_were = K.faults out.old;
+          faults_are = K.faults out.new;
+        })
+        (record {
+          was = N.written notes.old;
+          is = N.written notes.new;
+          faults_were = N.faults notes.old;
+          faults_are = N.faults notes.new;
+        }) result }
 {
     if write_all(out, text).is_err() {
         let _ = write_all(notes, fixed(UNWRITTEN).as_bytes());

@@ -6,6 +6,8 @@ mod audit;
 mod check;
 mod deliver;
 mod file;
+mod laws;
+mod link;
 mod record;
 mod reply;
 mod run;

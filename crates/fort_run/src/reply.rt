@@ -1,15 +1,16 @@
-//! What is to say of a call: of its words, and of the file that they name.
+//! What is to say of a call: of its words, and of the files that they name.
 ghost use Rattle.std.specs.Prelude.{◌≡◌, ◌≤◌, ◌*◌, ℕ, List as Seq, length, map, string_bytes, IfOk, IfErr, OnOk};
 ghost use Rattle.fort_cmd.specs.Words.{IsCommand, most_accounts};
 ghost use Rattle.fort_bench.specs.Bank as the;
 ghost use Rattle.fort_run.specs.Fronts.{StopsAt, IsTooLarge};
-ghost use Rattle.fort_run.specs.Reply.{Means, CommandSays, RunSays, IsText, IsBounded, IsOfOneFile, bench_fuel, bench_name, file_limit, its_output};
+ghost use Rattle.fort_run.specs.Reply.{Means, CommandSays, RunSays, IsText, IsBounded, IsOfOneFile, IsOfText, bench_fuel, bench_name, file_limit, its_output};
 ghost use Rattle.fort_run.specs.Said.{said};
 
 use crate::answer::Answer;
 use crate::audit::audit_file;
 use crate::check::check_file;
 use crate::file::{FILE_LIMIT, Unread, read_file};
+use crate::link::link_files;
 use crate::record::record_file;
 use crate::run::run_file;
 use crate::show::show_file;
@@ -41,13 +42,16 @@ pub(crate) fn reply_to<R: Threads + Sync, G: Gate + Sync, F: Shelf>(
         (F.faults shelf.new) (said a)) }
 {
     match command_of(alloc, words) {
+        Ok(Command::Link(names, workers, fuel)) => {
+            link_files(rt, gate, alloc, &names, workers, fuel, shelf)
+        },
         Ok(command) => asked(rt, gate, alloc, command, shelf),
         Err(CmdFault::NotACommand) => Ok(Answer::NoCommand),
         Err(CmdFault::Memory) => Err(Memory),
     }
 }
 
-/// What the call with this command means to say.
+/// What the call with this command, which is no link, means to say.
 fn asked<R: Threads + Sync, G: Gate + Sync, F: Shelf>(
     rt: &R,
     gate: &G,
@@ -56,6 +60,7 @@ fn asked<R: Threads + Sync, G: Gate + Sync, F: Shelf>(
     shelf: &mut F,
 ) -> Result<Answer, Memory>
     requires bounded { IsBounded command }
+    requires text { IsOfText command }
     ensures kept { F.holding shelf.new ≡ F.holding shelf.old }
     ensures means { IfOk result (λ a. (words : Seq (Seq ℕ)) → IsCommand words command
         → Means words (F.holding shelf.old) (F.faults shelf.old) (F.faults shelf.new)
@@ -71,7 +76,8 @@ fn asked<R: Threads + Sync, G: Gate + Sync, F: Shelf>(
 
 /// The text that a command is about: its component's file, or the bank.
 fn read_text<F: Shelf>(alloc: Global, command: &Command, shelf: &mut F) -> Result<Bytes, Unread>
-    requires { IsBounded command.now }
+    requires bounded { IsBounded command.now }
+    requires text { IsOfText command.now }
     ensures kept { F.holding shelf.new ≡ F.holding shelf.old }
     ensures text { IfOk result (IsText (F.holding shelf.old) command.now) }
     ensures within { IfOk result (λ text. length text ≤ file_limit) }
@@ -86,6 +92,7 @@ fn read_text<F: Shelf>(alloc: Global, command: &Command, shelf: &mut F) -> Resul
         Command::Bench(accounts) => bank_within(alloc, *accounts),
         Command::Record(name, _, _) => read_file(alloc, shelf, name, FILE_LIMIT),
         Command::Audit(name, _) => read_file(alloc, shelf, name, FILE_LIMIT),
+        Command::Link(_, _, _) => unreachable!(),
     }
 }
 
@@ -146,6 +153,7 @@ fn say<R: Threads + Sync, G: Gate + Sync>(
             record_file(rt, gate, alloc, name, text, workers, fuel)
         },
         Command::Audit(_, _) => unreachable!(),
+        Command::Link(_, _, _) => unreachable!(),
     }
 }
 

@@ -78,7 +78,7 @@ fn formed<R: Threads + Sync, G: Gate + Sync>(
 
 /// What is to say of a component's program: it runs, to its end. Its calls' declarations are found
 /// by its tables.
-fn run_program<R: Threads + Sync, G: Gate + Sync>(
+pub(crate) fn run_program<R: Threads + Sync, G: Gate + Sync>(
     rt: &R,
     gate: &G,
     alloc: Global,

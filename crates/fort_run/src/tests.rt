@@ -16,7 +16,8 @@ const GREETING: &str =
 
 const USAGE: &str = "usage: fortress check FILE | show FILE \
     | run FILE [--workers N] [--fuel N] | bench N \
-    | record FILE [--workers N] [--fuel N] | audit FILE RECORD\n";
+    | record FILE [--workers N] [--fuel N] | audit FILE RECORD \
+    | link FILE... [--workers N] [--fuel N]\n";
 
 /// The record of a run of `LETTER` with a fuel of 4.
 const RECORD: &str = "fortress record 1\nfuel 4\ns - 0\ns - 0\ncompleted\noutput 2\na\n";
@@ -256,6 +257,47 @@ fn a_file_may_have_as_many_bytes_as_the_limit(rt: HostRuntime) -> Result<(), Fai
     expect(&rt, &run, &whole, 100_000, 0, "Hello, World!\n", "")?;
     let longer = padded(rt.alloc(), GREETING, " ", 1_048_577)?;
     expect(&rt, &run, &longer, 100_000, 8, "", "file too large\n")
+}
+
+/// Links two files of the names `a` and `b`, and compares all that comes out.
+fn expect_link<R: Threads + Sync + Abort + AllocGlobal>(
+    rt: &R,
+    a: &[u8],
+    b: &[u8],
+    status: u8,
+    out: &str,
+    note: &str,
+) -> Result<(), Fail> {
+    let alloc = rt.alloc();
+    let mut files = Vec::new(alloc);
+    files.push((bytes(alloc, b"a")?, bytes(alloc, a)?))?;
+    files.push((bytes(alloc, b"b")?, bytes(alloc, b)?))?;
+    let mut shelf = CalmShelf::new(List::from_vec(files), 100_000);
+    let mut printed = CalmSink::new(alloc, 1000, 3).map_err(|_| AllocError)?;
+    let mut notes = CalmSink::new(alloc, 1000, 1000).map_err(|_| AllocError)?;
+    let finish = fortress(
+        rt,
+        alloc,
+        &texts(alloc, &["link", "a", "b"])?,
+        &mut shelf,
+        &mut printed,
+        &mut notes,
+        &IdleGate,
+    );
+    assert_eq!(rt; finish.status, status);
+    assert_eq!(rt; printed.bytes(), out.as_bytes());
+    assert_eq!(rt; notes.bytes(), note.as_bytes());
+    Ok(())
+}
+
+#[test]
+fn files_are_linked_and_run(rt: HostRuntime) -> Result<(), Fail> {
+    let main = b"component A\nexport Executable\nrun(): () = println(1 + 2)\nend\n";
+    let other = b"component B\nend\n";
+    expect_link(&rt, main, other, 0, "3\n", "")?;
+    expect_link(&rt, main, main, 1, "", "b:1:11: rule 701 DuplicateUnit\n")?;
+    let long = padded(rt.alloc(), "component B\nend\n", " ", 1_048_576)?;
+    expect_link(&rt, main, &long, 8, "", "file too large\n")
 }
 
 #[test]

@@ -3,6 +3,7 @@ ghost use Rattle.fort_run.specs.Outcome.{Answers};
 
 use crate::answer::no_run;
 use crate::deliver::{deliver, write_all};
+use crate::laws::one_whole;
 use crate::reply::reply_to;
 use fort_audit::one_answer;
 use fort_audit_record::one_record;
@@ -34,13 +35,14 @@ pub struct Finish {
 /// 2,000,000 where none is given; `bench N` runs the bank of N accounts; `check FILE` says whether
 /// the component is accepted, and `show FILE` writes its canonical text; `record FILE [--workers N]
 /// [--fuel N]` runs as `run` does and writes the record of the run, and `audit FILE RECORD` says
-/// whether a record is that of a run of the component, and writes the output that it records (the
-/// chapter "The command line"). A file is read to its end before it is judged. The journal is that
-/// of a run of the component's program, what is written is what this run printed, and the status
-/// says how it ended; in each term of the run each call of values has its one declaration. What
-/// each status says, and what then stands on both outputs, is the chapter "Statuses and notes" of
-/// docs/LANGUAGE.md. After a sink has failed nothing more is written to it. Where memory is wanting
-/// the status is 7, and nothing is said of `out`.
+/// whether a record is that of a run of the component, and writes the output that it records; `link
+/// FILE.. [--workers N] [--fuel N]` runs the files, linked, as `run` does (the chapter "The command
+/// line"). A file is read to its end before it is judged. The journal is that of a run of the
+/// component's program, what is written is what this run printed, and the status says how it ended;
+/// in each term of the run each call of values has its one declaration. What each status says, and
+/// what then stands on both outputs, is the chapter "Statuses and notes" of docs/LANGUAGE.md. After
+/// a sink has failed nothing more is written to it. Where memory is wanting the status is 7, and
+/// nothing is said of `out`.
 pub fn fortress<R: Threads + Sync, F: Shelf, K: Sink, N: Sink, G: Gate + Sync>(
     rt: &R,
     alloc: Global,
@@ -58,8 +60,18 @@ pub fn fortress<R: Threads + Sync, F: Shelf, K: Sink, N: Sink, G: Gate + Sync>(
       holding = F.holding shelf.old;
       faults_were = F.faults shelf.old;
       faults_are = F.faults shelf.new;
-      out = record { was = K.written out.old; is = K.written out.new; faults_were = K.faults out.old; faults_are = K.faults out.new };
-      notes = record { was = N.written notes.old; is = N.written notes.new; faults_were = N.faults notes.old; faults_are = N.faults notes.new };
+      out = record {
+        was = K.written out.old;
+        is = K.written out.new;
+        faults_were = K.faults out.old;
+        faults_are = K.faults out.new;
+      };
+      notes = record {
+        was = N.written notes.old;
+        is = N.written notes.new;
+        faults_were = N.faults notes.old;
+        faults_are = N.faults notes.new;
+      };
     }) result }
 {
     never_both();
@@ -67,6 +79,7 @@ pub fn fortress<R: Threads + Sync, F: Shelf, K: Sink, N: Sink, G: Gate + Sync>(
     one_program();
     one_record();
     one_answer();
+    one_whole();
     match reply_to(rt, gate, alloc, words, shelf) {
         Ok(answer) => {
             let status = deliver(answer.status(), answer.text(), answer.note(), out, notes);

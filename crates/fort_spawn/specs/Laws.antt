@@ -1,4 +1,4 @@
--- The chapter "Spawned threads": what a component keeps when it gets the prelude.
+-- The chapter "Threads that are spawned": what a component keeps when it gets the prelude.
 use Rattle.std.specs.Prelude.{◌≡◌, ◌≤◌, ℕ, Bool, false, ◌&&◌, List, [], ◌∷◌, map, nat_eq}
 use Rattle.std.specs.List.{list_any, AllByRecursion}
 use Rattle.fort_base.specs.declared.refusal.Place.{Place}

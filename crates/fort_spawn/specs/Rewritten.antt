@@ -1,5 +1,5 @@
--- The chapter "Spawned threads": a component in which the word `spawn` stands, with the prelude
--- before its declarations. The code changes the component in its place.
+-- The chapter "Threads that are spawned": a component in which the word `spawn` stands,
+-- with the prelude before its declarations. The code changes the component in its place.
 use Rattle.std.specs.Prelude.{◌≡◌, Bool, true, false, List, ◌++◌, cond, codes, map}
 use Rattle.std.specs.List.{list_any}
 use Rattle.fort_base.specs.declared.ids.NameId.{NameId}

@@ -1,5 +1,5 @@
--- The chapter "Spawned threads": whether a component starts, so that its `run` is called by the
--- prelude's. The code goes down the type that a result is written as.
+-- The chapter "Threads that are spawned": whether a component starts, so that its `run`
+-- is called by the prelude's. The code goes down the type that a result is written as.
 use Rattle.std.specs.Prelude.{Bool, true, false, ◌&&◌, List, [], ◌∷◌, Option, Some, None}
 use Rattle.std.specs.List.{list_any}
 use Rattle.fort_tree.specs.declared.declarations.Component.{Component}

@@ -26,7 +26,8 @@ pub fn has_spawn(tokens: &[Token]) -> bool
 
 /// Rewrites a component: one in which the word `spawn` stands gets the prelude before its
 /// declarations, and where it starts, each of its functions `run` without parameters is `run'`;
-/// another one stays as it is. The chapter is "Spawned threads".
+/// another one stays as it is. The chapter is
+/// "Threads that are spawned".
 ///
 /// `spawns` says whether the word stands in the component. Its only error is want of memory; then
 /// nothing is said of the component.

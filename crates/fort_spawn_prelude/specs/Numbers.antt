@@ -1,5 +1,5 @@
--- The chapter "Spawned threads": the numbers of the prelude's names. The code looks each spelling
--- up from the front.
+-- The chapter "Threads that are spawned": the numbers of the prelude's names. The code looks each
+-- spelling up from the front.
 use Rattle.std.specs.Prelude.{ℕ, suc, List, [], ◌∷◌, ◌++◌, cond, length, nat_lt}
 use Rattle.std.specs.Str.{bytes_eq}
 use Rattle.fort_spawn_prelude.specs.Table.{Part, Entry, Name}

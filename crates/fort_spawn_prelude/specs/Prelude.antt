@@ -1,6 +1,6 @@
--- The chapter "Spawned threads": the prelude, the declarations that stand before those of a
--- component with spawned threads. The code makes the tokens of a component that has them alone, and
--- reads it.
+-- The chapter "Threads that are spawned": the prelude, the declarations that stand before those
+-- of a component with spawned threads. The code makes the tokens of a component that has them
+-- alone, and reads it.
 use Rattle.std.specs.Prelude.{◌≡◌, ℕ, ◌+◌, Bool, true, List, [], ◌∷◌, ◌++◌, map}
 use Rattle.fort_base.specs.declared.refusal.Gap.TheVariants as gap
 use Rattle.fort_base.specs.declared.ids.NameId.{NameId}

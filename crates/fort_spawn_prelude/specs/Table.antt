@@ -1,5 +1,5 @@
--- The chapter "Spawned threads": the tokens of the prelude. Their one table stands in src/table.rt;
--- the code walks its rows.
+-- The chapter "Threads that are spawned": the tokens of the prelude. Their one table stands in
+-- src/table.rt; the code walks its rows.
 use Rattle.std.specs.Prelude.{ℕ, Bool, List, [], ◌∷◌, ◌++◌, cond, map}
 use Rattle.std.specs.Borrow.{Bor}
 use Rattle.fort_base.specs.declared.refusal.Gap.{Gap}

@@ -1,6 +1,7 @@
 ghost use Rattle.fort_spawn_prelude.specs.Prelude.{OnePrelude, PreludeIsRead};
 
-/// Over all names there are declarations that are the prelude. The chapter is "Spawned threads".
+/// Over all names there are declarations that are the prelude. The chapter is
+/// "Threads that are spawned".
 pub fn prelude_is_read()
     ensures { PreludeIsRead }
 {}

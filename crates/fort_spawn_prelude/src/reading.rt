@@ -26,7 +26,7 @@ pub struct PreludeParts {
 
 /// The prelude, the declarations that stand before those of a component with spawned threads, and
 /// the names that the component then has. The last declaration is that of `run`, where the
-/// component starts. The chapter is "Spawned threads".
+/// component starts. The chapter is "Threads that are spawned".
 ///
 /// Its only error is want of memory, which it also answers where a name has no number of 32 bits.
 pub fn prelude(alloc: Global, names: &[Bytes], starts: bool) -> Result<PreludeParts, Memory>

@@ -1,4 +1,5 @@
-//! The tokens of the prelude. The chapter "Spawned threads" of docs/LANGUAGE.md, which prints it.
+//! The tokens of the prelude. The chapter "Threads that are spawned" of docs/LANGUAGE.md
+//! prints it.
 ghost use Rattle.std.specs.Prelude.{◌≡◌, length, map};
 ghost use Rattle.fort_spawn_prelude.specs.Table.{always, entry_of, starting};
 

@@ -34,6 +34,15 @@ function s:Above(line)
   return above
 endfunction
 
+" Whether the file is an API, in which `trait` and `object` open nothing: its first code says so.
+function s:IsApi()
+  let line = nextnonblank(1)
+  while line > 0 && s:IsComment(line)
+    let line = nextnonblank(line + 1)
+  endwhile
+  return getline(line) =~# '^\s*api\k\@!'
+endfunction
+
 " A line without the comment at its end.
 function s:Code(line)
   let text = getline(a:line)
@@ -63,7 +72,7 @@ function FortressIndent()
   endif
   let code = s:Code(above)
   let indent = indent(above)
-  if code =~# s:opens || code =~# s:heads || code =~# '=>\?\s*$'
+  if code =~# s:opens || code =~# s:heads && !s:IsApi() || code =~# '=>\?\s*$'
     let indent += shiftwidth()
   elseif s:Code(s:Above(s:Begin(above))) =~# '=>\?\s*$'
     let indent -= shiftwidth()

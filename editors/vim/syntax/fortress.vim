@@ -37,13 +37,12 @@ syn region fssComment start=/(\*/ end=/\*)/ contains=fssComment,@Spell
 syn match fssLineComment /(\*).*$/ contains=@Spell
 
 syn match fssTypeName /\K\k*/ contained
-syn keyword fssDeclaration component trait object nextgroup=fssTypeName skipwhite
-syn keyword fssDeclaration export extends excludes comprises opr var fn array
+syn keyword fssDeclaration component api trait object nextgroup=fssTypeName skipwhite
+syn keyword fssDeclaration import export extends excludes comprises opr var fn array
 syn keyword fssControl do also if then elif else while for seq case typecase of
 syn keyword fssControl try catch finally throw spawn end
 syn keyword fssAtomic atomic tryatomic
 syn keyword fssReduction BIG SUM PROD
-syn keyword fssUnused import api
 syn keyword fssConstant true false
 syn keyword fssSelf self
 syn keyword fssOperator TIMES DOT DIV REM MOD MAX MIN GCD LCM
@@ -75,7 +74,6 @@ hi def link fssTypeName Type
 hi def link fssDeclaration Structure
 hi def link fssControl Statement
 hi def link fssAtomic PreProc
-hi def link fssUnused Error
 hi def link fssConstant Boolean
 hi def link fssSelf Special
 hi def link fssType Type

@@ -19,6 +19,9 @@ returns c =
     let five =
     added _ _ _ _ _ c.in_ok-subcommand-5.ensures four c.in_ok-record.ensures.local
     c.in_ok-record.ensures.app in
-    IfOk-weaker c.subcommand-6.result _ _
-    (λ r h. added _ _ _ _ _ h five c.in_ok-audit.ensures.local c.in_ok-audit.ensures.app)
-    c.subcommand-6.ensures
+    let six =
+    added _ _ _ _ _ c.in_ok-subcommand-6.ensures five c.in_ok-audit.ensures.local
+    c.in_ok-audit.ensures.app in
+    IfOk-weaker c.subcommand-7.result _ _
+    (λ r h. added _ _ _ _ _ h six c.in_ok-link.ensures.local c.in_ok-link.ensures.app)
+    c.subcommand-7.ensures

@@ -5,7 +5,8 @@ use Rattle.fort_run.proofs.audit.audit_tokens.Goals as goal
 
 pub audit_program-requires : goal.audit_program-requires
 audit_program-requires g c =
-    c.accepted_is_written.ensures.tokens c.args.tokens.now c.in-Ok.program c.requires c.in-Ok.ensures
+    c.accepted_is_written.ensures.tokens c.args.tokens.now c.in-Ok.program c.requires
+    c.in-Ok.ensures
 
 pub returns-in-Ok-clause-means : goal.returns-in-Ok-clause-means
 returns-in-Ok-clause-means g c =

@@ -4,7 +4,9 @@ use Rattle.fort_run.proofs.Meaning.{read_means}
 use Rattle.fort_run.proofs.reply.judged.Goals as goal
 
 pub say-requires-clause-one : goal.say-requires-clause-one
-say-requires-clause-one g c κs within = of_one_file c.args.command c.in_default.not-Audit
+say-requires-clause-one g c κs within = of_one_file
+    (g.F.Shelf.holding c.args.shelf.now) c.args.command c.args.text.now c.requires.is_text
+    c.in_default.not-Audit
 
 pub returns-in-Audit-clause-means : goal.returns-in-Audit-clause-means
 returns-in-Audit-clause-means g c =

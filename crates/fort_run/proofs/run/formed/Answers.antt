@@ -15,7 +15,8 @@ pub run_program-requires-clause-one : goal.run_program-requires-clause-one
 run_program-requires-clause-one g c κs within = c.requires.one c.in-Ok.program c.in-Ok.ensures
 
 pub run_program-requires-clause-through : goal.run_program-requires-clause-through
-run_program-requires-clause-through g c κs within = c.requires.through c.in-Ok.program c.in-Ok.ensures
+run_program-requires-clause-through g c κs within =
+    c.requires.through c.in-Ok.program c.in-Ok.ensures
 
 pub returns-in-Ok : goal.returns-in-Ok
 returns-in-Ok g c =

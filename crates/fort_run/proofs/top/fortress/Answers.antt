@@ -9,6 +9,10 @@ returns-in-Ok-clause-answers g c =
       apart = c.never_both.ensures.tokens;
       grammar = c.never_both_in_grammar.ensures;
       one = c.one_program.ensures.tokens;
+      whole_apart = c.never_both.ensures.component;
+      one_of_whole = c.one_program.ensures.component;
+      linked_apart = c.one_whole.ensures.apart;
+      one_whole = c.one_whole.ensures.one;
       one_record = c.one_record.ensures;
       one_answer = c.one_answer.ensures;
     } in
