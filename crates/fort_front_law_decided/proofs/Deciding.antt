@@ -4,9 +4,10 @@ use Rattle.std.specs.List.{slice_get, slice_set}
 use Rattle.std.proofs.lemmas.Option.{slice_get_within}
 use Rattle.fort_base.specs.declared.ids.TypeId.{TypeId}
 use Rattle.fort_base.specs.declared.table.TypeTable.{TypeTable}
-use Rattle.fort_base.specs.declared.ty.Ty.{Ty, out-Ty}
+use Rattle.fort_base.specs.declared.ty.Ty.{Ty, out-Ty, out-roll-Ty}
 use Rattle.fort_base.specs.declared.ty.Ty.TheOpen.{Ty-F}
 use Rattle.fort_base.specs.declared.ty.Ty.TheVariants as a_type
+use Rattle.fort_base.specs.declared.ty.Ty.TheVariants.{rolls-Named}
 use Rattle.fort_types.specs.Hierarchy.{DeclaredTypes, Sound}
 use Rattle.fort_types.specs.Laws.{RelationIsBelow}
 use Rattle.fort_types.specs.Relation.{relation}
@@ -61,6 +62,9 @@ some_or P [] d = inr (none_of P)
 some_or P (x ∷ xs) d = some_step P x xs (d 0 x refl) (some_or P xs (λ k. d (suc k)))
 
 -- ---- types
+
+out_named : (o : TypeId) → out-Ty (a_type.Named o) ≡ Ty-F.Named o
+out_named o = ap out-Ty (sym (rolls-Named o)) ∙ out-roll-Ty (Ty-F.Named o)
 
 -- The types of a list are numbered.
 abbrev pub AreNumbered : ℕ → List Ty → Type 0
@@ -182,8 +186,7 @@ module _ (asked : RelationIsBelow) (h : DeclaredTypes) (table : TypeTable) (soun
     put_numbered [] at o n l k x e = absurd cc
     put_numbered (y ∷ types) zero o n l zero x e =
         let q : a_type.Named o ≡ x = cc in
-        let named : out-Ty (a_type.Named o) ≡ Ty-F.Named o = refl in
-        subst (IsNumbered (length h)) q (name named l)
+        subst (IsNumbered (length h)) q (name (out_named o) l)
     put_numbered (y ∷ types) zero o n l (suc k) x e = n (suc k) x e
     put_numbered (y ∷ types) (suc at) o n l zero x e = n 0 x e
     put_numbered (y ∷ types) (suc at) o n l (suc k) x e =

@@ -235,8 +235,8 @@ module _ (asked : RelationIsBelow) (h : DeclaredTypes) (table : TypeTable) (soun
       where
         each_set : (n : ℕ) → n < length m.sets
             → CantFail ((s : MemberSet) → slice_get m.sets n ≡ Some s → KeepsRules h s)
-        each_set n l no = let x = item_at m.sets n l in
-            keeps n x.0 x.1 (λ w. no (λ s e. let q : x.0 ≡ s = one_set n x.0 s x.1 e
+        each_set n l never = let x = item_at m.sets n l in
+            keeps n x.0 x.1 (λ w. never (λ s e. let q : x.0 ≡ s = one_set n x.0 s x.1 e
             in subst (KeepsRules h) q w))
           where
             one_set : (n : ℕ) (x s : MemberSet) → slice_get m.sets n ≡ Some x
