@@ -21,7 +21,7 @@ use Rattle.fort_front_law_decided.proofs.Gathered.{can_have_all}
 pub members_or_report : AcceptedIsSound → FieldsDecide
 members_or_report sound c h is none unbroken =
     let kept = none_reported (Broken c)
-    (λ rule p e l. unbroken (record { 0 = rule }, p, record { earliest = e; lowest = l; })) in
+    (λ rule p e l. unbroken (record { 0 = rule }, p, record { earliest = e; lowest = l })) in
     let fall = heights_fall (declares c) h.table is.rows (sound c (type_names c) h is) in
     can_have_all (declares c) (own_fields c) (map count_of h.table.below) fall (own_long c) (λ r.
     none (

@@ -73,15 +73,21 @@ module _ (h : DeclaredTypes) (own : List (List Field)) (heights : List ℕ)
   level height (suc i) all l t none =
       level height i all (omega arith) t (λ r. let d = item_at h i (omega arith) in
       one_type height i r.0 d.0 d.1 r.1 (λ s.
-      none (s.0, subst (λ z. HasTo h own heights height z s.0) (let e : i + 1 ≡ suc i = omega arith
-      in e) s.1)))
+      none (
+        s.0,
+        subst (λ z. HasTo h own heights height z s.0) (let e : i + 1 ≡ suc i = omega arith
+            in e) s.1,
+      )))
 
   levels : (height : ℕ) → CantFail (Known height 0)
   levels zero none = none (own, begins h own heights long)
   levels (suc height) none =
       levels height (λ r. level height (length h) r.0 (omega arith) r.1 (λ s.
-      none (s.0, subst (λ z. HasTo h own heights z 0 s.0) (let e : height + 1 ≡ suc height =
-      omega arith in e) (next_height h own heights height (length h) s.0 (omega arith) s.1))))
+      none (
+        s.0,
+        subst (λ z. HasTo h own heights z 0 s.0) (let e : height + 1 ≡ suc height =
+            omega arith in e) (next_height h own heights height (length h) s.0 (omega arith) s.1),
+      )))
 
   -- The lists of all types.
   pub can_have_all : CantFail ((all : List (List Field)) × HasAll h own all)

@@ -68,15 +68,18 @@ from_front front (t ∷ rest) s =
           subst (λ z. AllShallow z ⊎ HasDeep z) (append_assoc front (t ∷ []) rest)
           (from_front (front ++ t ∷ []) rest (shallow_more front t s low))
       | inr deep ↦
-          inr (t.place, record {
-            front = front;
-            token = t;
-            rest = rest;
-            whole = refl;
-            deep = deep;
-            before = s;
-            place = refl;
-          })
+          inr (
+            t.place,
+            record {
+              front = front;
+              token = t;
+              rest = rest;
+              whole = refl;
+              deep = deep;
+              before = s;
+              place = refl;
+            },
+          )
     ]
 
 none_shallow : AllShallow []
@@ -98,9 +101,9 @@ none_or_last (t ∷ ts) = inr (last_behind t ts (none_or_last ts))
 fault_of : (tokens : Tokens) → (tokens.list ≡ []) ⊎ HasLast tokens.list
     → (at : Place) × IsFault tokens at
 fault_of tokens (inl e) =
-    (record { line = 1; column = 1 }, inr (inr (record { none = e; place = refl; })))
+    (record { line = 1; column = 1 }, inr (inr (record { none = e; place = refl })))
 fault_of tokens (inr l) =
-    (l.1.place, inr (inl (record { front = l.0; token = l.1; whole = l.2; place = refl; })))
+    (l.1.place, inr (inl (record { front = l.0; token = l.1; whole = l.2; place = refl })))
 
 -- ---- the grammar
 

@@ -19,26 +19,34 @@ module _ (each : EachAnswered) (never : NeverBoth) where
   -- the first one breaks a rule
   first_breaks : (row : Row) (rows : List Row)
       → ((rule : Rule) × (place : Place) × Breaks row rule place) → BreaksOne (row ∷ rows)
-  first_breaks row rows b = (b.0, b.1, record {
-    earlier = [];
-    it = row;
-    later = rows;
-    order = refl;
-    kept = tt;
-    breaks = b.2;
-  })
+  first_breaks row rows b = (
+    b.0,
+    b.1,
+    record {
+      earlier = [];
+      it = row;
+      later = rows;
+      order = refl;
+      kept = tt;
+      breaks = b.2;
+    },
+  )
 
   -- a later one does
   later_breaks : (row : Row) (rows : List Row) → ((g : Grouped) × IsGrouped row g)
       → BreaksOne rows → BreaksOne (row ∷ rows)
-  later_breaks row rows g b = (b.0, b.1, record {
-    earlier = row ∷ b.2.earlier;
-    it = b.2.it;
-    later = b.2.later;
-    order = ap (λ z. row ∷ z) b.2.order;
-    kept = (λ rule place x. never row g.0 rule place g.1 x, b.2.kept);
-    breaks = b.2.breaks;
-  })
+  later_breaks row rows g b = (
+    b.0,
+    b.1,
+    record {
+      earlier = row ∷ b.2.earlier;
+      it = b.2.it;
+      later = b.2.later;
+      order = ap (λ z. row ∷ z) b.2.order;
+      kept = (λ rule place x. never row g.0 rule place g.1 x, b.2.kept);
+      breaks = b.2.breaks;
+    },
+  )
 
   behind : (row : Row) (rows : List Row) → ((g : Grouped) × IsGrouped row g)
       → HasOne rows ⊎ BreaksOne rows → HasOne (row ∷ rows) ⊎ BreaksOne (row ∷ rows)

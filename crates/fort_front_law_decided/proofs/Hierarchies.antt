@@ -25,9 +25,9 @@ hierarchy_or_report c few none unbroken =
             (λ rule p e l. unbroken (
               record { 0 = rule },
               p,
-              record { earliest = e; lowest = l; },
+              record { earliest = e; lowest = l },
             ));
-        rows = record { below = below.1; apart = apart.1; };
+        rows = record { below = below.1; apart = apart.1 };
         names = refl;
         bodies = refl;
         few = few;

@@ -46,7 +46,7 @@ by_before P step p = lines p.line p.column
 pub none_earliest : (Breaks : Place → Type 0) → ((p : Place) → IsEarliest Breaks p → ⊥)
     → (p : Place) → Breaks p → ⊥
 none_earliest Breaks none = by_before (λ p. Breaks p → ⊥)
-    (λ p before b. none p (record { breaks = b; none_before = λ q x l. before q l x; }))
+    (λ p before b. none p (record { breaks = b; none_before = λ q x l. before q l x }))
 
 -- Where none is the rule of the lowest number that is broken, at its earliest place, none is broken.
 pub none_reported : (Broken : ℕ → Place → Type 0)

@@ -151,15 +151,23 @@ module _ (asked : RelationIsBelow) (h : DeclaredTypes) (table : TypeTable) (soun
 
     no_break : (a : Spot) → HasBreak a → ⊥
     no_break = by_standing (λ a. HasBreak a → ⊥) (λ a before b.
-        unbroken (record { 0 = b.3 }, a.later_place, inl (a, refl, record {
-          s = b.0;
-          p = b.1;
-          q = b.2;
-          asked = b.4;
-          breaks = b.5;
-          none_before = λ other t x y number pair w l.
-              before other l (t, x, y, number, pair, w);
-        })))
+        unbroken (
+          record { 0 = b.3 },
+          a.later_place,
+          inl (
+            a,
+            refl,
+            record {
+              s = b.0;
+              p = b.1;
+              q = b.2;
+              asked = b.4;
+              breaks = b.5;
+              none_before = λ other t x y number pair w l.
+                  before other l (t, x, y, number, pair, w);
+            },
+          ),
+        ))
 
     none_broken : NoneBroken h (pairs_of m.sets)
     none_broken a s p q rule pair w = no_break a (s, p, q, rule, pair, w)
@@ -172,13 +180,16 @@ module _ (asked : RelationIsBelow) (h : DeclaredTypes) (table : TypeTable) (soun
     kept_at : (n i j : ℕ) (s : MemberSet) (p q : Member) → slice_get m.sets n ≡ Some s
         → StandsAt s i p → StandsAt s j q → i < j → (rule : ℕ) → Breaks h s p q rule → ⊥
     kept_at n i j s p q e st su l rule =
-        none_broken (spot_at (standing q.place) (standing p.place) n j i) s p q rule (e, record {
-          earlier = st;
-          later = su;
-          in_order = l;
-          earlier_place = refl;
-          later_place = refl;
-        })
+        none_broken (spot_at (standing q.place) (standing p.place) n j i) s p q rule (
+          e,
+          record {
+            earlier = st;
+            later = su;
+            in_order = l;
+            earlier_place = refl;
+            later_place = refl;
+          },
+        )
 
     abbrev PassAt : MemberSet → ℕ → ℕ → Type 0
     PassAt s i j = (p q : Member) → StandsAt s i p → StandsAt s j q → i < j → Passes h s p q

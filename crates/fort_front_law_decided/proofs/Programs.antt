@@ -187,8 +187,7 @@ translated_each stand c h m groups k typed are types =
     let terms = bodies (given m c.texts typed) 0 typed.bodies in
     let decls = taken (flat_map (declarations_of_set terms) m.sets)
     (all_there c m groups k typed are types stand) in
-    let list = shapes c.texts typed.initials m in
-    (
+    let list = shapes c.texts typed.initials m in (
       record {
         types = h.table;
         built_in = BUILT_IN;

@@ -42,7 +42,7 @@ tree_or_break grouping hierarchy fields overloads typed_or translated c few none
     typed_as f (has_typing typed types) =
         let groups : Groups = record { list = f.groups } in
         let p = translated c f.types f.members groups (known c f) typed f.belong types in
-        none (p.0, record { formed = f; typed = typed; has_types = types; becomes = p.1; })
+        none (p.0, record { formed = f; typed = typed; has_types = types; becomes = p.1 })
     typed_as f (has_report x is) = unbroken (x.rule, x.place, in_typing f is)
 
     by_typing : IsFormed c → ⊥
@@ -52,14 +52,14 @@ tree_or_break grouping hierarchy fields overloads typed_or translated c few none
 pub component_or_break : EachIsRewritten → TreeIsOneOfTwo → ComponentIsOneOfTwo
 component_or_break rewritten tree c kept none unbroken = let d = rewritten c in
     tree d.0 (few_rewritten c d.0 kept d.1)
-    (λ p. none (p.0, record { rewritten = d.0; becomes = d.1; keeps = p.1; }))
-    (λ b. unbroken (b.0, b.1, record { rewritten = d.0; becomes = d.1; breaks = b.2; }))
+    (λ p. none (p.0, record { rewritten = d.0; becomes = d.1; keeps = p.1 }))
+    (λ b. unbroken (b.0, b.1, record { rewritten = d.0; becomes = d.1; breaks = b.2 }))
 
 pub tokens_or_break : GrammarDecides → ComponentIsOneOfTwo → TokensAreOneOfTwo
 tokens_or_break grammar component tokens none unbroken =
     grammar tokens
     (λ g. component g.component g.is.small
-    (λ p. none (p.0, record { component = g.component; is = g.is; keeps = p.1; }))
+    (λ p. none (p.0, record { component = g.component; is = g.is; keeps = p.1 }))
     (λ b. unbroken (b.0, b.1, in_component g.component g.is b.2)))
     (λ b. unbroken (b.0, b.1, in_grammar b.2))
 
@@ -69,5 +69,5 @@ file_or_break all file none unbroken = by (list_or_rule file)
     by : ((ts : Tokens) × HasTokens file ts)
         ⊎ ((r : Rule) × (place : Place) × BreaksRule file r place) → ⊥
     by (inr b) = unbroken (b.0, b.1, in_text b.2)
-    by (inl t) = all t.0 (λ p. none (p.0, record { tokens = t.0; has = t.1; accepted = p.1; }))
+    by (inl t) = all t.0 (λ p. none (p.0, record { tokens = t.0; has = t.1; accepted = p.1 }))
         (λ b. unbroken (b.0, b.1, behind t.0 t.1 b.2))
