@@ -1,10 +1,8 @@
 -- A component that passes no limit has few types, its prelude's among them.
-use Rattle.std.proofs.Common.{◌≡◌, ◌≤◌, ◌+◌, ◌^◌, ℕ, zero, suc, Bool, true, false, cond, List, [], ◌∷◌, ◌++◌, length, map, take, drop, codes, refl, sym, ap, ◌∙◌, subst, arith}
+use Rattle.std.proofs.Common.{◌≡◌, ◌≤◌, ◌+◌, ◌^◌, ℕ, zero, suc, Bool, true, false, List, [], ◌∷◌, ◌++◌, length, map, take, drop, codes, refl, ap, arith}
 use Rattle.std.specs.List.{flat_map}
 use Rattle.std.proofs.Math.ListN.{length-append}
-use Rattle.fort_base.specs.declared.refusal.Place.{Place}
 use Rattle.fort_base.specs.declared.ids.NameId.{NameId}
-use Rattle.fort_lex_token.specs.declared.token.Token.{Token}
 use Rattle.fort_tree.specs.declared.declarations.Component.{Component}
 use Rattle.fort_tree.specs.declared.declarations.Declaration.{Declaration}
 use Rattle.fort_tree.specs.declared.declarations.Declaration.TheVariants as declaration
@@ -21,10 +19,10 @@ use Rattle.fort_hier.proofs.NamesWalk.{as_long}
 use Rattle.fort_hier.specs.Heads.{head_place}
 use Rattle.fort_member_fields.proofs.ComponentLaws.{fewer_places, first_place}
 use Rattle.fort_spawn_prelude.specs.Numbers.{Spelling}
-use Rattle.fort_spawn_prelude.specs.Prelude.{tokens_from, id_in, prelude_tokens, IsPrelude}
+use Rattle.fort_spawn_prelude.specs.Prelude.{tokens_from, id_in, IsPrelude}
 use Rattle.fort_spawn_prelude.specs.Table.{Entry, always, starting, table}
 use Rattle.fort_spawn.specs.Starts.{starts}
-use Rattle.fort_spawn.specs.Rewritten.{declaration_as, declared_as, renamed, renamed_over, names_with, with_prelude, IsRewritten, AsItIs, WithPrelude}
+use Rattle.fort_spawn.specs.Rewritten.{declaration_as, declared_as, renamed, renamed_over, names_with, IsRewritten, AsItIs, WithPrelude}
 use Rattle.fort_front_law_decided.specs.Phases.{HasFewTypes}
 
 -- ---- how many types declarations declare

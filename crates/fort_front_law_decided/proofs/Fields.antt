@@ -1,5 +1,5 @@
 -- No component that has a hierarchy neither has members, nor breaks a rule on fields.
-use Rattle.std.proofs.Common.{◌≡◌, ℕ, map, refl}
+use Rattle.std.proofs.Common.{map, refl}
 use Rattle.fort_base.specs.declared.rules.TheConstants.{DUPLICATE_MEMBER}
 use Rattle.fort_tree_type_names.specs.TypeNames.{type_names}
 use Rattle.fort_hier.specs.Hierarchies.{declares, places_of}

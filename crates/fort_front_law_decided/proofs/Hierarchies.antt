@@ -1,5 +1,5 @@
 -- No component neither has a hierarchy, nor breaks a rule on types.
-use Rattle.std.proofs.Common.{ℕ, ◌≡◌, ◌++◌, None, length, map, refl}
+use Rattle.std.proofs.Common.{◌++◌, None, length, map, refl}
 use Rattle.std.specs.Prelude.{replicate}
 use Rattle.fort_types.specs.Hierarchy.{Path, DeclaredApart}
 use Rattle.fort_tree_type_names.specs.TypeNames.{type_names}

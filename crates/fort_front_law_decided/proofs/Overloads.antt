@@ -1,14 +1,12 @@
 -- No component that has members neither keeps the overload rules, nor breaks one of them.
-use Rattle.std.proofs.Common.{◌≡◌, ◌<◌, ◌≤◌, ◌⊎◌, inl, inr, ℕ, List, length, Some, refl, sym, subst, arith}
+use Rattle.std.proofs.Common.{◌≡◌, ◌<◌, ◌≤◌, ◌⊎◌, inl, inr, ℕ, length, Some, refl, sym, subst, arith}
 use Rattle.std.specs.List.{slice_get}
 use Rattle.std.specs.Prelude.{get_or, None}
 use Rattle.std.proofs.lemmas.Option.{slice_get_within}
-use Rattle.fort_base.specs.declared.ids.TypeId.{TypeId}
 use Rattle.fort_base.specs.declared.refusal.Place.{Place}
 use Rattle.fort_base.specs.declared.refusal.Rule.{Rule}
 use Rattle.fort_base.specs.declared.rules.TheConstants.{ABSTRACT_NOT_COVERED, SAME_PARAMETERS, RESULT_NOT_BELOW, NO_MEET, MEET_NOT_DECLARED, ARROW_OVERLAP, TOO_WIDE}
 use Rattle.fort_base.specs.declared.table.TypeTable.{TypeTable}
-use Rattle.fort_base.specs.declared.ty.Ty.{Ty}
 use Rattle.fort_tree_type_names.specs.TypeNames.{type_names}
 use Rattle.fort_types.specs.Hierarchy.{DeclaredTypes, Sound}
 use Rattle.fort_types.specs.Laws.{RelationIsBelow}
@@ -20,7 +18,7 @@ use Rattle.fort_types_sets.specs.declared.member.MemberSet.{MemberSet}
 use Rattle.fort_types_sets.specs.declared.member.Members.{Members}
 use Rattle.fort_types_sets.specs.Applicable.{Somewhere, IsMoreSpecific}
 use Rattle.fort_types_sets.specs.Coverage.{IsCovered}
-use Rattle.fort_types_sets.specs.Meets.{ArrowsClash, HasNone, AreTooMany, IsChoice}
+use Rattle.fort_types_sets.specs.Meets.{ArrowsClash, HasNone, AreTooMany}
 use Rattle.fort_types_sets.specs.Pairs as broken
 use Rattle.fort_types_sets.specs.Pairs.{NeverMeet, AreUnordered, AreCovered, ChoicesCovered, Passes, aside, ordered, reversed, met, Breaks}
 use Rattle.fort_types_sets.specs.Rules.{StandsAt, IsWellMade, KeepsRules}
@@ -31,7 +29,7 @@ use Rattle.fort_front_law_decided.specs.Phases.{OverloadsDecide}
 use Rattle.fort_front_law_decided.proofs.Order.{by_lower, by_before, none_earliest}
 use Rattle.fort_front_law_decided.proofs.Claims.{CantFail, all_below}
 use Rattle.fort_front_law_decided.proofs.Items.{item_at}
-use Rattle.fort_front_law_decided.proofs.Deciding.{specific_or, result_or, covered_or, choice_numbered, object_or}
+use Rattle.fort_front_law_decided.proofs.Deciding.{result_or, covered_or, choice_numbered, object_or}
 
 -- ---- where pairs stand
 

@@ -1,11 +1,10 @@
 -- Each file, token list and component is accepted or breaks a rule.
-use Rattle.std.proofs.Common.{◌≡◌, ◌⊎◌, inl, inr, ℕ, List}
+use Rattle.std.proofs.Common.{◌⊎◌, inl, inr}
 use Rattle.fort_base.specs.declared.refusal.Place.{Place}
 use Rattle.fort_base.specs.declared.refusal.Rule.{Rule}
 use Rattle.fort_lex_token.specs.declared.token.Tokens.{Tokens}
 use Rattle.fort_lex.specs.Files.{HasTokens, BreaksRule}
 use Rattle.fort_lex.proofs.Exists.{list_or_rule}
-use Rattle.fort_tree.specs.declared.declarations.Component.{Component}
 use Rattle.fort_tree.specs.declared.grouped.Groups.{Groups}
 use Rattle.fort_tree.specs.Limits.{flats}
 use Rattle.fort_typing_law_exact.specs.Exact.{IsOneOfTwo, has_typing, has_report}

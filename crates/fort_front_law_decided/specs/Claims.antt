@@ -1,5 +1,4 @@
 -- The words in which the laws of this crate say that one of two things is so.
-use Rattle.std.specs.Prelude.{ℕ}
 
 -- It isn't so that neither of two claims holds. Where each claim holds or doesn't, this is that one
 -- of the two holds; the toolchain lets no crate take that for granted of every claim, and the law
