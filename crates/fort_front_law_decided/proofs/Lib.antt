@@ -1,0 +1,15 @@
+pub mod Items
+pub mod Order
+pub mod Claims
+pub mod Hierarchies
+pub mod Groupings
+pub mod Spawned
+pub mod Grammars
+pub mod Gathered
+pub mod Fields
+pub mod Deciding
+pub mod Overloads
+pub mod Placed
+pub mod Programs
+pub mod Few
+pub mod Whole
