@@ -25,7 +25,8 @@ by_rest p fuel front [] t d r b c =
       effect = d;
       is_run = record {
         runs =
-            subst (λ x. Runs p false true (opening_store p) x p.first (goes t) d) (append_nil front) r;
+            subst (λ x. Runs p false true (opening_store p) x p.first (goes t) d)
+            (append_nil front) r;
         bounded = b;
       };
       within_fuel = c;

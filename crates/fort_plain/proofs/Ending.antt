@@ -1,5 +1,5 @@
 -- The end of a replay.
-use Rattle.std.proofs.Common.{◌≡◌, ℕ, ◌+◌, ◌<◌, ◌≤◌, Bool, true, false, List, [], ◌∷◌, ◌++◌, length, take, refl, ap, sym, ◌∙◌, subst, arith, inl, inr}
+use Rattle.std.proofs.Common.{◌≡◌, ℕ, ◌+◌, ◌<◌, ◌≤◌, Bool, true, false, List, [], ◌∷◌, ◌++◌, Option, length, take, refl, ap, sym, ◌∙◌, subst, arith, inl, inr}
 use Rattle.std.proofs.Math.Seq.{take-length}
 use Rattle.fort_core.specs.declared.journal.Ending.{Ending}
 use Rattle.fort_core.specs.declared.journal.Ending.TheVariants as ending
@@ -30,7 +30,7 @@ use Rattle.fort_walk_course.specs.Courses.{IsGoing, inwards}
 use Rattle.fort_plain.specs.Legal.{AreLegal, a_run, begun_last, NoRun}
 use Rattle.fort_plain.specs.Paths.{IsSettled, whole}
 use Rattle.fort_plain.specs.Replays.{RunsWithin, BreaksAt, EndsAt, EndsSo, IsNoPick, Replays}
-use Rattle.fort_plain.specs.Within.{EndsWith, NeverRuns}
+use Rattle.fort_plain.specs.Within.{EndsWith, NeverRuns, TakesPick}
 use Rattle.fort_plain.specs.declared.journal.Replayed.{Replayed}
 use Rattle.fort_plain.specs.declared.journal.Replayed.TheVariants as replayed
 use Rattle.fort_plain.specs.declared.settled.Settled.{Settled}
@@ -223,9 +223,9 @@ next_of p s t pick d (begun_last before last u d1 d2 o q k g w) =
     (x : Effect). Begun p true (afterwards x s) last u d2) n.1 g))))
 
 -- a journal that ends so
-pub ends_out : (p : Program) (g : Going) (fuel : ℕ) (pick : Pick) (c : Course) (cost : ℕ)
-    → IsGoing p g → g.course.outer ≡ [] → EndsWith p g.course.picks pick c cost → fuel < cost
-    → g.course.fuel ≡ fuel
+pub ends_out : (p : Program) (g : Going) (fuel : ℕ) (pick : Pick) (c : Course) (cost : Option ℕ)
+    → IsGoing p g → g.course.outer ≡ [] → (h : EndsWith p g.course.picks pick c cost)
+    → fuel < h.effect.cost → g.course.fuel ≡ fuel
     → HasRun p fuel g.course.picks (ending.OutOfFuel pick) (levels_of c.layers).output
     (levels_of c.layers).cost
 ends_out p g fuel pick c cost k o h over f =
@@ -246,7 +246,6 @@ ends_out p g fuel pick c cost k o h over f =
     let all : h.effect.cost ≡ h.root.cost + i.second.cost =
     ap (λ (x : Effect). x.cost) i.is_both ∙ ap (λ (x : Effect). x.cost + i.second.cost) same.1
     in
-    let price = h.is_cost in
     let roots : h.root.cost ≡ r.root.cost = ap (λ (x : Effect). x.cost) own.1 in
     let covers = r.cost in
     record {
@@ -263,7 +262,7 @@ ends_out p g fuel pick c cost k o h over f =
           is_next = next_of p (afterwards h.root s) h.term pick i.second behind;
           bounded =
               second_bounded i.first i.second (subst MakesWithinBounds i.is_both h.bounded);
-          passes = omega (arith, over, price, all);
+          passes = omega (arith, over, all);
         };
       };
       is_output = h.output;
@@ -315,8 +314,9 @@ raised p g h more k up e =
     })
 
 -- one whose pick costs no more than what is left
-pub covered_out : (p : Program) (g : Going) (fuel : ℕ) (pick : Pick) (c : Course) (cost : ℕ)
-    → EndsWith p g.course.picks pick c cost → cost ≤ fuel
+pub covered_out : (p : Program) (g : Going) (fuel : ℕ) (pick : Pick) (c : Course)
+    (cost : Option ℕ) → (h : EndsWith p g.course.picks pick c cost)
+    → (fuel < h.effect.cost → ⊥)
     → IsJournal p (record { fuel = fuel; picks = g.course.picks; ending = ending.OutOfFuel pick })
     → ⊥
 covered_out p g fuel pick c cost h low j =
@@ -338,5 +338,9 @@ covered_out p g fuel pick c cost h low j =
     let all : h.effect.cost ≡ i.first.cost + i.second.cost = ap (λ (z : Effect). z.cost) i.is_both
     in
     let first : i.first.cost ≡ j.1.0.cost = ap (λ (z : Effect). z.cost) same.1 in
-    let sum = h.is_cost in
-    let over = y.passes in omega (arith, price, all, first, sum, over, low)
+    let over = y.passes in low (omega (arith, price, all, first, over))
+
+-- an attempt that may be left unfinished is the last of all
+pub ajar_out : (p : Program) (fuel : ℕ) (picks : List Pick) (g : Going)
+    → TakesPick p fuel true picks g → ⊥
+ajar_out p fuel picks g h = let z : true ≡ false = h.shut in absurd cc

@@ -5,22 +5,17 @@ use Rattle.fort_base.specs.declared.refusal.Memory.{Memory}
 use Rattle.fort_core.specs.declared.path.Path.{Path}
 use Rattle.fort_core.specs.declared.term.Term.{Term}
 use Rattle.fort_core.specs.declared.value.Value.{Value}
-use Rattle.fort_machine.specs.Ends.{Finished, open_yet, standing, standing_at, throw_of}
 use Rattle.fort_machine.specs.Ends as ends
 use Rattle.fort_machine.specs.Attempts.{Ready}
-use Rattle.fort_frames.specs.Frames.{frames, outward, rebuilt, Reaches}
+use Rattle.fort_frames.specs.Frames.{frames, rebuilt, Reaches}
 use Rattle.fort_frames.specs.States.{Stands, term_at}
 use Rattle.fort_frames.specs.declared.place.Place.{Place}
 use Rattle.fort_frames.specs.declared.state.At.{At}
 use Rattle.fort_frames.specs.declared.state.At.TheVariants as at
 use Rattle.fort_frames.specs.declared.state.State.{State}
-use Rattle.fort_frames_moves.specs.Turns.{IsAt, IsGathered, IsOdd, IsStep, IsTry, ready_term}
+use Rattle.fort_frames_moves.specs.Turns.{IsAt, IsGathered, IsStep, IsTry, ready_term}
 use Rattle.fort_frames_moves.specs.declared.turn.Ready as code
-use Rattle.fort_machine.proofs.Standing.{not_finished}
-use Rattle.fort_machine.proofs.Places.{plug_open, ready_open}
 use Rattle.fort_machine.proofs.Ready.{form_ready}
-use Rattle.fort_frames.proofs.Same.{same_term}
-use Rattle.fort_core.specs.declared.term.Term.TheVariants.{outs-Stepped}
 use Rattle.fort_plain.specs.Paths.{NoThread, IsFound, IsSought}
 use Rattle.fort_plain.specs.declared.find.Seek.{Seek}
 use Rattle.fort_plain.specs.declared.find.Found.{Found}
@@ -35,6 +30,10 @@ throw_none a v path e = finished_none (term_at a) path (ends.Finished.throw v (a
 pub left_again : (a : At) (t : Term) (clock : ℕ) (s : State) → a ≡ at.Left t
     → ((c : ℕ) → Stands c t s) → Stands clock (term_at a) s
 left_again a t clock s e h = subst (λ x. Stands clock x s) (sym (ap term_at e)) (h clock)
+
+pub form_again : (a : At) (t : Term) (clock : ℕ) (s : State) → a ≡ at.Form t
+    → ((c : ℕ) → Stands c t s) → Stands clock (term_at a) s
+form_again a t clock s e h = subst (λ x. Stands clock x s) (sym (ap term_at e)) (h clock)
 
 pub sought_on : (clock : ℕ) (t : Term) (place : Place) (a form : Term) (path : Path) (s : Seek)
     → IsAt clock t place a → form ≡ a
@@ -52,31 +51,6 @@ ready_on a form r e = subst Ready (sym e) r
 pub found_on : (clock : ℕ) (t u : Term) (path : Path) (f : Found) → u ≡ t → IsFound clock u path f
     → IsFound clock t path f
 found_on clock t u path f e k = subst (λ x. IsFound clock x path f) e k
-
--- a term in which something waits isn't finished
-unfinished_at : (clock : ℕ) (t u a : Term) (place : Place) → IsAt clock t place a
-    → standing a ≡ open_yet → t ≡ u → Finished u → ⊥
-unfinished_at clock t u a place h o e f =
-    not_finished u (ap standing (sym e ∙ sym h.is_term ∙ same_term clock (frames place.stack) a)
-    ∙ plug_open (outward clock (frames place.stack)) a o) f
-
-pub thread_unfinished : (clock : ℕ) (t u : Term) (place : Place) (r : code.Ready)
-    → IsStep clock t place r → t ≡ u → Finished u → ⊥
-thread_unfinished clock t u place r h e f =
-    unfinished_at clock t u (ready_term r) place h.thread.is_at
-    (ready_open (ready_term r) h.thread.ready) e f
-
-pub try_unfinished : (clock : ℕ) (t u a : Term) (place : Place) → IsTry clock t place a → t ≡ u
-    → Finished u → ⊥
-try_unfinished clock t u a place h e f =
-    unfinished_at clock t u a place h.is_at (ready_open a (form_ready a h.mode h.body h.is_form)) e
-    f
-
-pub odd_unfinished : (clock : ℕ) (t u a : Term) (place : Place) → IsOdd clock t place a → t ≡ u
-    → Finished u → ⊥
-odd_unfinished clock t u a place h e f =
-    unfinished_at clock t u a place h.is_at (ap standing h.is_mark
-    ∙ ap standing_at (outs-Stepped h.inner)) e f
 
 -- where a search from a thread comes to, it comes to from the whole term
 pub own_step : (clock : ℕ) (t : Term) (place : Place) (r : code.Ready) → IsStep clock t place r
@@ -148,9 +122,6 @@ pub form_sought : (clock : ℕ) (place : Place) (a form : Term) (path : Path) (x
 form_sought clock place a form path x e k =
     subst (λ u. IfOk x (IsSought clock (rebuilt clock (frames place.stack) u) path)) e k
 
-pub ends_sought : (clock : ℕ) (t : Term) (a : At) (path : Path) (r : Result Seek Memory)
-    → term_at a ≡ t → IfOk r (λ s. (k : ℕ) (p : Path) → IsSought k (term_at a) p s)
-    → IfOk r (IsSought clock t path)
-ends_sought clock t a path r e h = IfOk-weaker r (λ s. (k : ℕ) (p : Path)
-    → IsSought k (term_at a) p s) (IsSought clock t path)
-    (λ s k. subst (λ x. IsSought clock x path s) e (k clock path)) h
+pub ends_sought : (clock : ℕ) (t : Term) (a : At) (path : Path) (s : Seek) → term_at a ≡ t
+    → ((k : ℕ) (p : Path) → IsSought k (term_at a) p s) → IsSought clock t path s
+ends_sought clock t a path s e h = subst (λ x. IsSought clock x path s) e (h clock path)

@@ -40,15 +40,15 @@ begun_out : (p : Program) (b : Base) (now : ℕ) (h : Held) (within : List Pick)
     × Begun p true (afterwards b.done b.store) (Attempt h.place.path within) t (aborting d)
     × Runs p b.inner true b.store h.picks b.first (goes t) b.done
 begun_out p b now h within d w (a_run r k) = (
-  rebuilt w.clock (frames h.place.stack) w.form,
-  attempt_is_begun p h.mode (afterwards b.done b.store) within h.body r d w.clock h.place
+  rebuilt h.clock (frames h.place.stack) w.form,
+  attempt_is_begun p h.mode (afterwards b.done b.store) within h.body r d h.clock h.place
       w.form w.stage.reached w.is_form w.bare w.may k,
   w.stage.runs,
 )
 begun_out p b now h within d w (begun_last before last u d1 d2 o q k g z) =
-    let here = rebuilt w.clock (frames h.place.stack) w.form in
+    let here = rebuilt h.clock (frames h.place.stack) w.form in
     let begun =
-    begun_within p h.mode (afterwards b.done b.store) before last h.body u d1 d2 w.clock h.place
+    begun_within p h.mode (afterwards b.done b.store) before last h.body u d1 d2 h.clock h.place
     w.form w.stage.reached w.is_form w.bare w.may k g in (
       here,
       subst
@@ -120,11 +120,11 @@ all_legal p now root goal (h ∷ hs) (e ∷ es) (s2 ∷ ss) within d cost k m s 
     ∙ ap (λ ps. h.picks ++ Attempt h.place.path within.picks.now ∷ ps)
     (none_is f.behind flags.1) in
     let next = both base.done (aborting d) in
-    let step = spent_step p now root hs es k.2 in
-    all_legal p now root goal hs es ss s2 next cost k.2 m s.1 flags.0
+    let step = spent_step p h.clock root hs es k.2 in
+    all_legal p h.clock root goal hs es ss s2 next cost k.2 m s.1 flags.0
     (subst (λ ps. AreLegal p true base.inner base.store ps base.first next) (sym list)
     (open_level p base now h within.picks.now d k.0 l))
-    (both_bounded base.done (aborting d) (done_bounded p now root hs es k.2 m)
+    (both_bounded base.done (aborting d) (done_bounded p h.clock root hs es k.2 m)
     (closing_bounded closing.Aborted d b)) (omega (arith, c, step))
 
 -- the root's run before the last of its picks
@@ -150,7 +150,7 @@ root_run p now root before pick ajar (h ∷ []) (e ∷ []) [] within k s =
       _,
       subst
           (λ ps. Runs p false true (opening_store p) ps p.first
-          (goes (rebuilt w.clock (frames h.place.stack) w.form)) root)
+          (goes (rebuilt h.clock (frames h.place.stack) w.form)) root)
           (sym (front_is before h.picks pick (Attempt h.place.path within.picks.now) s.are_picks))
           w.stage.runs,
     )
@@ -158,4 +158,4 @@ root_run p now root before pick ajar (h ∷ []) (e ∷ e2 ∷ es) [] within k s 
 root_run p now root before pick ajar (h ∷ h2 ∷ hs) (e ∷ es) [] within k s =
     let z = s.is_root in absurd cc
 root_run p now root before pick ajar (h ∷ hs) (e ∷ es) (s2 ∷ ss) within k s =
-    root_run p now root before pick ajar hs es ss s2 k.2 s.1
+    root_run p h.clock root before pick ajar hs es ss s2 k.2 s.1

@@ -5,6 +5,7 @@ pub mod Sources
 pub mod Lasting
 pub mod Paths
 pub mod Finding
+pub mod Marks
 pub mod Breaks
 pub mod Tries
 pub mod Picked
@@ -12,8 +13,10 @@ pub mod Stepping
 pub mod Attempting
 pub mod Sweeping
 pub mod Watched
+pub mod Settling
 pub mod Outside
 pub mod Here
+pub mod Less
 pub mod Taking
 pub mod Costs
 pub mod Ending

@@ -186,6 +186,14 @@ pub bare_part : (clock : ℕ) (n : Node) (part : Term) → is_trodden clock n �
     → part ≡ plug (mark_if (is_trodden clock n)) part
 bare_part clock n part e = ap (λ b. plug (mark_if b) part) (sym e)
 
+-- inside one frame at least
+pub inside_some : (clock : ℕ) (t : Term) (keep : ℕ) (path : Path) (place : Place) (part : Term)
+    → IsInside clock t keep path place part → frames place.stack ≢ []
+inside_some clock t keep path place part h e =
+    let none : place.path.0 ≡ [] = place.is_path ∙ ap numbers e in
+    let size : length place.path.0 ≡ 0 = ap length none in
+    let deep = h.deeper in omega (arith, size, deep)
+
 -- on from a parallel form
 pub node_inside : (clock : ℕ) (t : Term) (keep : ℕ) (path : Path) (below : Place) (form part : Term)
     → IsBeside clock t keep path below form → part ≡ form → length below.path.0 ≢ keep

@@ -23,7 +23,8 @@ pub record StandsIn (p : Program) (j : Journal) (i : ℕ) (g : Going) : Type 0 w
   pub picks : g.course.picks ≡ take i j.picks
 
 pub goes_here : (p : Program) (j : Journal) (i : ℕ) (pick : Pick) (g h : Going) → StandsIn p j i g
-    → slice_get j.picks i ≡ Some pick → TakesPick p g.course.fuel (g.course.picks ++ pick ∷ []) h
+    → slice_get j.picks i ≡ Some pick
+    → TakesPick p g.course.fuel false (g.course.picks ++ pick ∷ []) h
     → StandsIn p j (i + 1) h
 goes_here p j i pick g h k s t = record {
   going = t.going;

@@ -1,5 +1,5 @@
 -- The picks of the machines that wait, as attempts begin and end.
-use Rattle.std.proofs.Common.{◌≡◌, ◌&&◌, Bool, List, [], ◌∷◌, ◌++◌, refl, ap, sym, ◌∙◌, subst, append_assoc}
+use Rattle.std.proofs.Common.{◌≡◌, ◌&&◌, Bool, false, List, [], ◌∷◌, ◌++◌, refl, ap, sym, ◌∙◌, subst, append_assoc}
 use Rattle.fort_base.specs.declared.ids.Loc.{Loc}
 use Rattle.fort_core.specs.declared.path.Path.{Path}
 use Rattle.fort_core.specs.declared.pick.Pick.{Pick, Step, Attempt, out-Pick}
@@ -13,6 +13,7 @@ use Rattle.fort_walk_course.specs.Courses.{around, held, inwards}
 use Rattle.fort_walk_course.proofs.Around.{last_is_first}
 use Rattle.fort_plain.specs.Takes.{GoesOn, Begins, Leaves}
 use Rattle.fort_plain.specs.Within.{AreSources, IsFirst, IsSource, IsInside, IsSourceOf, IsWithin, HasSources, TakesPick, IsHere, inmost}
+use Rattle.fort_plain.specs.declared.act.Turn.{Turn}
 use Rattle.fort_plain.specs.declared.take.Source.{Source}
 use Rattle.fort_plain.specs.declared.take.Within.{Within}
 
@@ -67,11 +68,11 @@ first_source p c pick g ajar within b root s =
 
 -- a step within
 pub next_step : (p : Program) (w : Within) (pick : Pick) (last : Bool) (g : Going) (ajar : Bool)
-    (goal : List Pick) → IsWithin p w → IsHere w pick last → GoesOn p w.going.course pick g
-    → HasSources goal ajar w
+    (goal : List Pick) (turn : Turn) → IsWithin p w → IsHere w pick last
+    → GoesOn p w.going.course turn pick g → HasSources goal ajar w
     → IsInside p w.going.course.fuel ajar goal
     (record { going = g; source = w.source; outer = w.outer })
-next_step p w pick last g ajar goal k h n s = record {
+next_step p w pick last g ajar goal turn k h n s = record {
   within = record {
     going = n.going;
     inside = λ e. k.inside (sym n.outer ∙ e);
@@ -133,8 +134,8 @@ no_outer (o ∷ os) hs e = let i = no_outer os (held o ∷ hs) e in let z = i.1 
 -- an attempt of the root's machine ends
 pub last_source : (p : Program) (c : Course) (g : Going) (ajar : Bool) (goal all : List Pick)
     (within : Source) → Leaves p c all g → AreSources goal ajar (around c) [] within
-    → within.picks.now ≡ all → TakesPick p c.fuel goal g
-last_source p c g ajar goal all within n s e =
+    → within.picks.now ≡ all → within.ajar ≡ false → TakesPick p c.fuel ajar goal g
+last_source p c g ajar goal all within n s e shut =
     let levels : around c ≡ held n.picked.waiting ∷ around g.course =
     last_is_first c.outer g.course.outer n.picked.waiting n.picked.outer in
     let f : IsFirst goal ajar (held n.picked.waiting) (around g.course) within =
@@ -147,6 +148,7 @@ last_source p c g ajar goal all within n s e =
           ∙ ap (λ ps. n.picked.waiting.picks ++ Attempt n.picked.waiting.place.path ps ∷ []) (sym e)
           ∙ sym f.are_picks;
       outside = (no_outer g.course.outer [] f.is_root).0;
+      shut = sym f.is_open ∙ shut;
     }
 
 no_sources : (goal : List Pick) (ajar : Bool) (hs : List Held) (ss : List Source) (within : Source)

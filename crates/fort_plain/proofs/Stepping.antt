@@ -39,7 +39,7 @@ use Rattle.fort_walk_course.specs.Picked.{PicksStep, PicksAttempt}
 use Rattle.fort_step_acting.specs.Only.{OnlyDoes}
 use Rattle.fort_step_acting.proofs.Acted.{does_this, ends_only}
 use Rattle.fort_plain.specs.Legal.{AreLegal, a_run}
-use Rattle.fort_plain.specs.Takes.{NoPick, IsIllegal, LeavesBy, Stops, IsLast, IsTurn, IsThreadAt, DoesOnly, TurnsOnly, term_round, StepsOn}
+use Rattle.fort_plain.specs.Takes.{NoPick, IsIllegal, IsCost, LeavesBy, Stops, IsLast, IsTurn, IsThreadAt, DoesOnly, TurnsOnly, term_round, StepsOn}
 use Rattle.fort_plain.specs.declared.act.Acted.TheVariants as acted
 use Rattle.fort_plain.specs.declared.act.Turn.{Turn}
 use Rattle.fort_plain.proofs.Picked.{OwnStep, own, own_stop, own_step}
@@ -344,11 +344,11 @@ throws_only p c place a b v text h root one e gone =
     })
 
 pub went_on : (p : Program) (c n : Course) (place : Place) (a b : Term) (turn : Turn) (loc : ℕ)
-    → StandsAt p n place b → n.fuel ≡ c.fuel → PicksStep c place loc n
+    → StandsAt p n place b → n.fuel ≡ c.fuel → PicksStep c place loc n → turn.is_end ≡ false
     → StepsOn p c place a turn loc
     (acted.Goes (record { course = n; state = record { place = place; «at» = at.Form b } }))
-went_on p c n place a b turn loc s f k =
-    record { going = s; fuel = f; picks = k.picks; outer = k.outer }
+went_on p c n place a b turn loc s f k e =
+    record { going = s; fuel = f; picks = k.picks; outer = k.outer; not_end = e }
 
 abort_runs : (p : Program) (c : Course) (place : Place) (a : Term) (loc : ℕ)
     → DoesOnly p c place a acts.ends → loc ≡ 0
@@ -365,10 +365,10 @@ abort_runs p c place a loc h o =
     (both idle (paid 1))) (sym o)
     (inner_abort_ends p s [] at idle c.clock place a stage h.acts))
 
-last_by : (p : Program) (c : Course) (place : Place) (a b : Term) (turn : Turn) (loc all : ℕ)
-    (e : Effect) → StandsAt p c place a → Local p (is_inner (around c)) loc a b e
+last_by : (p : Program) (c : Course) (place : Place) (a b : Term) (turn : Turn) (loc : ℕ)
+    (all : Option ℕ) (e : Effect) → StandsAt p c place a → Local p (is_inner (around c)) loc a b e
     → FitsAll e (seen (levels_of c.layers)) → MakesWithinBounds e
-    → turn.is_end ≡ true → IsTurn turn → all ≡ c.spent + e.cost
+    → turn.is_end ≡ true → IsTurn turn → IsCost (c.spent + e.cost) all
     → IsLast p c (term_round c place a) turn (Step place.path (location loc)) c all
 last_by p c place a b turn loc all e s l f m q t z = record {
   same = refl;
@@ -383,8 +383,8 @@ last_by p c place a b turn loc all e s l f m q t z = record {
 }
 
 pub turn_last : (p : Program) (c : Course) (place : Place) (a next : Term) (text : List ℕ)
-    (cost loc all : ℕ) (turn : Turn) → TurnsOnly p c place a next text cost → loc ≡ 0
-    → turn.is_end ≡ true → IsTurn turn → all ≡ c.spent + cost
+    (cost loc : ℕ) (all : Option ℕ) (turn : Turn) → TurnsOnly p c place a next text cost → loc ≡ 0
+    → turn.is_end ≡ true → IsTurn turn → IsCost (c.spent + cost) all
     → IsLast p c (term_round c place a) turn (Step place.path (location loc)) c all
 turn_last p c place a next text cost loc all turn h o q t z =
     last_by p c place a next turn loc all (printed text cost) h.thread.stands
@@ -412,9 +412,9 @@ pub asks_step : (p : Program) (c : Course) (place : Place) (a : Term) (l : ℕ) 
 asks_step p c place a l next v h = steps (acts.asks l next) h.acts (v, refl, refl, refl)
 
 pub asks_last : (p : Program) (c : Course) (place : Place) (a : Term) (l : ℕ) (next : Value → Term)
-    (v : Value) (loc all : ℕ) (turn : Turn) → DoesOnly p c place a (acts.asks l next)
+    (v : Value) (loc : ℕ) (all : Option ℕ) (turn : Turn) → DoesOnly p c place a (acts.asks l next)
     → seen (levels_of c.layers) l ≡ Some v → loc ≡ 0 → turn.is_end ≡ true → IsTurn turn
-    → all ≡ c.spent + 1
+    → IsCost (c.spent + 1) all
     → IsLast p c (term_round c place a) turn (Step place.path (location loc)) c all
 asks_last p c place a l next v loc all turn h there o q t z =
     last_by p c place a (next v) turn loc all (reading l v) h.thread.stands
@@ -429,9 +429,9 @@ found_there v None h = let z : false ≡ true = h in cc
 found_there v (Some w) h = tt
 
 pub sets_last : (p : Program) (c : Course) (place : Place) (a : Term) (l : ℕ) (v : Value)
-    (loc all : ℕ) (turn : Turn) → DoesOnly p c place a (acts.sets l v)
+    (loc : ℕ) (all : Option ℕ) (turn : Turn) → DoesOnly p c place a (acts.sets l v)
     → IsSome (seen (levels_of c.layers) l) → loc ≡ 0 → turn.is_end ≡ true → IsTurn turn
-    → all ≡ c.spent + 1
+    → IsCost (c.spent + 1) all
     → IsLast p c (term_round c place a) turn (Step place.path (location loc)) c all
 sets_last p c place a l v loc all turn h there o q t z =
     last_by p c place a (term.Value acts.unit) turn loc all (writing l v) h.thread.stands
@@ -459,11 +459,11 @@ free_fits l (v ∷ vs) k s n =
     go false q rest = rest
 
 pub makes_last : (p : Program) (c : Course) (place : Place) (a : Term) (vs : List Value)
-    (next : ℕ → Term) (cost loc all : ℕ) (turn : Turn)
+    (next : ℕ → Term) (cost loc : ℕ) (all : Option ℕ) (turn : Turn)
     → DoesOnly p c place a (acts.makes vs next cost)
     → (loc + length (or_unit vs) ≤ 2 ^ 64)
     × AreFree loc (length (or_unit vs)) (seen (levels_of c.layers)) → turn.is_end ≡ true
-    → IsTurn turn → all ≡ c.spent + cost
+    → IsTurn turn → IsCost (c.spent + cost) all
     → IsLast p c (term_round c place a) turn (Step place.path (location loc)) c all
 makes_last p c place a vs next cost loc all turn h free q t z =
     last_by p c place a (next loc) turn loc all (making loc (or_unit vs) cost) h.thread.stands
@@ -472,9 +472,10 @@ makes_last p c place a vs next cost loc all turn h free q t z =
     (λ i w e. let r = made_in_row loc (or_unit vs) i w e in let high = r.1 in let low = free.0
     in omega (arith, high, low)) q t z
 
-pub abort_last : (p : Program) (c : Course) (place : Place) (a : Term) (turn : Turn) (loc all : ℕ)
+pub abort_last : (p : Program) (c : Course) (place : Place) (a : Term) (turn : Turn) (loc : ℕ)
+    (all : Option ℕ)
     → DoesOnly p c place a acts.ends → c.outer ≢ [] → loc ≡ 0 → turn.is_end ≡ true → IsTurn turn
-    → all ≡ c.spent + 1
+    → IsCost (c.spent + 1) all
     → IsLast p c (term_round c place a) turn (Step place.path (location loc)) c all
 abort_last p c place a turn loc all h some o q t z =
     let s = seen (levels_of c.layers) in
@@ -500,9 +501,9 @@ abort_unclosed p c place a turn loc h cannot o q n =
 pub abort_leaves : (p : Program) (c : Course) (place : Place) (turn : Turn) (loc : ℕ) (g : Going)
     → IsGoing p g → g.course.fuel ≡ c.fuel
     → PicksAttempt c (c.picks ++ Step place.path (location 0) ∷ []) g.course → loc ≡ 0
-    → turn.is_last ≡ true
+    → turn.is_last ≡ true → turn.is_end ≡ false
     → LeavesBy p c turn (Step place.path (location loc)) g
-abort_leaves p c place turn loc g s f k o q = record {
+abort_leaves p c place turn loc g s f k o q n = record {
   leaves = record {
     going = s;
     fuel = f;
@@ -510,6 +511,7 @@ abort_leaves p c place turn loc g s f k o q = record {
         (λ n. PicksAttempt c (c.picks ++ Step place.path (location n) ∷ []) g.course) (sym o) k;
   };
   last = q;
+  not_end = n;
 }
 
 -- ---- the step itself
@@ -554,6 +556,13 @@ pub free_all : (loc count : ℕ) (ws vs : List Value) (s : Store) → ws ≡ or_
     → AreFree loc (length ws) s
 free_all loc count ws vs s e q k n low = k.1 n
     (let z : length ws ≡ count = ap length e ∙ sym q in omega (arith, low, z))
+
+pub bound_all : (loc count : ℕ) (ws vs : List Value) (s : Store) → ws ≡ or_unit vs
+    → count ≡ length (or_unit vs) → (loc + count ≤ 2 ^ 64) × AreFree loc count s
+    → loc + length ws ≤ 2 ^ 64
+bound_all loc count ws vs s e q k =
+    let z : length ws ≡ count = ap length e ∙ sym q in
+    let low = k.0 in omega (arith, z, low)
 
 pub stops_here : (p : Program) (c : Course) (place : Place) (a : Term)
     → DoesOnly p c place a acts.ends → c.outer ≢ [] → MayAbort p c place

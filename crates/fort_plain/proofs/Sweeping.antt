@@ -1,8 +1,5 @@
 -- A sweep through the threads of a term.
-use Rattle.std.proofs.Common.{◌≡◌, ℕ, Bool, true, false, List, [], ◌∷◌, refl, ap, sym, ◌∙◌, subst, ◌⊎◌, inl, inr, Result, IfOk}
-use Rattle.std.proofs.lemmas.Result.{IfOk-weaker}
-use Rattle.fort_base.specs.declared.refusal.Memory.{Memory}
-use Rattle.std.specs.Prelude.{IsTrue}
+use Rattle.std.proofs.Common.{◌≡◌, ℕ, true, false, List, [], ◌∷◌, refl, ap, sym, ◌∙◌, subst, ◌⊎◌, inl, inr}
 use Rattle.fort_core.specs.declared.form.Mode.TheVariants as mode
 use Rattle.fort_core.specs.declared.term.Term.{Term}
 use Rattle.fort_machine.specs.Effects.{Store}
@@ -28,7 +25,7 @@ use Rattle.fort_frames_moves.specs.Sweeps.{AllMet, IsMet, SweptAt, Swept, IsLeft
 use Rattle.fort_frames_moves.specs.Turns.{IsAt, IsStep, IsTry, IsGathered, ready_term}
 use Rattle.fort_frames_moves.specs.declared.turn.Ready as ready
 use Rattle.fort_frames_moves.specs.declared.turn.Stop.TheVariants as stop
-use Rattle.fort_plain.specs.Paths.{AllSleep, IsNoForm, whole}
+use Rattle.fort_plain.specs.Paths.{IsNoForm, whole}
 use Rattle.fort_plain.proofs.Tries.{made_is_not_tried}
 
 more_met : (met : List Term) (a t : Term) → AllMet met t → AllMet (a ∷ met) t
@@ -80,6 +77,15 @@ from_left store clock t place e = record {
   swept = record { swept = subst (λ fs. Swept [] fs) (sym e) tt; is_left = tt };
   asleep = λ a k. absurd k;
 }
+
+pub again_from_left : (store : Store) (clock : ℕ) (t form : Term) (s : State) (a : At)
+    (place : Place) → SleepsSoFar store clock t s → frames place.stack ≡ []
+    → term_at a ≡ whole clock s → term_at a ≡ form
+    → SleepsSoFar store clock t (record { place = place; «at» = at.Form form })
+again_from_left store clock t form s a place h e k q =
+    let same : form ≡ t = sym q ∙ k ∙ h.stands.is_term in
+    subst (λ x. SleepsSoFar store clock t (record { place = place; «at» = at.Form x })) (sym same)
+    (from_left store clock t place e)
 
 pub past_sleeper : (store : Store) (clock : ℕ) (t a : Term) (s : State) (place : Place)
     → SleepsSoFar store clock t s → IsTry clock (whole clock s) place a
@@ -171,12 +177,3 @@ all_asleep store clock t s (at.Throw v) h e m n =
 all_asleep store clock t s (at.Form x) h e m n = absurd n
 all_asleep store clock t s (at.Left x) h e m n =
     left_asleep store h.met t x (m.keeps h.met h.swept) h.asleep (e ∙ h.stands.is_term)
-
-pub sweep_ends : (store : Store) (clock : ℕ) (t : Term) (s : State) (a : At)
-    (r : Result Bool Memory) → SleepsSoFar store clock t s → term_at a ≡ whole clock s
-    → MissesNone s (stop.Ends a) → IfOk r (λ all. IsTrue all × IsNoForm a)
-    → IfOk r (AllSleep store t)
-sweep_ends store clock t s a r h e m k =
-    IfOk-weaker r (λ all. IsTrue all
-    × IsNoForm a) (AllSleep store t)
-    (λ all q. subst (AllSleep store t) (sym q.0) (all_asleep store clock t s a h e m q.1)) k

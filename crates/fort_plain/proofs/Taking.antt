@@ -1,5 +1,5 @@
 -- What picks of the root's machine come to, with those within.
-use Rattle.std.proofs.Common.{◌≡◌, ◌≢◌, ℕ, ◌+◌, ◌&&◌, Bool, true, false, List, [], ◌∷◌, ◌++◌, refl, ap, sym, ◌∙◌, subst, arith}
+use Rattle.std.proofs.Common.{◌≡◌, ◌≢◌, ℕ, ◌+◌, ◌&&◌, Bool, true, false, List, [], ◌∷◌, ◌++◌, Option, Some, refl, ap, sym, ◌∙◌, subst, arith}
 use Rattle.fort_core.specs.declared.pick.Pick.{Pick}
 use Rattle.fort_core.specs.declared.program.Program.{Program}
 use Rattle.fort_core.specs.declared.term.Term.{Term}
@@ -19,7 +19,7 @@ use Rattle.fort_walk_course.specs.Courses.{IsGoing, around, inwards}
 use Rattle.fort_walk_course.specs.Calls.{CannotThrow}
 use Rattle.fort_plain.specs.Legal.{AreLegal, a_run, NoWay, NoRun}
 use Rattle.fort_plain.specs.Paths.{whole}
-use Rattle.fort_plain.specs.Takes.{NoPick, IsIllegal, GoesOn, Begins, Leaves, LeavesBy, Stops, IsLast}
+use Rattle.fort_plain.specs.Takes.{NoPick, IsIllegal, IsCost, GoesOn, Begins, Leaves, LeavesBy, Stops, IsLast}
 use Rattle.fort_plain.specs.Within.{AreSources, GoesWithin, HasSources, IsAttempt, IsHere, IsInside, IsLeft, IsSourceOf, IsWithin, NeverRuns, NotWithin, Takes, TakesLast, TakesOn, TakesPick, inmost, is_none}
 use Rattle.fort_plain.specs.declared.act.Turn.{Turn}
 use Rattle.fort_plain.specs.declared.take.Next.{Next}
@@ -76,10 +76,16 @@ pub passes_first : (p : Program) (g : Going) (ajar : Bool) (pick : Pick) (turn :
 passes_first p g ajar pick turn k root last barred =
     record { none = first_none p g ajar g.course.fuel pick turn k root last barred }
 
-pub out_first : (p : Program) (c : Course) (pick : Pick) (g : Going) → GoesOn p c pick g
-    → c.outer ≡ [] → TakesPick p c.fuel (c.picks ++ pick ∷ []) g
-out_first p c pick g h root =
-    record { going = h.going; fuel_is = h.fuel; are_picks = h.picks; outside = h.outer ∙ root }
+pub out_first : (p : Program) (c : Course) (turn : Turn) (pick : Pick) (g : Going)
+    → GoesOn p c turn pick g → c.outer ≡ []
+    → TakesPick p c.fuel turn.is_end (c.picks ++ pick ∷ []) g
+out_first p c turn pick g h root = record {
+  going = h.going;
+  fuel_is = h.fuel;
+  are_picks = h.picks;
+  outside = h.outer ∙ root;
+  shut = h.not_end;
+}
 
 -- what begins an attempt is one, and no machine that waits for nothing ends an attempt
 pub begun_attempt : (p : Program) (c : Course) (pick : Pick) (g : Going) → Begins p c pick g
@@ -101,7 +107,7 @@ pub root_throws : (p : Program) (c : Course) (t : Term) (turn : Turn) (pick : Pi
 root_throws p c t turn pick h root = subst (CannotThrow p) (root_round c root) h.cannot
 
 -- a last pick is one of those that may be left unfinished
-pub shut_last : (p : Program) (before : List Pick) (pick : Pick) (c : Course) (cost : ℕ)
+pub shut_last : (p : Program) (before : List Pick) (pick : Pick) (c : Course) (cost : Option ℕ)
     → TakesLast p false before pick c cost → ⊥
 shut_last p before pick c cost h = let z : false ≡ true = h.is_open in absurd cc
 
@@ -144,17 +150,18 @@ passes_within p w pick turn k h barred =
       goes =
           λ ajar before one s. record {
             none =
-                within_none p w pick turn w.going.course.fuel ajar (before ++ one ∷ []) k h s barred;
+                within_none p w pick turn w.going.course.fuel ajar (before ++ one ∷ []) k h s
+                barred;
           };
     }
 
-pub step_within : (p : Program) (w : Within) (pick : Pick) (last : Bool) (g : Going) → IsWithin p w
-    → IsHere w pick last → GoesOn p w.going.course pick g
+pub step_within : (p : Program) (w : Within) (turn : Turn) (pick : Pick) (last : Bool) (g : Going)
+    → IsWithin p w → IsHere w pick last → GoesOn p w.going.course turn pick g
     → GoesWithin p w (next.Goes (record { going = g; source = w.source; outer = w.outer }))
-step_within p w pick last g k h n =
+step_within p w turn pick last g k h n =
     record {
       goes =
-          λ ajar before one s. next_step p w pick last g ajar (before ++ one ∷ []) k h n s;
+          λ ajar before one s. next_step p w pick last g ajar (before ++ one ∷ []) turn k h n s;
     }
 
 pub open_within : (p : Program) (w : Within) (pick : Pick) (last end : Bool) (g : Going)
@@ -165,8 +172,8 @@ pub open_within : (p : Program) (w : Within) (pick : Pick) (last end : Bool) (g 
 open_within p w pick last end g inner outer k h b s e o =
     record {
       goes =
-          λ ajar before one have. next_source p w pick last g ajar (before ++ one ∷ []) inner outer k
-          h b (subst (λ x. IsSourceOf pick x inner) e s) o have;
+          λ ajar before one have. next_source p w pick last g ajar (before ++ one ∷ []) inner outer
+          k h b (subst (λ x. IsSourceOf pick x inner) e s) o have;
     }
 
 inmost_last : (os : List Source) (s : Source) (ss : List Source)
@@ -175,9 +182,9 @@ inmost_last [] s ss = refl
 inmost_last (o ∷ os) s ss = inmost_last os s (o ∷ ss)
 
 left_on : (p : Program) (w : Within) (all : List Pick) (g : Going) (n : Next)
-    → Leaves p w.going.course all g → w.source.picks.now ≡ all → IsLeft g w.outer n
-    → GoesWithin p w n
-left_on p w all g (next.Goes v) k e l = record {
+    → Leaves p w.going.course all g → w.source.picks.now ≡ all → w.source.ajar ≡ false
+    → IsLeft g w.outer n → GoesWithin p w n
+left_on p w all g (next.Goes v) k e shut l = record {
   goes = λ ajar before one s.
       let o : inmost w.outer [] ≡ v.source ∷ inmost v.outer [] =
       ap (λ os. inmost os []) l.1 ∙ inmost_last v.outer v.source [] in
@@ -188,11 +195,11 @@ left_on p w all g (next.Goes v) k e l = record {
       subst (λ x. IsInside p w.going.course.fuel ajar (before ++ one ∷ [])
       (record { going = x; source = v.source; outer = v.outer })) (sym l.0) i;
 }
-left_on p w all g (next.Ends t) k e l = record {
+left_on p w all g (next.Ends t) k e shut l = record {
   goes = λ ajar before one s.
       let i = last_source p w.going.course g ajar (before ++ one ∷ []) all w.source k
       (subst (λ os. AreSources (before ++ one ∷ []) ajar (around w.going.course) (inmost os [])
-      w.source) l.1 s) e in
+      w.source) l.1 s) e shut in
       subst (Takes p w.going.course.fuel ajar before one) (sym l.0) i;
 }
 
@@ -205,31 +212,32 @@ all_here : (w : Within) (pick : Pick) (last : Bool) → IsHere w pick last → l
 all_here w pick last h e =
     h.next ∙ ap (λ ps. w.going.course.picks ++ pick ∷ ps) (none_is h.behind (sym h.last ∙ e))
 
-pub leave_within : (p : Program) (w : Within) (pick : Pick) (turn : Turn) (g : Going) (n : Next)
-    → IsHere w pick turn.is_last → LeavesBy p w.going.course turn pick g → IsLeft g w.outer n
-    → GoesWithin p w n
-leave_within p w pick turn g n h k l =
-    left_on p w (w.going.course.picks ++ pick ∷ []) g n k.leaves
-    (all_here w pick turn.is_last h k.last) l
-
-pub close_within : (p : Program) (w : Within) (g : Going) (n : Next)
-    → Leaves p w.going.course w.going.course.picks g → w.source.picks.now ≡ w.going.course.picks
-    → IsLeft g w.outer n → GoesWithin p w n
-close_within p w g n k e l = left_on p w w.going.course.picks g n k e l
-
-some_round : (p : Program) (c : Course) (hs : List Held) → around c ≡ hs → CannotThrow p hs
-    → (h : Held) × (gs : List Held) × (around c ≡ h ∷ gs) × CannotThrow p (h ∷ gs)
-some_round p c [] e k = absurd k
-some_round p c (h ∷ hs) e k = (h, hs, e, k)
-
-shut_here : (w : Within) (pick : Pick) (turn : Turn) → turn.is_end ≡ (w.source.ajar && turn.is_last)
+shut_here : (w : Within) (turn : Turn) → turn.is_end ≡ (w.source.ajar && turn.is_last)
     → turn.is_last ≡ true → turn.is_end ≡ false → w.source.ajar ≡ false
-shut_here w pick turn e l n = go w.source.ajar turn.is_last (sym e ∙ n) l
+shut_here w turn e l n = go w.source.ajar turn.is_last (sym e ∙ n) l
   where
     go : (a b : Bool) → (a && b) ≡ false → b ≡ true → a ≡ false
     go true true x y = absurd cc
     go true false x y = absurd cc
     go false b x y = refl
+
+pub leave_within : (p : Program) (w : Within) (pick : Pick) (turn : Turn) (g : Going) (n : Next)
+    → IsHere w pick turn.is_last → turn.is_end ≡ (w.source.ajar && turn.is_last)
+    → LeavesBy p w.going.course turn pick g → IsLeft g w.outer n
+    → GoesWithin p w n
+leave_within p w pick turn g n h e k l =
+    left_on p w (w.going.course.picks ++ pick ∷ []) g n k.leaves
+    (all_here w pick turn.is_last h k.last) (shut_here w turn e k.last k.not_end) l
+
+pub close_within : (p : Program) (w : Within) (g : Going) (n : Next)
+    → Leaves p w.going.course w.going.course.picks g → w.source.picks.now ≡ w.going.course.picks
+    → w.source.ajar ≡ false → IsLeft g w.outer n → GoesWithin p w n
+close_within p w g n k e shut l = left_on p w w.going.course.picks g n k e shut l
+
+some_round : (p : Program) (c : Course) (hs : List Held) → around c ≡ hs → CannotThrow p hs
+    → (h : Held) × (gs : List Held) × (around c ≡ h ∷ gs) × CannotThrow p (h ∷ gs)
+some_round p c [] e k = absurd k
+some_round p c (h ∷ hs) e k = (h, hs, e, k)
 
 pub unclosed_within : (p : Program) (w : Within) (pick : Pick) (turn : Turn) → IsWithin p w
     → IsHere w pick turn.is_last → turn.is_end ≡ (w.source.ajar && turn.is_last)
@@ -256,7 +264,7 @@ unclosed_within p w pick turn k h e st =
         unthrown_way p c.fuel fuel (levels_of c.layers) c.picks pick r.0 r.1 c.clock
         (whole c.clock w.going.state) _ goal ajar (inmost w.outer []) w.source come st.runs
         (subst (λ hs. AreSources goal ajar hs (inmost w.outer []) w.source) r.2 s)
-        (shut_here w pick turn e st.last st.not_end) (all_here w pick turn.is_last h st.last)
+        (shut_here w turn e st.last st.not_end) (all_here w pick turn.is_last h st.last)
         r.3.0 r.3.1
 
 held_round : (p : Program) (goal : List Pick) (ajar : Bool) (hs : List Held) (ss : List Source)
@@ -274,8 +282,8 @@ open_end p w k e shut barred =
           λ ajar before one s. record {
             never =
                 λ fuel. go fuel ajar (before ++ one ∷ []) s
-                (held_round p (before ++ one ∷ []) ajar (around w.going.course) (inmost w.outer []) w.source
-                s);
+                (held_round p (before ++ one ∷ []) ajar (around w.going.course) (inmost w.outer [])
+                w.source s);
           };
     }
   where
@@ -292,8 +300,8 @@ open_end p w k e shut barred =
 
 -- ---- the last of all
 
-pub last_first : (p : Program) (g : Going) (pick : Pick) (turn : Turn) (d : Course) (cost : ℕ)
-    (ajar : Bool) → IsGoing p g → g.course.outer ≡ [] → turn.is_end ≡ ajar
+pub last_first : (p : Program) (g : Going) (pick : Pick) (turn : Turn) (d : Course)
+    (cost : Option ℕ) (ajar : Bool) → IsGoing p g → g.course.outer ≡ [] → turn.is_end ≡ ajar
     → IsLast p g.course (whole g.course.clock g.state) turn pick d cost
     → TakesLast p ajar g.course.picks pick d cost
 last_first p g pick turn d cost ajar k root e l =
@@ -312,7 +320,8 @@ last_first p g pick turn d cost ajar k root e l =
     subst (λ hs. AreLegal p true (is_inner hs) (seen (levels_of c.layers)) (pick ∷ []) t
     l.effect) round l.legal in
     let known = k.is_spent in
-    let price = l.is_cost in
+    let price : c.spent + l.effect.cost ≡ come.root.cost + l.effect.cost =
+    omega (arith, known, paid) in
     record {
       is_open = sym e ∙ l.all;
       ends = record {
@@ -321,7 +330,7 @@ last_first p g pick turn d cost ajar k root e l =
             l.effect come.runs
             (subst (λ s. AreLegal p true false s (pick ∷ []) t l.effect) store inner);
         bounded = both_bounded come.root l.effect come.bounded l.bounded;
-        is_cost = omega (arith, price, known, paid);
+        is_cost = subst (λ n. IsCost n cost) price l.is_cost;
         root = come.root;
         term = t;
         is_root = come.runs;
@@ -347,19 +356,20 @@ open_all goal ajar (h ∷ hs) (s2 ∷ ss) within s e =
 
 -- the whole list of the innermost machine is legal
 ends_level : (p : Program) (w : Within) (ajar : Bool) (before : List Pick) (one : Pick) (e : Effect)
-    (cost : ℕ) (d : Course) (k : IsWithin p w) → HasSources (before ++ one ∷ []) ajar w
+    (all_cost : ℕ) (cost : Option ℕ) (d : Course) (k : IsWithin p w)
+    → HasSources (before ++ one ∷ []) ajar w → IsCost all_cost cost
     → w.source.ajar ≡ true → d ≡ w.going.course
     → (let c = k.going.course.comes in let b = base_of p c.root (around w.going.course) c.attempts
     in AreLegal p true b.inner b.store w.source.picks.now b.first e) → MakesWithinBounds e
-    → cost ≡ spent_before k.going.course.comes.root (around w.going.course)
+    → all_cost ≡ spent_before k.going.course.comes.root (around w.going.course)
     k.going.course.comes.attempts + e.cost → TakesLast p ajar before one d cost
-ends_level p w ajar before one e cost d k s o same legal bounded price =
+ends_level p w ajar before one e all_cost cost d k s sum o same legal bounded price =
     let come = k.going.course.comes in
     let c = w.going.course in
     let flag = open_all (before ++ one ∷ []) ajar (around c) (inmost w.outer []) w.source s o in
     let all =
     all_legal p c.clock come.root (before ++ one ∷ []) (around c) come.attempts
-    (inmost w.outer []) w.source e cost come.waiting come.bounded
+    (inmost w.outer []) w.source e all_cost come.waiting come.bounded
     (subst (λ x. AreSources (before ++ one ∷ []) x (around c) (inmost w.outer []) w.source) flag
     s) o legal bounded price in
     let first =
@@ -371,7 +381,7 @@ ends_level p w ajar before one e cost d k s o same legal bounded price =
         effect = all.effect;
         legal = all.legal;
         bounded = all.bounded;
-        is_cost = all.is_cost;
+        is_cost = subst (λ n. IsCost n cost) all.is_cost sum;
         root = come.root;
         term = first.0;
         is_root = first.1;
@@ -390,8 +400,9 @@ base_bounded p now root [] es k m = m
 base_bounded p now root (h ∷ hs) [] k m = m
 base_bounded p now root (h ∷ hs) (e ∷ es) k m = k.1
 
-pub last_within : (p : Program) (w : Within) (pick : Pick) (turn : Turn) (d : Course) (cost : ℕ)
-    → IsWithin p w → IsHere w pick turn.is_last → turn.is_end ≡ (w.source.ajar && turn.is_last)
+pub last_within : (p : Program) (w : Within) (pick : Pick) (turn : Turn) (d : Course)
+    (cost : Option ℕ) → IsWithin p w → IsHere w pick turn.is_last
+    → turn.is_end ≡ (w.source.ajar && turn.is_last)
     → IsLast p w.going.course (whole w.going.course.clock w.going.state) turn pick d cost
     → GoesWithin p w (next.Ends (taken.Last d cost))
 last_within p w pick turn d cost k h e l = record {
@@ -419,19 +430,19 @@ last_within p w pick turn d cost k h e l = record {
       join_legal p true b.inner b.store c.picks (pick ∷ []) b.first t b.done l.effect come.runs
       inner in
       let known = k.going.is_spent in
-      let price = l.is_cost in
-      ends_level p w ajar before one (both b.done l.effect) cost d k s
+      ends_level p w ajar before one (both b.done l.effect) (c.spent + l.effect.cost) cost d k s
+      l.is_cost
       (both_true w.source.ajar turn.is_last (sym e ∙ l.all)).0 l.same
       (subst (λ ps. AreLegal p true b.inner b.store ps b.first (both b.done l.effect))
       (sym (all_here w pick turn.is_last h l.last)) legal)
       (both_bounded b.done l.effect
       (base_bounded p c.clock come.root (around c) come.attempts come.waiting come.bounded)
-      l.bounded) (omega (arith, price, known, paid));
+      l.bounded) (omega (arith, known, paid));
 }
 
 pub last_end : (p : Program) (w : Within) → IsWithin p w → w.source.picks.now ≡ w.going.course.picks
     → w.source.ajar ≡ true
-    → GoesWithin p w (next.Ends (taken.Last w.going.course w.going.course.spent))
+    → GoesWithin p w (next.Ends (taken.Last w.going.course (Some w.going.course.spent)))
 last_end p w k e o = record {
   goes = λ ajar before one s.
       let come = k.going.course.comes in
@@ -442,7 +453,7 @@ last_end p w k e o = record {
       ap spent come.levels ∙ spent_now p c.clock come.root (around c) come.attempts come.waiting
       in
       let known = k.going.is_spent in
-      ends_level p w ajar before one b.done c.spent c k s o refl
+      ends_level p w ajar before one b.done c.spent (Some c.spent) c k s refl o refl
       (a_run _ (subst
       (λ ps. Runs p b.inner true b.store ps b.first (goes (whole c.clock w.going.state))
       b.done) (sym e) come.runs))

@@ -1,9 +1,9 @@
 -- What the code's tests say of locations, of the fuel, and of forms that sleep.
-use Rattle.std.proofs.Common.{◌≡◌, ◌≢◌, ℕ, zero, suc, ◌+◌, ◌<◌, ◌≤◌, ◌^◌, ◌==◌, Bool, true, false, not, Option, Some, None, refl, ap, sym, ◌∙◌, subst, arith, rules, inl, inr}
-use Rattle.std.specs.Prelude.{◌↔◌, IsSome, IsTrue, is_some, nat_le}
+use Rattle.std.proofs.Common.{◌≡◌, ◌≢◌, ℕ, zero, suc, ◌+◌, ◌<◌, ◌≤◌, ◌^◌, ◌==◌, Bool, true, false, not, Option, Some, None, refl, ap, sym, ◌∙◌, ◌⊎◌, subst, arith, rules, inl, inr}
+use Rattle.std.specs.Prelude.{◌↔◌, IsSome, IsTrue, SomeIff, is_some, nat_le}
 use Rattle.std.specs.Borrow.{Bor}
 use Rattle.std.specs.Option.{option_copied}
-use Rattle.std.proofs.lemmas.Bool.{leb-false}
+use Rattle.std.proofs.lemmas.Bool.{cases_lt, leb-false}
 use Rattle.fort_core.specs.declared.form.Mode.{Mode}
 use Rattle.fort_core.specs.declared.term.Term.{Term, Atomic, Asleep}
 use Rattle.fort_core.specs.declared.value.Value.{Value}
@@ -11,13 +11,23 @@ use Rattle.fort_machine.specs.Effects.{Store}
 use Rattle.fort_machine.specs.Marked.{Marks}
 use Rattle.fort_machine.specs.Attempts.{Form, fresh, slept, Sleeps}
 use Rattle.fort_store_effects.specs.Calls.{AreFree}
+use Rattle.fort_walk_law_course.specs.Course.{NothingFrom}
 use Rattle.fort_plain.specs.Paths.{AllSleep}
-use Rattle.fort_plain.specs.Takes.{MustWait}
+use Rattle.fort_plain.specs.Takes.{IsCost, MustWait}
 
 -- the fuel doesn't cover a cost
 pub too_dear : (spent cost fuel : ℕ) (b : Bool) → b ≡ nat_le (spent + cost) fuel → b ≡ false
     → fuel < spent + cost
 too_dear spent cost fuel b e n = leb-false (spent + cost) fuel (sym e ∙ n)
+
+-- what all costs
+pub counted : (n : ℕ) (o : Option ℕ) → SomeIff o (n < 2 ^ 64) n → IsCost n o
+counted n None h =
+    elim (cases_lt n (2 ^ 64)) [
+      | inl low ↦ absurd (h low)
+      | inr high ↦ high
+    ]
+counted n (Some x) h = h.1
 
 -- a flag's denial
 pub not_so : (b : Bool) → not b ≡ true → b ≡ false
@@ -84,6 +94,16 @@ free_whole loc (suc count) s b h =
 pub free_one : (loc count n : ℕ) (s : Store) → n < count
     → (loc + count ≤ 2 ^ 64) × AreFree loc count s → (loc + n < 2 ^ 64) × (s (loc + n) ≡ None)
 free_one loc count n s low h = let top = h.0 in (omega (arith, low, top), h.1 n low)
+
+-- behind a number above all that are there, all are free
+pub free_rest : (loc count done from : ℕ) (s : Store) → FreeYet loc done s → NothingFrom from s
+    → from ≤ loc + done → loc + count ≤ 2 ^ 64
+    → (loc + count ≤ 2 ^ 64) × AreFree loc count s
+free_rest loc count done from s h nothing low bound = (bound, λ n below. one n (cases_lt n done))
+  where
+    one : (n : ℕ) → (n < done) ⊎ (done ≤ n) → s (loc + n) ≡ None
+    one n (inl front) = (h n front).1
+    one n (inr back) = nothing (loc + n) (omega (arith, back, low))
 
 -- ---- sleepers
 

@@ -85,14 +85,14 @@ at_attempt : (p : Program) (ajar : Bool) (b : Base) (now : ℕ) (h : Held) (with
 at_attempt p ajar b now h within behind d w legal =
     let i = part_legal p ajar b.inner b.store h.picks (Attempt h.place.path within) behind b.first d
     legal in
-    let here = rebuilt w.clock (frames h.place.stack) w.form in
+    let here = rebuilt h.clock (frames h.place.stack) w.form in
     let same =
     one_run p b.inner true b.store h.picks b.first (goes i.middle) (goes here) i.first b.done
     i.before w.stage.runs in
     let term = goes_term i.middle here same.0 in
-    let fs = outward w.clock (frames h.place.stack) in
+    let fs = outward h.clock (frames h.place.stack) in
     let list : Attempt h.place.path within ∷ behind ≡ Attempt (path_to fs) within ∷ behind =
-    ap (λ (x : Path). Attempt x within ∷ behind) (path_is w.clock h.place) in
+    ap (λ (x : Path). Attempt x within ∷ behind) (path_is h.clock h.place) in
     let behind2 : AreLegal p ajar b.inner (afterwards b.done b.store)
     (Attempt (path_to fs) within ∷ behind) i.middle i.second =
     subst (λ x. AreLegal p ajar b.inner (afterwards b.done b.store) x i.middle i.second) list
@@ -103,7 +103,7 @@ at_attempt p ajar b now h within behind d w legal =
       second = i.second;
       inner = inner_legal p ajar b.inner (afterwards b.done b.store) fs within behind w.form h.mode
           h.body i.middle i.second (term
-          ∙ same_term w.clock (frames h.place.stack) w.form) w.is_form behind2;
+          ∙ same_term h.clock (frames h.place.stack) w.form) w.is_form behind2;
       is_both = i.is_both ∙ ap (λ x. both x i.second) same.1;
     }
 
@@ -139,11 +139,11 @@ out_way p fuel now root goal ajar (h ∷ h2 ∷ hs) (e ∷ es) [] within k s bar
 out_way p fuel now root goal ajar (h ∷ hs) (e ∷ es) (s2 ∷ ss) within k s barred =
     let q = s.0 in
     let b = base_of p root hs es in
-    out_way p fuel now root goal ajar hs es ss s2 k.2 s.1
+    out_way p fuel h.clock root goal ajar hs es ss s2 k.2 s.1
     (subst (λ x. NoWay p s2.ajar b.inner b.store b.first (spent_before root hs es) fuel x)
     (sym q.are_picks)
     (one_level p s2.ajar b now h (spent_before root hs es) (root.cost + 1 + attempts_cost es) fuel
-    within.picks.now q.behind k.0 (spent_step p now root hs es k.2)
+    within.picks.now q.behind k.0 (spent_step p h.clock root hs es k.2)
     (subst (λ x. NoWay p x true (afterwards b.done b.store) h.body
     (root.cost + 1 + attempts_cost es) fuel within.picks.now) q.is_open barred)))
 
@@ -161,7 +161,7 @@ peel_way p fuel now root goal ajar h [] e (e2 ∷ es) [] within k s f = absurd k
 peel_way p fuel now root goal ajar h (h2 ∷ hs) e es [] within k s f = let z = s.is_root in absurd cc
 peel_way p fuel now root goal ajar h hs e es (s2 ∷ ss) within k s f =
     let q = s.0
-    in out_way p fuel now root goal ajar hs es ss s2 k.2 s.1
+    in out_way p fuel h.clock root goal ajar hs es ss s2 k.2 s.1
     (subst (λ x. NoLevel p s2.ajar root hs es fuel x) (sym q.are_picks)
     (f s2.ajar q.behind q.is_open))
 
@@ -261,10 +261,10 @@ pub unthrown_way : (p : Program) (full fuel : ℕ) (v : Levels) (picks : List Pi
     → AreSources goal ajar (h ∷ hs) ss within → within.ajar ≡ false
     → within.picks.now ≡ picks ++ pick ∷ [] → h.mode ≡ mode.Try
     → single p p.built_in.try_atomic_failure ≡ None → NoRun p ajar fuel goal
-unthrown_way p full fuel v picks pick h hs now t d goal ajar ss within c stop s shut all try none =
+unthrown_way p full fuel v picks pick h hs now t d goal ajar ss within c it s shut all try none =
     go c.attempts c.waiting c.runs
     (subst (λ x. Runs p true true x (pick ∷ []) t aborts d) (ap seen c.levels
-    ∙ seen_base p now c.root (h ∷ hs) c.attempts c.waiting) stop)
+    ∙ seen_base p now c.root (h ∷ hs) c.attempts c.waiting) it)
   where
     go : (es : List Effect) → AllWait p now c.root (h ∷ hs) es
         → (let b = base_of p c.root (h ∷ hs) es

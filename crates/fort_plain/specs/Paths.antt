@@ -2,13 +2,14 @@
 -- the first part in which their paths differ.
 use Rattle.std.specs.Prelude.{◌≡◌, ℕ, ◌<◌, ◌≤◌, Bool, true, false, List, length, take}
 use Rattle.fort_core.specs.declared.path.Path.{Path}
-use Rattle.fort_core.specs.declared.term.Term.{Term}
+use Rattle.fort_core.specs.declared.term.Term.{Term, Stepped}
 use Rattle.fort_core.specs.declared.term.Term as term
 use Rattle.fort_machine.specs.Effects.{Store}
 use Rattle.fort_machine.specs.Ends.{Finished, open_yet, standing, throw_of}
 use Rattle.fort_machine.specs.Frames.{Frame, plug, passed}
 use Rattle.fort_machine.specs.Attempts.{Ready, Awake}
 use Rattle.fort_machine.specs.Runs.{path_to}
+use Rattle.fort_machine_law_marks.specs.Marks.{LeavesPart}
 use Rattle.fort_frames.specs.Frames.{frames, rebuilt, Reaches}
 use Rattle.fort_frames.specs.Heads.{form_of, suits}
 use Rattle.fort_frames.specs.States.{term_at, Stands}
@@ -30,6 +31,11 @@ use Rattle.fort_plain.specs.declared.settled.Settled.TheVariants as settled
 -- The term that a state stands for.
 abbrev pub whole : ℕ → State → Term
 whole clock s = rebuilt clock (frames s.place.stack) (term_at s.«at»)
+
+-- In a term a mark stands round an open part of a parallel form, and nowhere else.
+pub record MarksStandIn (t : Term) : Type 0 where
+  pub stand : (fs : List Frame) (a : Term) → t ≡ plug fs (Stepped a)
+      → LeavesPart fs × (standing a ≡ open_yet)
 
 -- No thread of a term that may go on has a path.
 pub record NoThread (t : Term) (path : Path) : Type 0 where
@@ -72,6 +78,11 @@ abbrev pub IsOut : ℕ → Term → ℕ → Path → Out → Type 0
 IsOut clock t keep path (out.Form place part) = IsInside clock t keep path place part
 IsOut clock t keep path (out.Node place head parts) = suits head parts ≡ true
     × IsBeside clock t keep path place (form_of head parts)
+
+-- Where one is then.
+abbrev pub place_out : Out → Place
+place_out (out.Form place part) = place
+place_out (out.Node place head parts) = place
 
 -- At an open part of a term.
 pub record IsOpenAt (clock : ℕ) (t : Term) (place : Place) (part : Term) : Type 0 where

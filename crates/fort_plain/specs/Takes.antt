@@ -1,6 +1,6 @@
 -- Chapter "Runs": one pick of the innermost machine of a run. The code does what the form's row
 -- says; the definition asks for every legal pick.
-use Rattle.std.specs.Prelude.{◌≡◌, ◌≢◌, ℕ, ◌+◌, Bool, true, false, List, [], ◌∷◌, ◌++◌, Option, Some, None}
+use Rattle.std.specs.Prelude.{◌≡◌, ◌≢◌, ℕ, ◌+◌, ◌≤◌, ◌^◌, Bool, true, false, List, [], ◌∷◌, ◌++◌, Option, Some, None}
 use Rattle.fort_core.specs.declared.pick.Pick.{Pick, Step, Attempt}
 use Rattle.fort_core.specs.declared.program.Program.{Program}
 use Rattle.fort_core.specs.declared.term.Term.{Term}
@@ -42,12 +42,13 @@ pub record IsIllegal (p : Program) (c : Course) (t : Term) (turn : Turn)
     (pick : Pick) : Type 0 where
   pub never : (fuel : ℕ) → NoPick p c t fuel turn pick
 
--- The run goes on with one pick more of the innermost machine.
-pub record GoesOn (p : Program) (c : Course) (pick : Pick) (g : Going) : Type 0 where
+-- The run goes on with one pick more of the innermost machine, which isn't the last of all.
+pub record GoesOn (p : Program) (c : Course) (turn : Turn) (pick : Pick) (g : Going) : Type 0 where
   pub going : IsGoing p g
   pub fuel : g.course.fuel ≡ c.fuel
   pub picks : g.course.picks ≡ c.picks ++ pick ∷ []
   pub outer : g.course.outer ≡ c.outer
+  pub not_end : turn.is_end ≡ false
 
 -- An attempt begins, with these picks before it.
 pub record Begins (p : Program) (c : Course) (pick : Pick) (g : Going) : Type 0 where
@@ -66,11 +67,12 @@ pub record Leaves (p : Program) (c : Course) (picks : List Pick) (g : Going) : T
   pub fuel : g.course.fuel ≡ c.fuel
   pub picked : PicksAttempt c picks g.course
 
--- The machine's last pick ends it.
+-- The machine's last pick ends it, and isn't the last of all.
 pub record LeavesBy (p : Program) (c : Course) (turn : Turn) (pick : Pick)
     (g : Going) : Type 0 where
   pub leaves : Leaves p c (c.picks ++ pick ∷ []) g
   pub last : turn.is_last ≡ true
+  pub not_end : turn.is_end ≡ false
 
 -- The pick is a step of `abort()` that ends an attempt's machine, and the attempt has no end, since
 -- the program has no single object to throw.
@@ -80,20 +82,25 @@ pub record Stops (p : Program) (c : Course) (t : Term) (turn : Turn) (pick : Pic
   pub last : turn.is_last ≡ true
   pub not_end : turn.is_end ≡ false
 
+-- What all has cost, where it is below 2 to the 64; else it is above each fuel.
+abbrev pub IsCost : ℕ → Option ℕ → Type 0
+IsCost n (Some cost) = cost ≡ n
+IsCost n None = 2 ^ 64 ≤ n
+
 -- The pick is the last of all, and is legal; with it all has cost so much.
 pub record IsLast (p : Program) (c : Course) (t : Term) (turn : Turn) (pick : Pick) (d : Course)
-    (cost : ℕ) : Type 0 where
+    (cost : Option ℕ) : Type 0 where
   pub same : d ≡ c
   pub effect : Effect
   pub legal : AreLegal p true (is_inner (around c)) (seen (levels_of c.layers)) (pick ∷ []) t effect
   pub bounded : MakesWithinBounds effect
-  pub is_cost : cost ≡ c.spent + effect.cost
+  pub is_cost : IsCost (c.spent + effect.cost) cost
   pub last : turn.is_last ≡ true
   pub all : turn.is_end ≡ true
 
 -- What a pick comes to in the innermost machine of a run, at a term.
 abbrev pub ActsOn : Program → Course → Term → Turn → Pick → Acted → Type 0
-ActsOn p c t turn pick (acted.Goes g) = GoesOn p c pick g
+ActsOn p c t turn pick (acted.Goes g) = GoesOn p c turn pick g
 ActsOn p c t turn pick (acted.Opens g) = Begins p c pick g
 ActsOn p c t turn pick (acted.Leaves g) = LeavesBy p c turn pick g
 ActsOn p c t turn pick acted.Unclosed = Stops p c t turn pick

@@ -1,9 +1,10 @@
 -- Chapter "Runs": a pick of the root's machine that is being replayed, with the attempts that are
 -- open in it. The code keeps a stack of picks.
-use Rattle.std.specs.Prelude.{◌≡◌, ◌≢◌, ℕ, Bool, true, false, ◌&&◌, List, [], ◌∷◌, ◌++◌}
+use Rattle.std.specs.Prelude.{◌≡◌, ◌≢◌, ℕ, Bool, true, false, ◌+◌, ◌*◌, ◌<◌, ◌&&◌, List, [], ◌∷◌, ◌++◌, length, drop, Option}
 use Rattle.fort_core.specs.declared.path.Path.{Path}
 use Rattle.fort_core.specs.declared.pick.Pick.{Pick, Attempt}
 use Rattle.fort_core.specs.declared.program.Program.{Program}
+use Rattle.fort_core.specs.Nodes.{all_nodes}
 use Rattle.fort_core.specs.declared.term.Term.{Term}
 use Rattle.fort_machine.specs.Effects.{Effect}
 use Rattle.fort_machine.specs.Attempts.{goes}
@@ -15,6 +16,7 @@ use Rattle.fort_walk_course.specs.Courses.{IsGoing, around}
 use Rattle.fort_walk_course.specs.declared.course.Course.{Course}
 use Rattle.fort_walk_course.specs.declared.course.Going.{Going}
 use Rattle.fort_plain.specs.Legal.{AreLegal, NoRun}
+use Rattle.fort_plain.specs.Takes.{IsCost}
 use Rattle.fort_plain.specs.declared.take.Source.{Source}
 use Rattle.fort_plain.specs.declared.take.Within.{Within}
 use Rattle.fort_plain.specs.declared.take.Taken.{Taken}
@@ -80,21 +82,23 @@ pub record IsAttempt (pick : Pick) : Type 0 where
 abbrev pub IsSourceOf : Pick → Bool → Source → Type 0
 IsSourceOf pick ajar s = (s.ajar ≡ ajar) × ((path : Path) × (pick ≡ Attempt path s.picks.now))
 
--- The run went on by a pick.
-pub record TakesPick (p : Program) (fuel : ℕ) (picks : List Pick) (g : Going) : Type 0 where
+-- The run went on by a pick, which is finished.
+pub record TakesPick (p : Program) (fuel : ℕ) (ajar : Bool) (picks : List Pick)
+    (g : Going) : Type 0 where
   pub going : IsGoing p g
   pub fuel_is : g.course.fuel ≡ fuel
   pub are_picks : g.course.picks ≡ picks
   pub outside : g.course.outer ≡ []
+  pub shut : ajar ≡ false
 
 -- The picks are legal, the last of them perhaps an attempt that isn't finished; they cost so much;
 -- and what the root's machine printed and cost before the last one stands in the layers.
 pub record EndsWith (p : Program) (before : List Pick) (pick : Pick) (c : Course)
-    (cost : ℕ) : Type 0 where
+    (cost : Option ℕ) : Type 0 where
   pub effect : Effect
   pub legal : AreLegal p true false (opening_store p) (before ++ pick ∷ []) p.first effect
   pub bounded : MakesWithinBounds effect
-  pub is_cost : cost ≡ effect.cost
+  pub is_cost : IsCost effect.cost cost
   pub root : Effect
   pub term : Term
   pub is_root : Runs p false true (opening_store p) before p.first (goes term) root
@@ -111,13 +115,13 @@ pub record NotWithin (p : Program) (ajar : Bool) (fuel : ℕ) (picks : List Pick
 
 -- The last of all, which may be left unfinished, is legal.
 pub record TakesLast (p : Program) (ajar : Bool) (before : List Pick) (pick : Pick) (c : Course)
-    (cost : ℕ) : Type 0 where
+    (cost : Option ℕ) : Type 0 where
   pub is_open : ajar ≡ true
   pub ends : EndsWith p before pick c cost
 
 -- What the last of some picks comes to.
 abbrev pub Takes : Program → ℕ → Bool → List Pick → Pick → Taken → Type 0
-Takes p fuel ajar before pick (taken.Out g) = TakesPick p fuel (before ++ pick ∷ []) g
+Takes p fuel ajar before pick (taken.Out g) = TakesPick p fuel ajar (before ++ pick ∷ []) g
 Takes p fuel ajar before pick taken.Illegal = NeverRuns p ajar (before ++ pick ∷ [])
 Takes p fuel ajar before pick taken.Passes = NotWithin p ajar fuel (before ++ pick ∷ [])
 Takes p fuel ajar before pick (taken.Last c cost) = TakesLast p ajar before pick c cost
@@ -138,6 +142,24 @@ TakesOn p fuel ajar before pick (next.Ends t) = Takes p fuel ajar before pick t
 pub record GoesWithin (p : Program) (w : Within) (n : Next) : Type 0 where
   pub goes : (ajar : Bool) (before : List Pick) (pick : Pick)
       → HasSources (before ++ pick ∷ []) ajar w → TakesOn p w.going.course.fuel ajar before pick n
+
+-- What is left of the machines round the innermost one, but of the root's: the picks behind the
+-- attempt for whose end each waits, with those inside them, and that end. Each pick counts twice.
+abbrev pub left_round : List Held → List Source → ℕ
+left_round [] ss = 0
+left_round (h ∷ hs) [] = 0
+left_round (h ∷ hs) (s ∷ ss) = 1 + 2 * all_nodes (drop (length h.picks + 1) s.picks.now)
+    + left_round hs ss
+
+-- What is left of a run within attempts: that, and the innermost machine's picks.
+abbrev pub left_within : Within → ℕ
+left_within w = 2 * all_nodes (drop (length w.going.course.picks) w.source.picks.now)
+    + left_round (around w.going.course) (inmost w.outer [])
+
+-- One pick more, or the end of an attempt, leaves less.
+abbrev pub LeavesLess : Within → Next → Type 0
+LeavesLess w (next.Goes v) = left_within v < left_within w
+LeavesLess w (next.Ends t) = Unit {0}
 
 -- Out of an attempt: to the machine round it, the root's or another attempt's.
 abbrev pub IsLeft : Going → List Source → Next → Type 0

@@ -40,15 +40,15 @@ pub enum Acted {
     /// It costs more than what is left of the fuel.
     Passes,
     /// The last of all is legal, and isn't carried out: the run before it, and what all costs with
-    /// it.
-    Last(Execution, u64),
+    /// it; `None` where that is 2 to the 64 or more, which is above each fuel.
+    Last(Execution, Option<u64>),
 }
 
 /// Takes a pick of the innermost machine.
 ///
 /// # Errors
 ///
-/// `Memory` where memory is wanting, or where the numbers of locations are at their end.
+/// `Memory` where memory is wanting.
 pub fn act(
     alloc: Global,
     program: &Program,

@@ -1,16 +1,18 @@
 //! Out of a part, and into another one beside it.
-ghost use Rattle.std.specs.Prelude.{◌≡◌, ◌≢◌, ◌<◌, ◌∷◌, ℕ, length, slice_get, slice_set, true, IfOk, Some};
+ghost use Rattle.std.specs.Prelude.{◌≡◌, ◌≢◌, ◌<◌, [], ◌∷◌, ℕ, length, slice_get, slice_set, true, IfOk, Some};
 ghost use Rattle.fort_machine.specs.Ends.{open_yet, standing};
 ghost use Rattle.fort_machine.specs.Frames.{on, plug};
 ghost use Rattle.fort_frames.specs.Frames.{IsInOrder, Reaches, frame_of, frames, is_trodden, mark_if, rebuilt};
 ghost use Rattle.fort_frames.specs.Heads.{form_of, suits};
-ghost use Rattle.fort_plain.specs.Paths.{IsBeside, IsInside, IsOpenAt, IsOut, IsOutOf, IsSought};
+ghost use Rattle.fort_frames.specs.States.{Stands};
+ghost use Rattle.fort_frames_moves.specs.Turns.{IsNext};
+ghost use Rattle.fort_plain.specs.Paths.{IsBeside, IsInside, IsOpenAt, IsOut, IsOutOf, IsSought, place_out};
 
 use crate::find::{Found, Seek};
 use fort_base::{List, Memory, Shared};
 use fort_core::{Path, Term};
-use fort_frames::{Frame, Head, Node, Place};
-use fort_frames_moves::{Ready, Turn, enter_part, part_at};
+use fort_frames::{At, Frame, Head, Node, Place, State};
+use fort_frames_moves::{Next, Ready, part_at};
 use std::alloc::Global;
 
 /// Out of one frame.
@@ -28,7 +30,7 @@ pub enum Out {
 /// # Errors
 ///
 /// `Memory` where memory is wanting.
-#[tactic(auto, using(crate::proofs::Outside::node_inside, crate::proofs::Outside::own_beside, crate::proofs::Outside::beside_found))]
+#[tactic(auto, using(crate::proofs::Outside::beside_found))]
 pub fn aside(
     alloc: Global,
     clock: u64,
@@ -44,7 +46,7 @@ pub fn aside(
 {
     let mut place = place;
     let mut part = part;
-    for _frame in 0..u64::MAX {
+    'frames: loop {
         match leave_frame(alloc, clock, place, part)? {
             Out::Form(below, form) => {
                 place = below;
@@ -59,7 +61,6 @@ pub fn aside(
             }
         }
     }
-    Err(Memory)
 }
 
 /// Out of the innermost frame, with the open part back in its place.
@@ -69,14 +70,17 @@ pub fn leave_frame(
     place: Place,
     part: Shared<Term>,
 ) -> Result<Out, Memory>
+    requires some { frames place.stack ≢ [] }
     requires is_open { standing part ≡ open_yet }
     requires reached { Reaches clock (frames place.stack) part }
     ensures inside { IfOk result (λ r. (t : _) (keep : ℕ) (path : _)
         → IsInside clock t keep path place part → IsOut clock t keep path r) }
     ensures whole { IfOk result (λ r. (t : _) → IsOpenAt clock t place part → IsOutOf clock t r) }
+    ensures shorter { IfOk result (λ r. length (frames (place_out r).stack)
+        < length (frames place.stack)) }
 {
     match place.leave(alloc)? {
-        None => Err(Memory),
+        None => unreachable!(),
         Some((frame, below)) => out_of(alloc, clock, below, frame, part),
     }
 }
@@ -96,6 +100,7 @@ fn out_of(
     ensures whole { IfOk result (λ r. (t : _) (place : Place)
         → frames place.stack ≡ frame ∷ frames below.stack → IsOpenAt clock t place part
         → IsOutOf clock t r) }
+    ensures below { IfOk result (λ r. place_out r ≡ below) }
 {
     match frame {
         Frame::Node(node) => {
@@ -120,6 +125,7 @@ fn out_in_order(
     ensures whole { IfOk result (λ r. (t : _) (place : Place)
         → frames place.stack ≡ frame ∷ frames below.stack → IsOpenAt clock t place part
         → IsOutOf clock t r) }
+    ensures below { IfOk result (λ r. place_out r ≡ below) }
 {
     let _clock = clock;
     let form = frame.around(alloc, part)?;
@@ -189,7 +195,7 @@ fn into_other(
         (IsSought clock (rebuilt clock (frames below.stack) (form_of head parts)) path.now) }
 {
     match path.0.get(keep) {
-        None => Err(Memory),
+        None => unreachable!(),
         Some(number) => into_part(alloc, clock, below, head, parts, keep, path, *number),
     }
 }
@@ -217,9 +223,34 @@ fn into_part(
     let _path = path;
     match part_at(&parts, number as usize)? {
         None => Ok(Seek::Stops(Found::Nothing)),
-        Some(next) => match enter_part(alloc, clock, below, head, parts, next)? {
-            Turn::Moves(state) => Ok(Seek::Moves(state)),
-            Turn::Stops(_) => Err(Memory),
-        },
+        Some(next) => Ok(Seek::Moves(into_next(alloc, clock, below, head, parts, next)?)),
     }
+}
+
+// Into a part that may go on.
+fn into_next(
+    alloc: Global,
+    clock: u64,
+    below: Place,
+    head: Head,
+    parts: List<Shared<Term>>,
+    next: Next,
+) -> Result<State, Memory>
+    requires suits { suits head parts ≡ true }
+    requires next { IsNext parts next }
+    requires reached { Reaches clock (frames below.stack) (form_of head parts) }
+    ensures { IfOk result
+        (Stands clock (rebuilt clock (frames below.stack) (form_of head parts))) }
+{
+    let Next { at, part, stepped } = next;
+    let node = Node {
+        head,
+        parts,
+        at,
+        stepped,
+        since: clock,
+    };
+    let place = below.enter(alloc, Frame::Node(node))?;
+    let at = At::Form(part);
+    Ok(State { place, at })
 }

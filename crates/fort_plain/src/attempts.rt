@@ -10,7 +10,7 @@ ghost use Rattle.fort_frames.specs.Frames.{Reaches, frames};
 ghost use Rattle.fort_store_effects.specs.Levels.{levels_of, seen};
 ghost use Rattle.fort_walk_course.specs.Courses.{IsGoing, StandsAt};
 ghost use Rattle.fort_walk_course.specs.Calls.{MayTry};
-ghost use Rattle.fort_plain.specs.Paths.{whole};
+ghost use Rattle.fort_plain.specs.Paths.{MarksStandIn, whole};
 ghost use Rattle.fort_plain.specs.Takes.{ActsOn, Closes, MustWait, term_round};
 
 use crate::act::Acted;
@@ -77,6 +77,7 @@ fn must_wait(
 ) -> Result<bool, Memory>
     requires ready { Ready form.now }
     requires reached { Reaches course.now.clock (frames place.now.stack) form.now }
+    requires marks { MarksStandIn (term_round course.now place.now form.now) }
     ensures { IfOk result
         (MustWait (seen (levels_of course.now.layers)) (term_round course.now place.now form.now)
         form.now) }

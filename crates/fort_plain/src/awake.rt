@@ -1,11 +1,12 @@
 //! Whether all threads of a machine sleep.
-ghost use Rattle.std.specs.Prelude.{◌≡◌, ◌↔◌, ℕ, IfOk, IsTrue, Some, []};
+ghost use Rattle.std.specs.Prelude.{◌≡◌, ◌↔◌, ℕ, IfOk, IsTrue, MatchOption, Some, []};
 ghost use Rattle.fort_machine.specs.Attempts.{Sleeps};
 ghost use Rattle.fort_machine.specs.Marked.{In};
 ghost use Rattle.fort_machine.specs.Ends.{open_yet, standing};
 ghost use Rattle.fort_frames.specs.Frames.{Reaches, frames, rebuilt};
 ghost use Rattle.fort_store_effects.specs.Levels.{levels_of, seen};
-ghost use Rattle.fort_plain.specs.Paths.{AllSleep, IsNoForm};
+ghost use Rattle.fort_frames.specs.States.{term_at};
+ghost use Rattle.fort_plain.specs.Paths.{AllSleep, IsNoForm, MarksStandIn};
 
 use crate::aside::{Out, leave_frame, node_form};
 use fort_base::{List, Loc, Memory, Shared};
@@ -29,6 +30,7 @@ pub fn all_sleep(
 ) -> Result<bool, Memory>
     requires is_open { standing form.now ≡ open_yet }
     requires reached { Reaches course.now.clock (frames place.now.stack) form.now }
+    requires marks { MarksStandIn (rebuilt course.now.clock (frames place.now.stack) form.now) }
     ensures { IfOk result
         (AllSleep (seen (levels_of course.now.layers))
         (rebuilt course.now.clock (frames place.now.stack) form.now)) }
@@ -50,7 +52,7 @@ fn whole_term(
 {
     let mut place = place;
     let mut part = form;
-    for _frame in 0..u64::MAX {
+    'frames: loop {
         if is_root(&place) {
             return Ok(part);
         }
@@ -65,7 +67,6 @@ fn whole_term(
             }
         }
     }
-    Err(Memory)
 }
 
 fn is_root(place: &Place) -> bool
@@ -78,8 +79,8 @@ fn is_root(place: &Place) -> bool
 }
 
 // From the left end of a term through its threads, as long as they sleep.
-#[tactic(auto, using(crate::proofs::Sweeping::from_left, crate::proofs::Sweeping::past_sleeper, crate::proofs::Sweeping::past_group, crate::proofs::Sweeping::thread_awake, crate::proofs::Sweeping::form_awake, crate::proofs::Sweeping::all_asleep))]
 fn sweep(alloc: Global, course: &Execution, term: Shared<Term>) -> Result<bool, Memory>
+    requires { MarksStandIn term }
     ensures { IfOk result (AllSleep (seen (levels_of course.now.layers)) term) }
 {
     let place = Place::root(alloc);
@@ -100,20 +101,27 @@ fn sweep(alloc: Global, course: &Execution, term: Shared<Term>) -> Result<bool, 
                 let at = At::Form(form);
                 state = State { place, at };
             }
-            Stop::Odd(_place, _form) => return Err(Memory),
-            Stop::Ends(at) => return none_awake(at),
+            Stop::Odd(_place, _form) => unreachable!(),
+            Stop::Ends(at) => match form_left(at) {
+                None => return Ok(true),
+                Some(form) => {
+                    let place = Place::root(alloc);
+                    let at = At::Form(form);
+                    state = State { place, at };
+                }
+            },
         }
     }
     Err(Memory)
 }
 
-// Out of a term whose threads all sleep.
-fn none_awake(at: At) -> Result<bool, Memory>
-    ensures { IfOk result (λ all. IsTrue all × IsNoForm «at») }
+// A form that is to be gone into, if one stands there.
+fn form_left(at: At) -> Option<Shared<Term>>
+    ensures { MatchOption result (IsNoForm «at») (λ form. term_at «at» ≡ form) }
 {
     match at {
-        At::Form(_term) => Err(Memory),
-        _ => Ok(true),
+        At::Form(form) => Some(form),
+        _ => None,
     }
 }
 

@@ -5,7 +5,7 @@ ghost use Rattle.fort_machine.specs.Ends.{group as group_of};
 ghost use Rattle.fort_frames.specs.Frames.{Reaches, frames, rebuilt};
 ghost use Rattle.fort_frames.specs.States.{term_at};
 ghost use Rattle.fort_frames_moves.specs.Turns.{IsGathered, IsStep, IsTry, ready_term};
-ghost use Rattle.fort_plain.specs.Paths.{IsFound, IsSought, whole};
+ghost use Rattle.fort_plain.specs.Paths.{IsFound, IsSought, MarksStandIn, whole};
 
 use crate::aside::aside;
 use fort_base::{List, Memory, Shared};
@@ -39,9 +39,10 @@ pub enum Seek {
 ///
 /// # Errors
 ///
-/// `Memory` where memory is wanting, or at a mark at an odd place, where no run comes to.
+/// `Memory` where memory is wanting.
 pub fn find(alloc: Global, clock: u64, state: State, path: &Path) -> Result<Found, Memory>
-    requires { Reaches clock (frames state.place.stack) (term_at state.«at») }
+    requires reached { Reaches clock (frames state.place.stack) (term_at state.«at») }
+    requires marks { MarksStandIn (whole clock state) }
     ensures { IfOk result (IsFound clock (whole clock state) path.now) }
 {
     let mut state = state;
@@ -56,15 +57,16 @@ pub fn find(alloc: Global, clock: u64, state: State, path: &Path) -> Result<Foun
 
 // One thread on.
 fn one_thread(alloc: Global, clock: u64, state: State, path: &Path) -> Result<Seek, Memory>
-    requires { Reaches clock (frames state.place.stack) (term_at state.«at») }
+    requires reached { Reaches clock (frames state.place.stack) (term_at state.«at») }
+    requires marks { MarksStandIn (whole clock state) }
     ensures { IfOk result (IsSought clock (whole clock state) path.now) }
 {
     match moved(alloc, clock, state)? {
         Stop::Steps(place, ready) => at_step(alloc, clock, place, ready, path),
         Stop::Tries(place, form) => at_form(alloc, clock, place, form, path),
         Stop::Groups(place, parts) => at_group(alloc, clock, place, parts),
-        Stop::Odd(_place, _form) => Err(Memory),
-        Stop::Ends(at) => ends(alloc, at),
+        Stop::Odd(_place, _form) => unreachable!(),
+        Stop::Ends(at) => Ok(ends(alloc, at)),
     }
 }
 
@@ -122,16 +124,15 @@ fn at_group(
 }
 
 // Out of the whole term: it is finished, or its other threads are to the left.
-#[tactic(auto, using(crate::proofs::Finding::value_none, crate::proofs::Finding::throw_none, crate::proofs::Finding::left_again))]
-fn ends(alloc: Global, at: At) -> Result<Seek, Memory>
-    ensures { IfOk result (λ seek. (clock : ℕ) (path : Path)
-        → IsSought clock (term_at «at») path seek) }
+#[tactic(auto, using(crate::proofs::Finding::left_again, crate::proofs::Finding::form_again))]
+fn ends(alloc: Global, at: At) -> Seek
+    ensures { (clock : ℕ) (path : Path) → IsSought clock (term_at «at») path result }
 {
     match at {
-        At::Value(_value) => Ok(Seek::Stops(Found::Nothing)),
-        At::Throw(_value) => Ok(Seek::Stops(Found::Nothing)),
-        At::Left(term) => Ok(Seek::Moves(State::of(alloc, term))),
-        At::Form(_term) => Err(Memory),
+        At::Value(_value) => Seek::Stops(Found::Nothing),
+        At::Throw(_value) => Seek::Stops(Found::Nothing),
+        At::Left(term) => Seek::Moves(State::of(alloc, term)),
+        At::Form(term) => Seek::Moves(State::of(alloc, term)),
     }
 }
 

@@ -1,11 +1,12 @@
 //! The replay of a journal.
-ghost use Rattle.std.specs.Prelude.{◌≡◌, ◌≤◌, ◌↔◌, [], IfOk, IsTrue};
+ghost use Rattle.std.specs.Prelude.{◌≡◌, ◌<◌, ◌≤◌, ◌↔◌, ℕ, [], IfOk, IsTrue};
 ghost use Rattle.fort_machine.specs.Acts.{unit};
 ghost use Rattle.fort_machine.specs.Written.{WrittenProgram};
 ghost use Rattle.fort_walk_course.specs.Courses.{IsGoing};
 ghost use Rattle.fort_store_effects.specs.Levels.{levels_of};
 ghost use Rattle.fort_plain.specs.Paths.{IsSettled};
 ghost use Rattle.fort_plain.specs.Replays.{EndsAt, EndsSo, IsNoPick, Replays};
+ghost use Rattle.fort_plain.specs.Takes.{IsCost};
 
 use crate::settled::{Settled, settle};
 use crate::take::{Taken, take};
@@ -28,8 +29,9 @@ pub enum Replayed {
 ///
 /// # Errors
 ///
-/// `Memory` where memory is wanting, or where the numbers of locations, of picks or of costs are at
-/// their end.
+/// `Memory` where memory is wanting, or where the numbers of picks are at their end; also where the
+/// journal ends out of fuel with an attempt that, without its last inner pick, costs with all
+/// before it 2 to the 64 or more.
 pub fn replay(alloc: Global, program: &Program, journal: &Journal) -> Result<Replayed, Memory>
     requires { WrittenProgram program.now }
     ensures { IfOk result (Replays program.now journal.now) }
@@ -128,7 +130,6 @@ fn run(course: Execution) -> Replayed
 
 // The pick that is next is to be legal, or an attempt that is begun, and to pass the fuel. Its
 // inner picks may go far beyond, so the fuel doesn't bind them.
-#[tactic(auto, using(crate::proofs::Ending::raised, crate::proofs::Ending::ends_out, crate::proofs::Ending::none_out, crate::proofs::Ending::covered_out))]
 fn out_of_fuel(
     alloc: Global,
     program: &Program,
@@ -149,15 +150,25 @@ fn out_of_fuel(
     let going = Going { course, state };
     match take(alloc, program, going, pick, true)? {
         Taken::Last(course, cost) => {
-            if cost <= fuel {
-                Ok(Replayed::Broken(count))
-            } else {
+            if is_over(cost, fuel) {
                 Ok(run(course))
+            } else {
+                Ok(Replayed::Broken(count))
             }
         }
         Taken::Illegal => Ok(Replayed::Broken(count)),
         Taken::Passes => Err(Memory),
-        Taken::Out(_going) => Err(Memory),
+        Taken::Out(_going) => unreachable!(),
+    }
+}
+
+// Whether what all costs is above a fuel.
+fn is_over(cost: Option<u64>, fuel: u64) -> bool
+    ensures { (n : ℕ) → IsCost n cost → IsTrue result ↔ (fuel < n) }
+{
+    match cost {
+        None => true,
+        Some(cost) => fuel < cost,
     }
 }
 

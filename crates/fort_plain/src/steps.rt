@@ -8,8 +8,9 @@ ghost use Rattle.fort_machine.specs.Written.{WrittenProgram};
 ghost use Rattle.fort_frames_moves.specs.Turns.{ready_term};
 ghost use Rattle.fort_step_acting.specs.Only.{IsDealt};
 ghost use Rattle.fort_store_effects.specs.Calls.{AreFree};
+ghost use Rattle.fort_walk_law_course.specs.Course.{NothingFrom};
 ghost use Rattle.fort_store_effects.specs.Levels.{levels_of, seen};
-ghost use Rattle.fort_plain.specs.Takes.{DoesOnly, IsThreadAt, IsTurn, StepsOn, TouchesStore, TurnsOnly};
+ghost use Rattle.fort_plain.specs.Takes.{DoesOnly, IsCost, IsThreadAt, IsTurn, StepsOn, TouchesStore, TurnsOnly};
 
 use crate::act::{Acted, Turn};
 use fort_base::{Bytes, List, Loc, Memory, Shared};
@@ -25,7 +26,7 @@ use std::alloc::Global;
 ///
 /// # Errors
 ///
-/// `Memory` where memory is wanting, or where the numbers of locations are at their end.
+/// `Memory` where memory is wanting.
 pub fn step(
     alloc: Global,
     program: &Program,
@@ -160,7 +161,7 @@ fn turns(
         return Ok(Acted::Illegal);
     }
     if turn.is_end {
-        let all = with(&course, cost)?;
+        let all = cost_with(&course, cost);
         return Ok(Acted::Last(course, all));
     }
     if !course.affords(cost) {
@@ -179,14 +180,11 @@ fn names_one(loc: Loc) -> bool
     loc.0 != 0
 }
 
-// What all costs with this.
-fn with(course: &Execution, cost: u64) -> Result<u64, Memory>
-    ensures { IfOk result (λ all. all ≡ course.now.spent + cost) }
+// What all costs with this; nothing where that is above each fuel.
+fn cost_with(course: &Execution, cost: u64) -> Option<u64>
+    ensures { IsCost (course.now.spent + cost) result }
 {
-    match course.spent().checked_add(cost) {
-        None => Err(Memory),
-        Some(all) => Ok(all),
-    }
+    course.spent().checked_add(cost)
 }
 
 fn asks(
@@ -214,7 +212,7 @@ fn asks(
         return Ok(Acted::Illegal);
     }
     if turn.is_end {
-        let all = with(&course, 1)?;
+        let all = cost_with(&course, 1);
         return Ok(Acted::Last(course, all));
     }
     if !course.affords(1) {
@@ -251,7 +249,7 @@ fn sets(
         return Ok(Acted::Illegal);
     }
     if turn.is_end {
-        let all = with(&course, 1)?;
+        let all = cost_with(&course, 1);
         return Ok(Acted::Last(course, all));
     }
     if !course.affords(1) {
@@ -285,7 +283,7 @@ fn makes_some(
         return Ok(Acted::Illegal);
     }
     if turn.is_end {
-        let all = with(&course, cost)?;
+        let all = cost_with(&course, cost);
         return Ok(Acted::Last(course, all));
     }
     if !course.affords(cost) {
@@ -299,17 +297,40 @@ fn makes_some(
     Ok(Acted::Goes(Going { course, state }))
 }
 
-// Whether so many locations from one on are below 2 to the 64, and none of them is there.
+// Whether so many locations from one on are below 2 to the 64, and none of them is there. Behind
+// all that are there none is looked for.
 fn are_free(course: &Execution, loc: Loc, count: u64) -> bool
+    requires { NothingFrom course.now.fresh (seen (levels_of course.now.layers)) }
     ensures { IsTrue result
         ↔ ((loc.0 + count ≤ 2 ^ 64) × AreFree loc.0 count (seen (levels_of course.now.layers))) }
 {
     for at in 0..count {
+        if is_behind(course, loc, at) {
+            return have_numbers(loc, count);
+        }
         if !is_free(course, loc, at) {
             return false;
         }
     }
     true
+}
+
+// Whether the location so far behind one is behind all that are there.
+fn is_behind(course: &Execution, loc: Loc, at: u64) -> bool
+    ensures { IsTrue result ↔ (course.now.fresh ≤ loc.0 + «at») }
+{
+    course.fresh() <= loc.0 as u128 + at as u128
+}
+
+// Whether so many locations from one on, one at least, are below 2 to the 64.
+fn have_numbers(loc: Loc, count: u64) -> bool
+    requires { 0 < count }
+    ensures { IsTrue result ↔ (loc.0 + count ≤ 2 ^ 64) }
+{
+    match loc.0.checked_add(count - 1) {
+        None => false,
+        Some(_last) => true,
+    }
 }
 
 // Whether the location so far behind one is below 2 to the 64, and isn't there.
@@ -375,7 +396,7 @@ fn abort_attempt(
         return Ok(Acted::Illegal);
     }
     if turn.is_end {
-        let all = with(&course, 1)?;
+        let all = cost_with(&course, 1);
         return Ok(Acted::Last(course, all));
     }
     if !course.affords(1) {

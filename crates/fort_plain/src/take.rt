@@ -2,7 +2,7 @@
 ghost use Rattle.std.specs.Prelude.{◌≡◌, ◌&&◌, ◌++◌, ◌∷◌, ◌<◌, length, slice_get, Some, [], IfOk};
 ghost use Rattle.fort_machine.specs.Written.{WrittenProgram};
 ghost use Rattle.fort_walk_course.specs.Courses.{IsGoing};
-ghost use Rattle.fort_plain.specs.Within.{GoesWithin, IsAttempt, IsHere, IsLeft, IsSourceOf, IsWithin, Takes, TakesOn};
+ghost use Rattle.fort_plain.specs.Within.{GoesWithin, IsAttempt, IsHere, IsLeft, IsSourceOf, IsWithin, LeavesLess, Takes, TakesOn};
 
 use crate::act::{Acted, Turn, act};
 use crate::attempts::close;
@@ -21,8 +21,9 @@ pub enum Taken {
     /// It costs more than what is left of the fuel.
     Passes,
     /// The last of all is legal, or begun, and isn't carried out to its end: the run with the
-    /// attempts that are open, and what all costs with it.
-    Last(Execution, u64),
+    /// attempts that are open, and what all costs with it; `None` where that is 2 to the 64 or
+    /// more, which is above each fuel.
+    Last(Execution, Option<u64>),
 }
 
 /// The picks of an attempt.
@@ -54,7 +55,7 @@ pub enum Next<'a> {
 ///
 /// # Errors
 ///
-/// `Memory` where memory is wanting, or where the numbers of locations are at their end.
+/// `Memory` where memory is wanting.
 pub fn take(
     alloc: Global,
     program: &Program,
@@ -68,17 +69,15 @@ pub fn take(
     ensures { IfOk result (Takes program.now going.course.fuel ajar going.course.picks pick.now) }
 {
     let mut next = first(alloc, program, going, pick, ajar)?;
-    for _turn in 0..u64::MAX {
+    'turns: loop {
         match next {
             Next::Goes(within) => next = go(alloc, program, within)?,
             Next::Ends(taken) => return Ok(taken),
         }
     }
-    Err(Memory)
 }
 
 // The pick itself: a step, or an attempt that begins.
-#[tactic(auto, using(crate::proofs::Taking::out_first, crate::proofs::Taking::illegal_first, crate::proofs::Taking::passes_first, crate::proofs::Taking::last_first, crate::proofs::Sources::first_source))]
 fn first<'a>(
     alloc: Global,
     program: &Program,
@@ -132,7 +131,8 @@ fn within_of<'a>(pick: &'a Pick, ajar: bool) -> Source<'a>
 fn go<'a>(alloc: Global, program: &Program, within: Within<'a>) -> Result<Next<'a>, Memory>
     requires written { WrittenProgram program.now }
     requires within { IsWithin program.now within }
-    ensures { IfOk result (GoesWithin program.now within.entry) }
+    ensures goes { IfOk result (GoesWithin program.now within.entry) }
+    ensures less { IfOk result (LeavesLess within.entry) }
 {
     let at = within.going.course.get().picks.len();
     let picks = within.source.picks;
@@ -143,7 +143,6 @@ fn go<'a>(alloc: Global, program: &Program, within: Within<'a>) -> Result<Next<'
 }
 
 // One pick within.
-#[tactic(auto, using(crate::proofs::Taking::step_within, crate::proofs::Taking::end_is_last, crate::proofs::Taking::open_within, crate::proofs::Taking::leave_within, crate::proofs::Taking::unclosed_within, crate::proofs::Taking::illegal_within, crate::proofs::Taking::passes_within, crate::proofs::Taking::last_within))]
 fn one<'a>(
     alloc: Global,
     program: &Program,
@@ -154,7 +153,8 @@ fn one<'a>(
     requires written { WrittenProgram program.now }
     requires within { IsWithin program.now within }
     requires here { IsHere within pick.now is_last }
-    ensures { IfOk result (GoesWithin program.now within.entry) }
+    ensures goes { IfOk result (GoesWithin program.now within.entry) }
+    ensures less { IfOk result (LeavesLess within.entry) }
 {
     let Within {
         going,
@@ -210,11 +210,11 @@ fn leave<'a>(going: Going, outer: List<Source<'a>>) -> Next<'a>
 }
 
 // The end of the innermost attempt, which has no more picks.
-#[tactic(auto, using(crate::proofs::Taking::last_end, crate::proofs::Taking::close_within, crate::proofs::Taking::open_end))]
 fn end<'a>(alloc: Global, program: &Program, within: Within<'a>) -> Result<Next<'a>, Memory>
     requires within { IsWithin program.now within }
     requires over { within.source.picks.now ≡ within.going.course.picks }
-    ensures { IfOk result (GoesWithin program.now within.entry) }
+    ensures goes { IfOk result (GoesWithin program.now within.entry) }
+    ensures less { IfOk result (LeavesLess within.entry) }
 {
     let Within {
         going,
@@ -227,7 +227,7 @@ fn end<'a>(alloc: Global, program: &Program, within: Within<'a>) -> Result<Next<
             state: _state,
         } = going;
         let cost = course.spent();
-        return Ok(Next::Ends(Taken::Last(course, cost)));
+        return Ok(Next::Ends(Taken::Last(course, Some(cost))));
     }
     match close(alloc, program, going)? {
         None => Ok(Next::Ends(Taken::Illegal)),

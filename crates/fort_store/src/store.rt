@@ -130,6 +130,32 @@ impl Store {
         })
     }
 
+    /// A store with the same values, beside this one, which stays as it is. What is put into one of
+    /// the two afterwards doesn't change the other. The chapter "Store and effects".
+    ///
+    /// It takes time for each value that was put since the store was last shared, and for each
+    /// range that has locations; none for any other value.
+    ///
+    /// # Errors
+    ///
+    /// `Memory` where memory is wanting, or where a value has 2^63 owners.
+    pub fn again(&self) -> Result<Store, Memory>
+        ensures { IfOk result (λ store. held store ≡ held self.now) }
+    {
+        let alloc = *self.recent.allocator();
+        let mut store = Store {
+            recent: IndexMap::new(alloc),
+            trees: share_row(alloc, &self.trees)?,
+        };
+        for i in (0..self.recent.len()).rev() {
+            let Some((loc, value)) = self.recent.get_index(i) else {
+                unreachable!()
+            };
+            store.put(Loc(*loc), value.share()?)?;
+        }
+        Ok(store)
+    }
+
     // What was put since the store was last shared goes into the trees.
     fn settle(&mut self) -> Result<(), Memory>
         ensures held { held self.new ≡ held self.old }

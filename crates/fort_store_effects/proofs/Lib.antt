@@ -5,3 +5,5 @@ pub mod Closed
 pub mod Made
 pub mod InOrder
 pub mod Taken
+pub mod Undone
+pub mod Behind

@@ -97,6 +97,15 @@ touching l c cost = record (paid cost) { cells = only_at l c }
 abbrev pub with_attempts : Levels → List Effect → Levels
 with_attempts v es = record { store = v.store; output = v.output; cost = v.cost; attempts = es }
 
+-- The attempts round the innermost one.
+abbrev pub outer_of : List Effect → List Effect
+outer_of [] = []
+outer_of (e ∷ es) = es
+
+-- The innermost attempt is undone, as if it had never begun.
+abbrev pub undone : Levels → Levels
+undone v = with_attempts v (outer_of v.attempts)
+
 -- What an attempt did, once it ended so.
 abbrev pub closing : Closing → Effect → Effect
 closing Completed d = completing d

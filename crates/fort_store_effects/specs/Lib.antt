@@ -2,3 +2,4 @@ pub mod Cells
 pub mod Levels
 pub mod Calls
 pub mod Closes
+pub mod Again

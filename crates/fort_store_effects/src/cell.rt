@@ -1,6 +1,7 @@
 //! What was done at one location.
-ghost use Rattle.std.specs.Prelude.{◌≡◌, IfOk};
+ghost use Rattle.std.specs.Prelude.{◌≡◌, IfOk, is_some, Option};
 ghost use Rattle.fort_machine.specs.Cells.{joined as cells_joined, left_at};
+ghost use Rattle.fort_core.specs.declared.value.Value.{Value as a_value};
 ghost use Rattle.fort_store_effects.specs.Cells.{cell, cell_closed, IsLeft};
 
 use fort_base::Memory;
@@ -77,7 +78,44 @@ fn first_read(
     }
 }
 
+// The first of two reads, the second of which counts only while no write stands.
+fn first_of(first: Option<Value>, is_written: bool, next: Option<Value>) -> Option<Value>
+    ensures { (now : Option a_value) → is_written ≡ is_some now
+        → result ≡ Rattle.fort_machine.specs.Cells.first_read first now next }
+{
+    match first {
+        Some(value) => Some(value),
+        None => {
+            if is_written {
+                None
+            } else {
+                next
+            }
+        }
+    }
+}
+
+// The later of two writes.
+fn last_of(first: Option<Value>, second: Option<Value>) -> Option<Value>
+    ensures { result ≡ Rattle.fort_machine.specs.Cells.later first second }
+{
+    match second {
+        None => first,
+        Some(value) => Some(value),
+    }
+}
+
 impl Cell {
+    /// The same again; `Memory` as `Value::share` answers it.
+    pub fn copy(&self) -> Result<Cell, Memory>
+        ensures { IfOk result (λ copy. copy ≡ self.now) }
+    {
+        match self {
+            Cell::Found(read, now) => Ok(Cell::Found(share_some(read)?, share_some(now)?)),
+            Cell::Made(now) => Ok(Cell::Made(share_some(now)?)),
+        }
+    }
+
     /// What was done at a location, and then a later thing; `Memory` as `Value::share` answers it.
     pub fn joined(&self, more: Cell) -> Result<Cell, Memory>
         ensures { IfOk result (λ both. cell both ≡ cells_joined (cell self.now) (cell more)) }
@@ -89,6 +127,20 @@ impl Cell {
             )),
             (Cell::Made(now), Cell::Found(_, then)) => Ok(Cell::Made(later(now, then)?)),
             (_, Cell::Made(now)) => Ok(Cell::Made(now)),
+        }
+    }
+
+    /// The same as `joined`, of a cell that is given up.
+    pub fn then(self, more: Cell) -> Cell
+        ensures { cell result ≡ cells_joined (cell self) (cell more) }
+    {
+        match (self, more) {
+            (Cell::Found(read, now), Cell::Found(next, then)) => {
+                let read = first_of(read, now.is_some(), next);
+                Cell::Found(read, last_of(now, then))
+            }
+            (Cell::Made(now), Cell::Found(_, then)) => Cell::Made(last_of(now, then)),
+            (_, Cell::Made(now)) => Cell::Made(now),
         }
     }
 

@@ -3,7 +3,7 @@ ghost use Rattle.std.specs.Prelude.{◌≡◌, ℕ, ◌+◌, ◌<◌, ◌^◌, [
 ghost use Rattle.indexmap.specs.IndexMap.{index_map_len};
 ghost use Rattle.fort_machine.specs.Effects.{FitsAll, both};
 ghost use Rattle.fort_store.specs.Held.{held};
-ghost use Rattle.fort_store_effects.specs.Levels.{IsOpen, closing as closed_by, effect_of, levels_of, root_closed, spent, text_after};
+ghost use Rattle.fort_store_effects.specs.Levels.{HasAttempt, IsOpen, closing as closed_by, effect_of, levels_of, root_closed, spent, text_after, undone};
 ghost use Rattle.fort_store_effects.specs.Closes.{Closes, JoinsAll, JoinsLast, SettlesAll, SettlesLast, SuitsAll};
 
 use crate::cell::{Cell, Closing};
@@ -170,6 +170,22 @@ impl Layers {
                 })
             }
         }
+    }
+
+    /// Undoes the innermost attempt, as if it had never begun: what it did and what it printed is
+    /// let go, and nothing is paid. It answers what the attempt had cost, without the 1 for itself;
+    /// it takes no memory.
+    pub fn undo(&mut self) -> u64
+        requires { HasAttempt (levels_of self.old).attempts }
+        ensures undone { levels_of self.new ≡ undone (levels_of self.old) }
+        ensures cost { spent (levels_of self.new) + 1 + result ≡ spent (levels_of self.old) }
+    {
+        let cost = match &self.top {
+            None => unreachable!(),
+            Some(top) => top.cost,
+        };
+        self.top = self.below.pop();
+        cost
     }
 }
 

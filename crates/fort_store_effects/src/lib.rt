@@ -2,6 +2,8 @@
 //! store. The chapter "Store and effects" of docs/MACHINE.md.
 #![tactic(auto)]
 
+mod again;
+mod append;
 mod beside;
 mod cell;
 mod close;

@@ -7,12 +7,14 @@ use Rattle.fort_frames.specs.States.{term_at}
 use Rattle.fort_frames.specs.declared.place.Place.{Place}
 use Rattle.fort_store_effects.specs.Levels.{effect_of, levels_of, seen}
 use Rattle.fort_walk_law_course.specs.Course.{Held, is_inner}
+use Rattle.fort_walk_legs.specs.Legs.{IsInReach}
 use Rattle.fort_walk_legs.proofs.Course.{course_is_in_reach}
 use Rattle.fort_walk_course.specs.declared.course.Course.{Course}
 use Rattle.fort_walk_course.specs.declared.course.Waiting.{Waiting}
 use Rattle.fort_walk_course.specs.Courses.{StandsAt, around, held, inwards}
 use Rattle.fort_walk_course.specs.Taken.{MayTakeIn}
-use Rattle.fort_walk_rounds.specs.Goes.{Goes, MayGo}
+use Rattle.fort_walk_rounds.specs.Goes.{Goes}
+use Rattle.fort_walk_rounds.proofs.Below.{leg_stays_below}
 use Rattle.fort_walk_rounds.specs.declared.leg.Leg.{Leg}
 use Rattle.fort_walk_rounds.specs.declared.leg.Room.{Room}
 use Rattle.fort_walk_turns.specs.Defined.{AlwaysOne}
@@ -39,26 +41,24 @@ is_attempt (w ∷ ws) some = inner_within ws (held w) []
 
 -- ---- its legs
 
--- legs may be taken of a form at which it stands
-pub may_go : (p : Program) (c : Course) (place : Place) (a : Term) (inner : Bool) (from : ℕ)
+-- a form at which it stands is in reach
+pub in_reach : (p : Program) (c : Course) (place : Place) (a : Term) (inner : Bool)
     → AlwaysOne p → StandsAt p c place a → has_stepped a ≡ false → inner ≡ is_inner (around c)
-    → from ≡ c.fresh → MayGo p inner (seen (levels_of c.layers)) a from
-may_go p c place a inner from one s unmarked is_inside is_from =
-    subst (λ n. MayGo p inner (seen (levels_of c.layers)) a n) (sym is_from)
-    (subst (λ i. MayGo p i (seen (levels_of c.layers)) a c.fresh) (sym is_inside) (record {
-      reach = course_is_in_reach p c.fuel (levels_of c.layers) c.picks (around c) c.clock c.fresh
-          place a one s.course unmarked;
-      nothing = s.course.nothing;
-    }))
+    → IsInReach p inner (seen (levels_of c.layers)) a
+in_reach p c place a inner one s unmarked is_inside =
+    subst (λ i. IsInReach p i (seen (levels_of c.layers)) a) (sym is_inside)
+    (course_is_in_reach p c.fuel (levels_of c.layers) c.picks (around c) c.clock c.fresh place a
+    one s.course unmarked)
 
 -- a leg within a room that the fuel covers
 pub next_leg : (p : Program) (w : Walking) (t : Term) (inner : Bool) (room : Room) (x : Leg)
     → has_stepped t ≡ false → x.picks ≢ [] → inner ≡ is_inner (around w.going.course)
-    → w.going.course.spent + room.cost ≤ w.going.course.fuel
+    → w.going.course.spent + room.cost ≤ w.going.course.fuel → room.from ≡ w.going.course.fresh
     → Goes p inner (seen (levels_of w.going.course.layers)) t room x → IsNextLeg p w t x
-next_leg p w t inner room x unmarked some is_inside covers g = record {
+next_leg p w t inner room x unmarked some is_inside covers is_from g = record {
   room = room;
   goes = subst (λ i. Goes p i (seen (levels_of w.going.course.layers)) t room x) is_inside g;
+  from = omega (arith, is_from);
   unmarked = unmarked;
   some = some;
   affords = let within = g.affords in omega (arith, within, covers);
@@ -75,5 +75,8 @@ may_take p w x h next = record {
   leg = next.goes.leg;
   some = next.some;
   bounded = next.goes.bounded;
-  below = next.goes.below;
+  below = leg_stays_below p (is_inner (around w.going.course))
+      (seen (levels_of w.going.course.layers)) (term_at w.going.state.«at») next.room x next.goes
+      (λ l high. let from = next.from in
+      h.stands.course.nothing l (omega (arith, from, high)));
 }

@@ -18,10 +18,12 @@ abbrev pub GoesOn : Program → ℕ → Round → Type 0
 GoesOn p fuel r = IsWalking p r.walking × (r.walking.going.course.fuel ≡ fuel)
 
 -- A leg of a form at which the innermost machine stands, which has steps and which the fuel covers.
+-- Its new locations have numbers that none had.
 pub record IsNextLeg (p : Program) (w : Walking) (t : Term) (x : Leg) : Type 0 where
   pub room : Room
   pub goes : Goes p (is_inner (around w.going.course)) (seen (levels_of w.going.course.layers)) t
       room x
+  pub from : w.going.course.fresh ≤ room.from
   pub unmarked : has_stepped t ≡ false
   pub some : x.picks ≢ []
   pub affords : w.going.course.spent + (effect_of x.done).cost ≤ w.going.course.fuel

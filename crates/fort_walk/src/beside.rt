@@ -150,7 +150,11 @@ fn leg_at<R: Threads + Sync, G: Gate + Sync>(
 {
     let course = walking.going.course.get();
     let whole = walking.going.state.place.path.0.is_empty();
-    let room = room_of(course, pace.cost(whole));
+    let from = match u64::try_from(course.fresh) {
+        Err(_) => return Ok(None),
+        Ok(from) => from,
+    };
+    let room = room_of(course, from, pace.cost(whole));
     let team = team_of(course, pace.workers);
     let layers = &course.layers;
     let leg = leg_of(
@@ -163,15 +167,15 @@ fn leg_at<R: Threads + Sync, G: Gate + Sync>(
 }
 
 // What the legs may cost together, and which numbers are theirs.
-fn room_of(course: &Course, share: u64) -> Room
+fn room_of(course: &Course, from: u64, share: u64) -> Room
     requires { course.now.spent ≤ course.now.fuel }
-    ensures from { result.from ≡ course.now.fresh }
+    ensures from { result.from ≡ from }
     ensures cost { course.now.spent + result.cost ≤ course.now.fuel }
 {
     let left = course.fuel - course.spent;
     Room {
-        from: course.fresh,
-        until: course.fresh.saturating_add(NUMBERS),
+        from,
+        until: from.saturating_add(NUMBERS),
         cost: if left < share { left } else { share },
     }
 }

@@ -1,20 +1,26 @@
 //! The end of a machine's term, or of a sweep through it.
-ghost use Rattle.std.specs.Prelude.{◌≡◌, ◌↔◌, ◌&&◌, ◌||◌, IfOk, IsTrue};
+ghost use Rattle.std.specs.Prelude.{◌≡◌, ◌↔◌, ◌&&◌, ◌||◌, false, IfOk, IsTrue};
 ghost use Rattle.fort_machine.specs.Acts.{unit};
 ghost use Rattle.fort_machine.specs.Attempts.{goes};
 ghost use Rattle.fort_machine.specs.Ends.{throw_of};
 ghost use Rattle.fort_frames.specs.declared.state.At.TheVariants as a_place;
-ghost use Rattle.fort_walk_course.specs.Courses.{HasCome};
+ghost use Rattle.fort_walk_course.specs.Courses.{HasCome, around};
+ghost use Rattle.fort_walk_course.specs.Calls.{KeepsForm};
 ghost use Rattle.fort_walk_turns.specs.Idles.{Follows, IsAtEndOf};
 
+use crate::pace::Pace;
 use fort_base::{Memory, Shared};
 use fort_core::{Program, Term, Value};
 use fort_frames::{At, Place, State};
 use fort_walk_course::{Execution, Going};
-use fort_walk_turns::{Next, Sweep, Walked, Walking, closed};
+use fort_walk_turns::{Next, Sweep, Walked, Walking, closed, leave};
 use std::alloc::Global;
 
 /// The whole term of the innermost machine is finished, or each thread of it was passed.
+///
+/// # Errors
+///
+/// `Memory` where memory is wanting.
 #[inline(never)]
 pub fn at_end(
     alloc: Global,
@@ -22,14 +28,15 @@ pub fn at_end(
     course: Execution,
     sweep: Sweep,
     at: At,
-) -> Result<Next, Memory>
+    pace: Pace,
+) -> Result<(Next, Pace), Memory>
     requires { IsAtEndOf program.now course sweep at }
-    ensures { IfOk result (Follows program.now course.fuel) }
+    ensures { IfOk result (λ both. Follows program.now course.fuel both.0) }
 {
     match at {
-        At::Value(value) => at_value(alloc, program, course, value),
-        At::Throw(value) => at_throw(alloc, program, course, value),
-        At::Left(term) => Ok(again(alloc, program, course, sweep, term)),
+        At::Value(value) => Ok((at_value(alloc, program, course, value)?, pace)),
+        At::Throw(value) => Ok((at_throw(alloc, program, course, value)?, pace)),
+        At::Left(term) => again(alloc, program, course, sweep, term, pace),
         At::Form(_) => Err(Memory),
     }
 }
@@ -87,8 +94,8 @@ fn is_unit(value: &Value) -> bool
     }
 }
 
-// Another sweep: from the left end of the term, where picks were taken since its last one; with
-// the sleepers, where all sleep; else nobody goes on.
+// Each thread was passed: nobody goes on; or an attempt is left whose threads all sleep; or there
+// is another sweep.
 #[inline(never)]
 fn again(
     alloc: Global,
@@ -96,14 +103,49 @@ fn again(
     course: Execution,
     sweep: Sweep,
     term: Shared<Term>,
-) -> Next
+    pace: Pace,
+) -> Result<(Next, Pace), Memory>
     requires { IsAtEndOf program.now course sweep (a_place.Left term) }
+    ensures { IfOk result (λ both. Follows program.now course.fuel both.0) }
+{
+    if all_passed(sweep) {
+        return Ok((Next::Ends(Walked::Stuck), pace));
+    }
+    if is_left(&course, sweep, pace) {
+        let spent = course.spent();
+        let walking = leave(alloc, program, course)?;
+        let cost = spent.saturating_sub(walking.going.course.spent());
+        return Ok((Next::Goes(walking), pace.left(cost)));
+    }
+    let in_vain = sweep.met_none() && !sweep.idle;
+    let pace = pace.swept(in_vain, course.turn().is_some());
+    Ok((next_sweep(alloc, program, course, sweep, term), pace))
+}
+
+// Whether the innermost machine is an attempt's that is left now.
+fn is_left(course: &Execution, sweep: Sweep, pace: Pace) -> bool
+    ensures { IsTrue result → KeepsForm (around course.now) }
+{
+    if !sweep.met_none() || !pace.leaves(course.spent()) {
+        return false;
+    }
+    course.keeps_form()
+}
+
+// From the left end of the term, where picks were taken since its last sweep; with the sleepers,
+// where all sleep.
+fn next_sweep(
+    alloc: Global,
+    program: &Program,
+    course: Execution,
+    sweep: Sweep,
+    term: Shared<Term>,
+) -> Next
+    requires ends { IsAtEndOf program.now course sweep (a_place.Left term) }
+    requires more { (sweep.idle && (sweep.stuck || sweep.wakes)) ≡ false }
     ensures { Follows program.now course.fuel result }
 {
     let _program = program;
-    if all_passed(sweep) {
-        return Next::Ends(Walked::Stuck);
-    }
     let place = Place::root(alloc);
     let at = At::Form(term);
     let state = State { place, at };

@@ -1,4 +1,4 @@
-//! When legs are taken side by side, and how long they may be.
+//! When legs are taken side by side, how long they may be, and when attempts are left.
 use fort_walk_turns::Sweep;
 
 /// What the leg of one worker may cost in the first round, and at most.
@@ -20,7 +20,13 @@ const PAUSE: u32 = 1_024;
 
 const LONGEST: u32 = 65_536;
 
-/// When the next round of legs comes, and how long they may be.
+/// How much of a run may be undone by leaving attempts: so many times what it has cost, and so much
+/// besides.
+const UNDONE: u64 = 8;
+
+const UNDONE_BESIDES: u64 = 1_048_576;
+
+/// When the next round of legs comes, how long they may be, and when attempts are left.
 ///
 /// It comes where a sweep begins anew at the left end of the term, or where a thread comes to a
 /// parallel form while nothing keeps it up: behind a round some turns, more of them behind each
@@ -28,6 +34,10 @@ const LONGEST: u32 = 65_536;
 /// its turn. The legs double with each round, so that what it takes to put a deep term together is
 /// little beside their steps. Behind one that left a thread out they are bounded by what the turns
 /// took since then, so that a thread that waits for it in a loop doesn't use up the fuel.
+///
+/// An attempt whose threads all sleep is left, and begun anew later, since only others could wake
+/// them. None is left any more once a whole sweep of the root's machine has met nobody who goes on,
+/// until a thread of it takes a pick that stands; nor where too much was undone so.
 #[derive(Clone, Copy, Debug, PartialEq, Eq)]
 pub(crate) struct Pace {
     pub workers: u32,
@@ -41,6 +51,9 @@ pub(crate) struct Pace {
     // How many turns there were since the last round, and whether it left a thread out.
     turns: u64,
     left_out: bool,
+    // Whether attempts are left, and what those that were left have cost together.
+    patient: bool,
+    undone: u64,
 }
 
 impl Pace {
@@ -54,6 +67,8 @@ impl Pace {
             share: FIRST,
             turns: 0,
             left_out: false,
+            patient: true,
+            undone: 0,
         }
     }
 
@@ -71,6 +86,30 @@ impl Pace {
             } else {
                 self.rest
             },
+            patient: self.patient || (!inner && sweep.taken > 0),
+            ..self
+        }
+    }
+
+    /// Whether attempts are left in a run that has cost so much.
+    pub fn leaves(self, spent: u64) -> bool {
+        let most = spent.saturating_mul(UNDONE).saturating_add(UNDONE_BESIDES);
+        self.patient && self.undone <= most
+    }
+
+    /// After an attempt was left, with what it had cost.
+    pub fn left(self, cost: u64) -> Pace {
+        Pace {
+            undone: self.undone.saturating_add(cost),
+            ..self
+        }
+    }
+
+    /// After a sweep in which attempts were left (`in_vain`), though nobody went on, of the root's
+    /// machine or an attempt's (`inner`).
+    pub fn swept(self, in_vain: bool, inner: bool) -> Pace {
+        Pace {
+            patient: self.patient && (inner || !in_vain),
             ..self
         }
     }

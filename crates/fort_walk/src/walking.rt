@@ -22,10 +22,10 @@ use std::alloc::Global;
 use std::thread::Threads;
 
 /// Walks a program with a fuel, to the end of a run: each thread that is awake has its turn of at
-/// most 1,024 picks, from left to right, and where nobody is awake the sleepers are tried. The
-/// declaration of a call is found by the program's tables. With several workers, parts that may go
-/// on take legs side by side between turns; the gate is told where each worker begins one. The
-/// chapters "Journals" and "Legs".
+/// most 1,024 picks, from left to right; an attempt whose threads all sleep is left, and begun anew
+/// later; and where nobody is awake the sleepers are tried. The declaration of a call is found by
+/// the program's tables. With several workers, parts that may go on take legs side by side between
+/// turns; the gate is told where each worker begins one. The chapters "Journals" and "Legs".
 ///
 /// # Errors
 ///
@@ -103,28 +103,35 @@ fn ahead<R: Threads + Sync, G: Gate + Sync>(
     if got_on {
         return Ok((Next::Goes(walking), pace));
     }
-    Ok((go(alloc, tables, walking)?, pace))
+    go(alloc, tables, walking, pace)
 }
 
 // One turn.
-fn go(alloc: Global, tables: &Tables, walking: Walking) -> Result<Next, Memory>
+fn go(alloc: Global, tables: &Tables, walking: Walking, pace: Pace) -> Result<(Next, Pace), Memory>
     requires written { WrittenProgram tables.now.program.now }
     requires tables { MayPick tables.now }
     requires one { AlwaysOne tables.now.program.now }
     requires walking { IsWalking tables.now.program.now walking }
-    ensures { IfOk result (Follows tables.now.program.now walking.going.course.fuel) }
+    ensures { IfOk result
+        (λ both. Follows tables.now.program.now walking.going.course.fuel both.0) }
 {
     let program = tables.program;
     let Walking { going, sweep } = walking;
     let Going { course, state } = going;
     match moved(alloc, course.clock(), state)? {
-        Stop::Steps(place, ready) => at_thread(alloc, tables, course, sweep, place, ready),
+        Stop::Steps(place, ready) => {
+            let next = at_thread(alloc, tables, course, sweep, place, ready)?;
+            Ok((next, pace))
+        }
         Stop::Groups(place, parts) => {
             let form = Shared::new(alloc, group(alloc, parts)?)?;
-            Ok(at_form(program, course, sweep, place, form))
+            Ok((at_form(program, course, sweep, place, form), pace))
         }
-        Stop::Tries(place, form) => at_atomic(alloc, program, course, sweep, place, form),
+        Stop::Tries(place, form) => {
+            let next = at_atomic(alloc, program, course, sweep, place, form)?;
+            Ok((next, pace))
+        }
         Stop::Odd(_place, _form) => unreachable!(),
-        Stop::Ends(at) => at_end(alloc, program, course, sweep, at),
+        Stop::Ends(at) => at_end(alloc, program, course, sweep, at, pace),
     }
 }

@@ -23,7 +23,7 @@ use Rattle.fort_walk_law_course.proofs.Passes.{completed_run, uncaught_run, step
 use Rattle.fort_walk_course.specs.declared.course.Course.{Course}
 use Rattle.fort_walk_course.specs.declared.course.Waiting.{Waiting}
 use Rattle.fort_walk_course.specs.declared.ending.Ran.{Ran}
-use Rattle.fort_walk_course.specs.Courses.{HasCome, around, inwards}
+use Rattle.fort_walk_course.specs.Courses.{HasCome, around, held, inwards}
 use Rattle.fort_walk_course.specs.Calls.{MayTry, MayAbort, PassesAt, IsEnded, IsRun}
 use Rattle.fort_walk_course.proofs.Around.{last_is_first}
 
@@ -130,9 +130,8 @@ passes_outer p fuel v picks before outer rest w clock pick next h o e b =
     subst (λ hs. PassesLast p fuel (with_attempts v h.0) picks hs clock pick)
     (last_is_first outer rest w o) h.1 in
     let out =
-    last_goes_out p fuel (with_attempts v h.0) picks
-    (record { place = w.place; mode = w.mode; body = w.body; picks = w.picks })
-    (inwards rest []) clock pick inner in (
+    last_goes_out p fuel (with_attempts v h.0) picks (held w) (inwards rest []) clock pick inner
+    in (
       out.0,
       subst (λ ps. PassesLast p fuel (with_attempts v out.0) ps (inwards rest []) clock next)
           (sym b) (subst

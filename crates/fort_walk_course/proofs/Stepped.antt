@@ -95,7 +95,7 @@ pub make_stands : (p : Program) (c n : Course) (layers : Layers) (loc above fres
     (place : Place) (b : Term) (vs : List Value) (cost : ℕ)
     → MayStep p c place loc b (making loc vs cost)
     → Adds (making loc vs cost) (levels_of c.layers) (levels_of layers) → c.spent + cost ≤ c.fuel
-    → above ≡ loc + length vs → above < 2 ^ 64 → c.fresh ≤ fresh → above ≤ fresh
+    → above ≡ loc + length vs → above ≤ 2 ^ 64 → c.fresh ≤ fresh → above ≤ fresh
     → StepsTo (record c { layers = layers; fresh = fresh }) place loc cost n → StandsAt p n place b
 make_stands p c n layers loc above fresh place b vs cost m a k f bound up over s =
     step_stands p c n layers fresh place b loc (making loc vs cost) m a k up (λ l w e. let r =

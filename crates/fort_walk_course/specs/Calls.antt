@@ -1,5 +1,5 @@
 -- Chapters "Runs", "Atomic" and "Journals": what carries a run on, and how it ends.
-use Rattle.std.specs.Prelude.{◌≡◌, ℕ, ◌+◌, ◌<◌, true, List, [], ◌∷◌, ◌++◌, Option, Some, None}
+use Rattle.std.specs.Prelude.{◌≡◌, ℕ, ◌+◌, ◌<◌, true, List, [], ◌∷◌, ◌++◌, Option, Some, None, IsSome}
 use Rattle.fort_core.specs.declared.form.Mode.{Mode}
 use Rattle.fort_core.specs.declared.form.Mode.TheVariants as mode
 use Rattle.fort_core.specs.declared.journal.Ending.{Ending}
@@ -21,13 +21,16 @@ use Rattle.fort_frames.specs.declared.place.Place.{Place}
 use Rattle.fort_frames.specs.declared.state.At.{At}
 use Rattle.fort_store_effects.specs.Calls.{Adds, AreMarks}
 use Rattle.fort_store_effects.specs.Closes.{Closes}
-use Rattle.fort_store_effects.specs.Levels.{Levels, levels_of, opened, seen}
+use Rattle.fort_store_effects.specs.Levels.{Levels, levels_of, opened, seen, spent, undone}
 use Rattle.fort_store_effects.specs.declared.cell.Closing.{Closing}
 use Rattle.fort_walk_law_course.specs.Picks.{MayBeTried}
 use Rattle.fort_walk_law_course.specs.Course.{Held, is_inner}
 use Rattle.fort_walk_law_course.specs.Ends.{HasRun}
 use Rattle.fort_walk_course.specs.Courses.{StandsAt, around}
 use Rattle.fort_walk_course.specs.declared.course.Course.{Course}
+use Rattle.fort_walk_course.specs.declared.attempts.Standing.{Standing}
+use Rattle.fort_walk_course.specs.declared.attempts.Undone.{Undone}
+use Rattle.fort_walk_course.specs.declared.course.Turn.{Turn}
 use Rattle.fort_walk_course.specs.declared.course.Waiting.{Waiting}
 use Rattle.fort_walk_course.specs.declared.ending.Ran.{Ran}
 
@@ -45,6 +48,10 @@ pub record MayTry (p : Program) (c : Course) (place : Place) (m : Mode) (body : 
   pub is_form : Form form m body
   pub bare : Bare body
   pub may : MayBeTried (seen (levels_of c.layers)) (rebuilt c.clock (frames place.stack) form) form
+
+-- It is this form.
+abbrev pub MayTryThis : Program → Course → Place → Term → Mode → Term → Type 0
+MayTryThis p c place a m body = (may : MayTry p c place m body) × (may.form ≡ a)
 
 -- A form at a place of an attempt's machine ends that machine by its step.
 pub record MayAbort (p : Program) (c : Course) (place : Place) : Type 0 where
@@ -73,18 +80,21 @@ pub record StepsTo (old : Course) (place : Place) (loc cost : ℕ) (new : Course
   pub fresh : new.fresh ≡ old.fresh
 
 -- An attempt of a form at a place begins: its machine has picked nothing, and the one round it
--- waits.
-pub record BeginsTo (old : Course) (place : Place) (m : Mode) (body : Term) (taken : ℕ)
-    (new : Course) : Type 0 where
+-- waits, with what it was before.
+pub record BeginsTo (old : Course) (place : Place) (kept : Option Term) (m : Mode) (body : Term)
+    (turn : Turn) (new : Course) : Type 0 where
   pub layers : levels_of new.layers ≡ opened (levels_of old.layers)
   pub picks : new.picks ≡ []
   pub outer : new.outer
       ≡ old.outer ++ record {
         place = place;
+        form = kept;
         mode = m;
         body = body;
+        clock = old.clock;
+        fresh = old.fresh;
         picks = old.picks;
-        taken = taken;
+        turn = turn;
       } ∷ []
   pub clock : new.clock ≡ old.clock
   pub spent : new.spent ≡ old.spent + 1
@@ -113,6 +123,38 @@ pub record ClosesTo (c : Closing) (old : Course) (new : Course × Place) : Type 
   pub spent : new.0.spent ≡ old.spent
   pub fuel : new.0.fuel ≡ old.fuel
   pub fresh : new.0.fresh ≡ old.fresh
+
+-- The form of the innermost attempt is kept.
+abbrev pub KeepsForm : List Held → Type 0
+KeepsForm [] = ⊥
+KeepsForm (h ∷ hs) = IsSome h.form
+
+-- The innermost attempt is undone: the machine that waited for it is the innermost one, and all is
+-- as it was before the attempt began.
+pub record Undoes (old new : Course) (w : Waiting) : Type 0 where
+  pub outer : old.outer ≡ new.outer ++ w ∷ []
+  pub layers : levels_of new.layers ≡ undone (levels_of old.layers)
+  pub picks : new.picks ≡ w.picks
+  pub clock : new.clock ≡ w.clock
+  pub fresh : new.fresh ≡ w.fresh
+  pub is_spent : new.spent ≡ spent (levels_of new.layers)
+  pub fuel : new.fuel ≡ old.fuel
+
+-- With the place and the form at which it began.
+pub record IsUndone (old : Course) (u : Undone) : Type 0 where
+  pub waiting : Waiting
+  pub undoes : Undoes old u.course waiting
+  pub is_place : u.place ≡ waiting.place
+  pub is_form : u.form ≡ waiting.form
+  pub is_turn : u.turn ≡ waiting.turn
+
+-- The run stands at the attempt's form, as it was kept.
+pub record Leaves (old : Course) (s : Standing) : Type 0 where
+  pub waiting : Waiting
+  pub undoes : Undoes old s.course waiting
+  pub is_place : s.place ≡ waiting.place
+  pub is_form : waiting.form ≡ Some s.form
+  pub is_turn : s.turn ≡ waiting.turn
 
 -- The innermost attempt is of a `tryatomic`, and the program has no single object to be thrown
 -- where it is aborted.

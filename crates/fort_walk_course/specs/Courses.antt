@@ -17,7 +17,16 @@ use Rattle.fort_walk_course.specs.declared.course.Waiting.{Waiting}
 
 -- A machine that waits for the end of an attempt.
 abbrev pub held : Waiting → Held
-held w = record { place = w.place; mode = w.mode; body = w.body; picks = w.picks }
+held w =
+    record {
+      place = w.place;
+      form = w.form;
+      mode = w.mode;
+      body = w.body;
+      clock = w.clock;
+      fresh = w.fresh;
+      picks = w.picks;
+    }
 
 -- Machines that wait, the innermost one first, before others.
 abbrev pub inwards : List Waiting → List Held → List Held

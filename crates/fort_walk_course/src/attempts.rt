@@ -1,17 +1,19 @@
 //! Attempts of atomic forms.
-ghost use Rattle.std.specs.Prelude.{◌≡◌, ◌≢◌, ◌+◌, ◌≤◌, ◌++◌, ◌∷◌, [], IfOk, IfSome, MatchOption};
+ghost use Rattle.std.specs.Prelude.{◌≡◌, ◌≢◌, ◌+◌, ◌≤◌, ◌++◌, ◌∷◌, [], Some, IfOk, IfSome, MatchOption};
+ghost use Rattle.fort_core.specs.declared.form.Mode.{Mode};
+ghost use Rattle.fort_core.specs.declared.term.Term.{Term};
 ghost use Rattle.fort_core.specs.declared.pick.Pick.{Attempt as an_attempt};
 ghost use Rattle.fort_machine.specs.Acts.{single as single_of};
-ghost use Rattle.fort_machine.specs.Attempts.{aborts, goes};
+ghost use Rattle.fort_machine.specs.Attempts.{Ended, aborts, goes};
 ghost use Rattle.fort_machine.specs.Ends.{throw_of};
 ghost use Rattle.fort_store_effects.specs.Levels.{HasAttempt, IsOpen, levels_of, spent as all_spent};
 ghost use Rattle.fort_core.specs.declared.pick.Pick.{Step as a_step};
 ghost use Rattle.fort_machine.specs.Runs.{location};
 ghost use Rattle.fort_walk_course.specs.Picked.{PicksAttempt, PicksNothing};
 ghost use Rattle.fort_walk_course.specs.Courses.{HasCome, IsGoing, IsWhole, around, held};
-ghost use Rattle.fort_walk_course.specs.Calls.{Aborts, BeginsTo, CannotThrow, ClosesTo, MayAbort, MayTry, StopsTo};
+ghost use Rattle.fort_walk_course.specs.Calls.{Aborts, BeginsTo, CannotThrow, ClosesTo, IsUndone, KeepsForm, Leaves, MayAbort, MayTry, MayTryThis, StopsTo};
 
-use crate::course::{Course, Going, Waiting};
+use crate::course::{Course, Going, Turn, Waiting};
 use crate::execution::Execution;
 use crate::steps::risen;
 use fort_base::{List, Loc, Memory, Shared, TypeId};
@@ -19,6 +21,32 @@ use fort_core::{CoreKind, Mode, Pick, Program, Term, Value};
 use fort_frames::{At, Place, State};
 use fort_store_effects::{Closing, Layers};
 use std::alloc::Global;
+
+/// An atomic form that is tried, how, and its body.
+#[derive(Drop)]
+pub struct Tried {
+    pub form: Shared<Term>,
+    pub mode: Mode,
+    pub body: Shared<Term>,
+}
+
+/// A run that stands at an atomic form of which an attempt was left, in the turn in which it began.
+#[derive(Drop)]
+pub struct Standing {
+    pub course: Execution,
+    pub place: Place,
+    pub form: Shared<Term>,
+    pub turn: Turn,
+}
+
+// A course before an attempt, and what was kept of the form.
+#[derive(Drop)]
+pub(crate) struct Undone {
+    pub course: Course,
+    pub place: Place,
+    pub form: Option<Shared<Term>>,
+    pub turn: Turn,
+}
 
 impl Execution {
     /// Begins an attempt of an atomic form at a place, at the cost of 1: the attempt's machine
@@ -45,12 +73,84 @@ impl Execution {
     {
         let _program = program;
         let at = At::Form(body.share()?);
-        let course = self.within(alloc, place, mode, body, taken)?;
+        let turn = Turn {
+            taken,
+            in_vain: false,
+        };
+        let course = self.within(alloc, place, None, mode, body, turn)?;
         let place = Place::root(alloc);
         Ok(Going {
             course,
             state: State { place, at },
         })
+    }
+
+    /// The same of a form that is kept, so that the attempt may be left; the walk's turn is handed
+    /// out then.
+    ///
+    /// # Errors
+    ///
+    /// `Memory` where memory is wanting.
+    pub fn enter(
+        self,
+        alloc: Global,
+        program: &Program,
+        place: Place,
+        tried: Tried,
+        turn: Turn,
+    ) -> Result<Going, Memory>
+        requires may { MayTryThis program.now self place tried.form tried.mode tried.body }
+        requires affords { self.spent + 1 ≤ self.fuel }
+        ensures going { IfOk result (IsGoing program.now) }
+        ensures whole { IfOk result (λ going. IsWhole going.state) }
+        ensures begins { IfOk result
+            (λ going. BeginsTo self place (Some tried.form) tried.mode tried.body turn
+            going.course) }
+    {
+        let _program = program;
+        let Tried { form, mode, body } = tried;
+        let at = At::Form(body.share()?);
+        let course = self.within(alloc, place, Some(form), mode, body, turn)?;
+        let place = Place::root(alloc);
+        Ok(Going {
+            course,
+            state: State { place, at },
+        })
+    }
+
+    /// The innermost attempt is left: it is undone, as if it had never begun, with what it did,
+    /// printed and cost, and the run stands at its form again.
+    ///
+    /// # Errors
+    ///
+    /// `Memory` where memory is wanting.
+    pub fn leave(self, alloc: Global, program: &Program) -> Result<Standing, Memory>
+        requires kept { KeepsForm (around self) }
+        requires come { (r : Ended) × HasCome program.now self r }
+        ensures may { IfOk result (λ standing. (m : Mode) × (body : Term)
+            × MayTryThis program.now standing.course standing.place standing.form m body) }
+        ensures left { IfOk result (Leaves self) }
+    {
+        let _program = program;
+        let undone = self.into_course().undone();
+        let Undone {
+            course,
+            place,
+            form,
+            turn,
+        } = undone;
+        match form {
+            None => unreachable!(),
+            Some(form) => {
+                let course = Execution::of(alloc, course)?;
+                Ok(Standing {
+                    course,
+                    place,
+                    form,
+                    turn,
+                })
+            }
+        }
     }
 
     /// The innermost attempt came to a value, and is completed.
@@ -129,22 +229,26 @@ impl Execution {
         self,
         alloc: Global,
         place: Place,
+        form: Option<Shared<Term>>,
         mode: Mode,
         body: Shared<Term>,
-        taken: u32,
+        turn: Turn,
     ) -> Result<Execution, Memory>
         requires { self.spent + 1 ≤ self.fuel }
-        ensures { IfOk result (BeginsTo self place mode body taken) }
+        ensures { IfOk result (BeginsTo self place form mode body turn) }
     {
         let mut course = self.into_course();
         let picks = course.picks;
         course.picks = List::new(alloc);
         course.outer.push(Waiting {
             place,
+            form,
             mode,
             body,
+            clock: course.clock,
+            fresh: course.fresh,
             picks,
-            taken,
+            turn,
         })?;
         course.layers = course.layers.open(alloc)?;
         course.spent += 1;
@@ -229,6 +333,43 @@ impl Course {
             }
         }
     }
+
+    // Before the innermost attempt.
+    fn undone(self) -> Undone
+        requires inside { self.outer ≢ [] }
+        requires open { HasAttempt (levels_of self.layers).attempts }
+        requires spent { self.spent ≡ all_spent (levels_of self.layers) }
+        ensures { IsUndone self result }
+    {
+        let mut course = self;
+        match course.outer.pop() {
+            None => unreachable!(),
+            Some(waiting) => {
+                let Waiting {
+                    place,
+                    form,
+                    mode: _,
+                    body: _body,
+                    clock,
+                    fresh,
+                    picks: before,
+                    turn,
+                } = waiting;
+                let cost = course.layers.undo();
+                course.spent -= 1;
+                course.spent -= cost;
+                course.picks = before;
+                course.clock = clock;
+                course.fresh = fresh;
+                Undone {
+                    course,
+                    place,
+                    form,
+                    turn,
+                }
+            }
+        }
+    }
 }
 
 // What an atomic form becomes whose attempt was aborted, if it becomes something.
@@ -267,10 +408,13 @@ fn with_attempt(
 {
     let Waiting {
         place,
+        form: _form,
         mode: _,
         body: _body,
+        clock: _,
+        fresh: _,
         mut picks,
-        taken: _,
+        turn: _,
     } = waiting;
     picks.push(Pick::Attempt(place.path.copy(alloc)?, within))?;
     Ok((place, picks))

@@ -1,7 +1,9 @@
 //! How far a run has come.
-ghost use Rattle.std.specs.Prelude.{◌≡◌, ◌≢◌, ◌+◌, ◌≤◌, [], nat_le, MatchOption};
+ghost use Rattle.std.specs.Prelude.{◌≡◌, ◌≢◌, ◌+◌, ◌≤◌, [], nat_le, IsTrue, MatchOption};
 ghost use Rattle.std.specs.Option.{option_copied};
 ghost use Rattle.fort_store_effects.specs.Levels.{levels_of, seen};
+ghost use Rattle.fort_walk_course.specs.Courses.{around};
+ghost use Rattle.fort_walk_course.specs.Calls.{KeepsForm};
 
 use crate::execution::Execution;
 use fort_base::{List, Loc, Shared};
@@ -9,17 +11,30 @@ use fort_core::{Mode, Pick, Term, Value};
 use fort_frames::{Place, State};
 use fort_store_effects::Layers;
 
-/// A machine that waits for the end of an attempt.
+/// How a machine goes through its threads, as far as it must be known at the end of an attempt.
+#[derive(Clone, Copy, Debug, PartialEq, Eq)]
+pub struct Turn {
+    /// How many picks the attempt's thread took before it in its turn.
+    pub taken: u32,
+    /// Whether no thread took a pick since the left end.
+    pub in_vain: bool,
+}
+
+/// A machine that waits for the end of an attempt, with what it was before the attempt.
 #[derive(Drop)]
 pub struct Waiting {
     /// Where the atomic form stands.
     pub place: Place,
+    /// The form itself, where the attempt may be left.
+    pub form: Option<Shared<Term>>,
     pub mode: Mode,
     pub body: Shared<Term>,
-    /// The picks of the machine before the attempt.
+    pub clock: u64,
+    /// No location had this number or a higher one.
+    pub fresh: u128,
+    /// The picks of the machine.
     pub picks: List<Pick>,
-    /// How many picks its thread took in its turn.
-    pub taken: u32,
+    pub turn: Turn,
 }
 
 /// All of a run but the term of its innermost machine.
@@ -36,8 +51,8 @@ pub struct Course {
     /// What the run has cost so far, each open attempt 1 besides.
     pub spent: u64,
     pub fuel: u64,
-    /// No location has this number or a higher one.
-    pub fresh: u64,
+    /// No location has this number or a higher one; it is 2 to the 64 at most.
+    pub fresh: u128,
 }
 
 /// A run that goes on, with the term of its innermost machine.
@@ -80,7 +95,17 @@ impl Course {
     {
         match self.outer.as_slice().last() {
             None => None,
-            Some(waiting) => Some(waiting.taken),
+            Some(waiting) => Some(waiting.turn.taken),
+        }
+    }
+
+    // Whether the innermost attempt may be left, since its form was kept.
+    pub(crate) fn keeps_form(&self) -> bool
+        ensures { IsTrue result → KeepsForm (around self.now) }
+    {
+        match self.outer.as_slice().last() {
+            None => false,
+            Some(waiting) => waiting.form.is_some(),
         }
     }
 }

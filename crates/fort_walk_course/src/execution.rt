@@ -1,7 +1,9 @@
 //! A run behind one pointer.
-ghost use Rattle.std.specs.Prelude.{◌≡◌, ◌≢◌, ◌+◌, [], nat_le, IfOk, MatchOption};
+ghost use Rattle.std.specs.Prelude.{◌≡◌, ◌≢◌, ◌+◌, [], nat_le, IfOk, IsTrue, MatchOption};
 ghost use Rattle.std.specs.Option.{option_copied};
 ghost use Rattle.fort_store_effects.specs.Levels.{levels_of, seen};
+ghost use Rattle.fort_walk_course.specs.Courses.{around};
+ghost use Rattle.fort_walk_course.specs.Calls.{KeepsForm};
 
 use crate::course::Course;
 use fort_base::{Boxed, Loc, Memory};
@@ -81,8 +83,9 @@ impl Execution {
         self.get().clock
     }
 
-    /// The lowest number above those of all locations.
-    pub fn fresh(&self) -> u64
+    /// The lowest number above those of all locations, which is 2 to the 64 where the location
+    /// before it is there.
+    pub fn fresh(&self) -> u128
         ensures { result ≡ self.now.fresh }
     {
         self.get().fresh
@@ -115,6 +118,14 @@ impl Execution {
         ensures { MatchOption result (self.now.outer ≡ []) (λ _. self.now.outer ≢ []) }
     {
         self.get().turn()
+    }
+
+    /// Whether the innermost machine is an attempt's that may be left, since it was begun with its
+    /// form.
+    pub fn keeps_form(&self) -> bool
+        ensures { IsTrue result → KeepsForm (around self.now) }
+    {
+        self.get().keeps_form()
     }
 
     /// The same run with another fuel.

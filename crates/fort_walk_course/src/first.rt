@@ -6,6 +6,7 @@ ghost use Rattle.fort_walk_course.specs.Picked.{PicksNone};
 
 use crate::course::{Course, Going};
 use crate::execution::Execution;
+use crate::steps::higher;
 use fort_base::{List, Loc, Memory};
 use fort_core::Program;
 use fort_frames::{At, Place, State};
@@ -17,7 +18,7 @@ impl Going {
     ///
     /// # Errors
     ///
-    /// `Memory` where memory is wanting, or where the numbers of locations are at their end.
+    /// `Memory` where memory is wanting.
     pub fn first(alloc: Global, program: &Program, fuel: u64) -> Result<Going, Memory>
         ensures going { IfOk result (IsGoing program.now) }
         ensures whole { IfOk result (λ going. IsWhole going.state) }
@@ -32,7 +33,7 @@ impl Going {
             clock: 0,
             spent: 0,
             fuel,
-            fresh: fresh_from(program)?,
+            fresh: fresh_from(program),
         };
         let course = Execution::of(alloc, course)?;
         let place = Place::root(alloc);
@@ -45,26 +46,20 @@ impl Going {
 
 // A number above those of all locations of the opening store.
 #[tactic(auto, using(crate::proofs::Before::none_from, crate::proofs::Before::one_more, crate::proofs::Before::none_yet))]
-fn fresh_from(program: &Program) -> Result<u64, Memory>
-    ensures { IfOk result (λ fresh. (l : ℕ) → fresh ≤ l → opening_store program.now l ≡ None) }
+fn fresh_from(program: &Program) -> u128
+    ensures { (l : ℕ) → result ≤ l → opening_store program.now l ≡ None }
 {
     let mut fresh = 0;
     for entry in program.opening.as_slice() {
-        fresh = past(fresh, entry.0)?;
+        fresh = past(fresh, entry.0);
     }
-    Ok(fresh)
+    fresh
 }
 
 // A number above this one's, and not below another one.
-fn past(fresh: u64, loc: Loc) -> Result<u64, Memory>
-    ensures above { IfOk result (λ next. loc.0 < next) }
-    ensures rises { IfOk result (λ next. fresh ≤ next) }
+fn past(fresh: u128, loc: Loc) -> u128
+    ensures above { loc.0 < result }
+    ensures rises { fresh ≤ result }
 {
-    if loc.0 < fresh {
-        return Ok(fresh);
-    }
-    match loc.0.checked_add(1) {
-        None => Err(Memory),
-        Some(next) => Ok(next),
-    }
+    higher(fresh, loc.0 as u128 + 1)
 }

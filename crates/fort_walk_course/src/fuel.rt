@@ -103,10 +103,13 @@ fn with_last(waiting: Waiting, within: List<Pick>, next: Pick) -> Result<(Pick, 
 {
     let Waiting {
         place,
+        form: _form,
         mode: _,
         body: _body,
+        clock: _,
+        fresh: _,
         picks,
-        taken: _,
+        turn: _,
     } = waiting;
     let Place {
         stack: _stack,

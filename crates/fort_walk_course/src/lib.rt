@@ -11,7 +11,7 @@ mod fuel;
 mod steps;
 mod take;
 
-pub use attempts::single;
-pub use course::{Course, Going, Waiting};
+pub use attempts::{Standing, Tried, single};
+pub use course::{Course, Going, Turn, Waiting};
 pub use ending::Ran;
 pub use execution::Execution;

@@ -113,7 +113,7 @@ impl Execution {
     ///
     /// # Errors
     ///
-    /// `Memory` where memory is wanting, or where the numbers of locations are at their end.
+    /// `Memory` where memory is wanting.
     pub fn make(
         self,
         alloc: Global,
@@ -125,20 +125,23 @@ impl Execution {
     ) -> Result<Execution, Memory>
         requires may { MayStep program.now self place.now self.fresh next.now
             (making self.fresh values.now cost) }
+        requires first { self.fresh < 2 ^ 64 }
+        requires bounded { self.fresh + length values.now ≤ 2 ^ 64 }
         requires affords { self.spent + cost ≤ self.fuel }
         ensures stands { IfOk result (λ course. StandsAt program.now course place.now next.now) }
         ensures fuel { IfOk result (λ course. course.fuel ≡ self.fuel) }
         ensures picks { IfOk result (PicksStep self place.now self.fresh) }
     {
-        let first = Loc(self.fresh());
+        let first = Loc(self.fresh() as u64);
         self.make_at(alloc, program, place, next, values, first, cost)
     }
 
-    /// The same from a location on, where none of the new ones is there.
+    /// The same from a location on, where none of the new ones is there; the last one may be that
+    /// of the number 2 to the 64 less 1.
     ///
     /// # Errors
     ///
-    /// `Memory` where memory is wanting, or where the numbers of locations are at their end.
+    /// `Memory` where memory is wanting.
     #[tactic(auto, using(crate::proofs::Stepped::known_spent))]
     pub fn make_at(
         self,
@@ -153,6 +156,7 @@ impl Execution {
         requires may { MayStep program.now self place.now first.0 next.now
             (making first.0 values.now cost) }
         requires free { AreFree first.0 (length values.now) (seen (levels_of self.layers)) }
+        requires bounded { first.0 + length values.now ≤ 2 ^ 64 }
         requires affords { self.spent + cost ≤ self.fuel }
         ensures stands { IfOk result (λ course. StandsAt program.now course place.now next.now) }
         ensures fuel { IfOk result (λ course. course.fuel ≡ self.fuel) }
@@ -161,7 +165,7 @@ impl Execution {
         let _program = program;
         let _next = next;
         let mut course = self;
-        let above = above(first.0, values)?;
+        let above = above(first.0, values);
         let _room = course.get().with(cost);
         let run = course.get_mut();
         run.layers.make(first, values, cost)?;
@@ -201,18 +205,14 @@ pub(crate) fn risen(clock: u64) -> Result<u64, Memory>
 }
 
 // The lowest number above those of new locations, the first of a number.
-fn above(fresh: u64, values: &List<Value>) -> Result<u64, Memory>
-    ensures sum { IfOk result (λ above. above ≡ fresh + length values.now) }
-    ensures bounded { IfOk result (λ above. above < 2 ^ 64) }
+fn above(fresh: u64, values: &List<Value>) -> u128
+    ensures { result ≡ fresh + length values.now }
 {
-    match fresh.checked_add(values.len() as u64) {
-        None => Err(Memory),
-        Some(above) => Ok(above),
-    }
+    fresh as u128 + values.len() as u128
 }
 
 // The higher one of two numbers.
-pub(crate) fn higher(one: u64, other: u64) -> u64
+pub(crate) fn higher(one: u128, other: u128) -> u128
     ensures first { one ≤ result }
     ensures second { other ≤ result }
 {

@@ -66,7 +66,7 @@ impl Execution {
         course.picks.append(all_under(alloc, &place.path, picks)?)?;
         course.clock = risen(course.clock)?;
         course.spent = spent;
-        course.fresh = higher(course.fresh, fresh);
+        course.fresh = higher(course.fresh, fresh as u128);
         Execution::of(alloc, course)
     }
 }

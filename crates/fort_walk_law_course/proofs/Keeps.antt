@@ -1,12 +1,14 @@
 -- What keeps the course of a run.
-use Rattle.std.proofs.Common.{◌≡◌, ℕ, ◌+◌, ◌<◌, ◌≤◌, true, List, [], ◌∷◌, ◌++◌, refl, arith, ap, sym, ◌∙◌, subst, le_of_lt, le_refl}
+use Rattle.std.proofs.Common.{◌≡◌, ℕ, ◌+◌, ◌<◌, ◌≤◌, true, List, [], ◌∷◌, ◌++◌, Some, refl, arith, ap, sym, ◌∙◌, subst, le_of_lt, le_refl}
+use Rattle.std.specs.Prelude.{IfSome}
 use Rattle.fort_core.specs.declared.pick.Pick.{Pick, Step, Attempt}
 use Rattle.fort_core.specs.declared.program.Program.{Program}
 use Rattle.fort_core.specs.declared.term.Term.{Term, Asleep}
 use Rattle.fort_core.specs.declared.term.Term as term
 use Rattle.fort_machine.specs.Effects.{Effect, idle, both, paid, FitsAll, afterwards}
 use Rattle.fort_machine.specs.Ends.{throw_of}
-use Rattle.fort_machine.specs.Attempts.{Ended, goes, aborts, Closes, completed, failed, gave_up, fell_asleep}
+use Rattle.fort_machine.specs.Marked.{Bare}
+use Rattle.fort_machine.specs.Attempts.{Ended, Form, goes, aborts, Closes, completed, failed, gave_up, fell_asleep}
 use Rattle.fort_machine.specs.Runs.{Runs, none, location}
 use Rattle.fort_machine.specs.Journals.{opening_store, MakesWithinBounds}
 use Rattle.fort_machine.proofs.Runs.{append, runs_fit}
@@ -18,11 +20,11 @@ use Rattle.fort_store_effects.specs.Closes as layers
 use Rattle.fort_store_effects.specs.declared.cell.Closing.{Closing}
 use Rattle.fort_store_effects.specs.declared.cell.Closing.TheVariants as closing
 use Rattle.fort_store_effects.specs.Levels as levels
-use Rattle.fort_store_effects.specs.Levels.{Levels, seen, spent, added, attempts_cost}
+use Rattle.fort_store_effects.specs.Levels.{Levels, seen, spent, added, undone, attempts_cost}
 use Rattle.fort_walk_law_course.specs.Picks.{Stage, MayBeTried}
 use Rattle.fort_walk_law_course.proofs.Picks.{step_is_next, attempt_is_pick, inner_abort_ends}
 use Rattle.fort_walk_law_course.specs.Course.{Held, base_of, AllWait, Comes, IsCourse, NothingFrom, is_inner}
-use Rattle.fort_walk_law_course.specs.Laws.{Begins, MovesKeep, StepKeeps, OpeningKeeps, AbortKeeps, CompletionKeeps, FailureKeeps, GivingUpKeeps, FallingAsleepKeeps}
+use Rattle.fort_walk_law_course.specs.Laws.{Begins, MovesKeep, StepKeeps, OpeningKeeps, LeavingKeeps, AbortKeeps, CompletionKeeps, FailureKeeps, GivingUpKeeps, FallingAsleepKeeps}
 use Rattle.fort_walk_law_course.proofs.Bounds.{both_bounded, closing_bounded, none_closed, spent_added, closing_cost}
 use Rattle.fort_walk_law_course.proofs.Store.{levels_by, store_by, seen_base, inner_is, wait_on, seen_added}
 
@@ -120,7 +122,7 @@ step_keeps p fuel v w picks ws clock later fresh fresher loc place a b e c local
     }
 
 pub opening_keeps : OpeningKeeps
-opening_keeps p fuel v picks ws clock fresh place root m a body c form bare may cost at =
+opening_keeps p fuel v picks ws clock fresh place root m a body kept c form bare may known cost at =
     let k = c.comes in
     let store : seen v ≡ store_by p k.root ws k.attempts =
     ap seen k.levels ∙ seen_base p clock k.root ws k.attempts k.waiting in
@@ -132,9 +134,10 @@ opening_keeps p fuel v picks ws clock fresh place root m a body c form bare may 
         waiting = (
           record {
             form = a;
-            clock = clock;
+            is_kept = known;
             not_later = le_refl clock;
             stage = record { runs = k.runs; reached = c.reached };
+            nothing = subst (NothingFrom fresh) store c.nothing;
             is_form = form;
             bare = bare;
             may = subst (λ s. MayBeTried s (rebuilt clock (frames place.stack) a) a) store may;
@@ -149,6 +152,49 @@ opening_keeps p fuel v picks ws clock fresh place root m a body c form bare may 
       reached = subst (λ fs. Reaches clock fs body) (sym at) tt;
       nothing = c.nothing;
     }
+
+-- an attempt is undone, in levels that are taken apart
+left_by : (p : Program) (fuel : ℕ) (v : Levels) (root : Effect) (es : List Effect) (h : Held)
+    (ws : List Held) (now : ℕ) (a : Term) → v ≡ levels_by p root es
+    → AllWait p now root (h ∷ ws) es → MakesWithinBounds root → spent v ≤ fuel → h.form ≡ Some a
+    → IsCourse p fuel (undone v) h.picks ws h.clock h.fresh h.place a × Form a h.mode h.body
+    × Bare h.body × MayBeTried (seen (undone v)) (rebuilt h.clock (frames h.place.stack) a) a
+left_by p fuel v root [] h ws now a is k m cost some = absurd k
+left_by p fuel v root (d ∷ ds) h ws now a is k m cost some =
+    let waits = k.0 in
+    let before : undone v ≡ levels_by p root ds = ap undone is in
+    let store : seen (undone v) ≡ store_by p root ws ds =
+    ap seen before ∙ seen_base p h.clock root ws ds k.2 in
+    let whole : spent v ≡ root.cost + (1 + d.cost + attempts_cost ds) = ap spent is in
+    let part : spent (undone v) ≡ root.cost + attempts_cost ds = ap spent before in
+    let same : a ≡ waits.form = subst (λ o. IfSome o (λ b. b ≡ waits.form)) some waits.is_kept in
+    subst
+    (λ b. IsCourse p fuel (undone v) h.picks ws h.clock h.fresh h.place b × Form b h.mode h.body
+    × Bare h.body × MayBeTried (seen (undone v)) (rebuilt h.clock (frames h.place.stack) b) b)
+    (sym same) (
+      record {
+        comes = record {
+          root = root;
+          attempts = ds;
+          levels = before;
+          waiting = k.2;
+          bounded = m;
+          runs = waits.stage.runs;
+          within_fuel = omega (arith, whole, part, cost);
+        };
+        reached = waits.stage.reached;
+        nothing = subst (NothingFrom h.fresh) (sym store) waits.nothing;
+      },
+      waits.is_form,
+      waits.bare,
+      subst
+          (λ s. MayBeTried s (rebuilt h.clock (frames h.place.stack) waits.form) waits.form)
+          (sym store) waits.may,
+    )
+
+pub leaving_keeps : LeavingKeeps
+leaving_keeps p fuel v picks h ws now r a c some =
+    left_by p fuel v c.root c.attempts h ws now a c.levels c.waiting c.bounded c.within_fuel some
 
 -- what was done at no location leaves the store
 same_store : (v : Levels) (p : Program) (fuel : ℕ) (picks : List Pick) (ws : List Held)
@@ -192,11 +238,11 @@ closed_by p fuel root d ds w picks h ws now later fresh r b c k m runs cost noth
     let base = base_of p root ws ds in
     let store = store_by p root ws ds in
     let e = levels.closing c d in
-    let at = rebuilt waits.clock (frames h.place.stack) waits.form in
-    let before : waits.clock < later = omega (arith, waits.not_later, rises) in
+    let at = rebuilt h.clock (frames h.place.stack) waits.form in
+    let before : h.clock < later = omega (arith, waits.not_later, rises) in
     let one : Stage p base.inner store ([] ++ Attempt h.place.path picks ∷ []) at (both idle e)
     later h.place b =
-    attempt_is_pick p base.inner h.mode store [] picks at h.body r idle d e waits.clock later
+    attempt_is_pick p base.inner h.mode store [] picks at h.body r idle d e h.clock later
     h.place waits.form b
     (record { runs = none refl refl refl; reached = waits.stage.reached }) before waits.is_form
     waits.bare waits.may runs close in
@@ -209,14 +255,14 @@ closed_by p fuel root d ds w picks h ws now later fresh r b c k m runs cost noth
     ap spent is ∙ spent_added e (levels_by p root ds) ds in
     let price : e.cost ≡ 1 + d.cost = closing_cost c d in
     let fits : FitsAll d store = runs_fit _ _ _ _ _ runs in
-    let before_it : seen (levels_by p root ds) ≡ store = seen_base p now root ws ds k.2 in
+    let before_it : seen (levels_by p root ds) ≡ store = seen_base p h.clock root ws ds k.2 in
     let left : seen w ≡ afterwards e store =
     ap seen is
-    ∙ seen_added p now root ws ds e k.2 (runs_fit _ _ _ _ _ outer) (runs_fit _ _ _ _ _ more) in
+    ∙ seen_added p h.clock root ws ds e k.2 (runs_fit _ _ _ _ _ outer) (runs_fit _ _ _ _ _ more) in
     record {
-      comes = one_more p fuel root ds w h.picks ws now later at
+      comes = one_more p fuel root ds w h.picks ws h.clock later at
           (goes (rebuilt later (frames h.place.stack) b)) (Attempt h.place.path picks) e
-          k.2 m outer more is (le_of_lt rises) (omega (arith, sum, price, cost))
+          k.2 m outer more is (le_of_lt before) (omega (arith, sum, price, cost))
           (closing_bounded c d k.1);
       reached = one.reached;
       nothing =

@@ -22,7 +22,7 @@ use Rattle.fort_walk_law_course.specs.Course.{Held, base_of, AllWait}
 use Rattle.fort_walk_law_course.specs.Ends.{HasRun, PassesLast}
 use Rattle.fort_walk_law_course.specs.Laws.{CompletedRun, UncaughtRun, StepPasses, AbortPasses, AttemptPasses, LastGoesOut, RunPasses}
 use Rattle.fort_walk_law_course.proofs.Bounds.{both_bounded, closing_bounded}
-use Rattle.fort_walk_law_course.proofs.Store.{levels_by, store_by, seen_base}
+use Rattle.fort_walk_law_course.proofs.Store.{levels_by, store_by, seen_base, wait_on}
 
 -- ---- the root's end
 
@@ -115,11 +115,11 @@ out_by : (p : Program) (fuel : ℕ) (v : Levels) (root : Effect) (es : List Effe
 out_by p fuel v root [] picks h ws now pick t e is k m runs cost next n passes = absurd k
 out_by p fuel v root (d ∷ ds) picks h ws now pick t e is k m runs cost next n passes =
     let waits = k.0 in
-    let at = rebuilt waits.clock (frames h.place.stack) waits.form in
+    let at = rebuilt h.clock (frames h.place.stack) waits.form in
     let store = store_by p root ws ds in
     let levels : with_attempts v ds ≡ levels_by p root ds = ap (λ x. with_attempts x ds) is in
-    let below : seen (with_attempts v ds) ≡ store = ap seen levels ∙ seen_base p now root ws ds k.2
-    in
+    let below : seen (with_attempts v ds) ≡ store =
+    ap seen levels ∙ seen_base p h.clock root ws ds k.2 in
     let inner : seen v ≡ afterwards d store = ap seen is ∙ seen_base p now root (h ∷ ws) (d ∷ ds) k
     in
     let whole : spent v ≡ root.cost + (1 + d.cost + attempts_cost ds) = ap spent is in
@@ -128,12 +128,12 @@ out_by p fuel v root (d ∷ ds) picks h ws now pick t e is k m runs cost next n 
     (aborting (both d e)) =
     elim next [
       | inl k1 ↦
-          attempt_is_begun p h.mode store (picks ++ pick ∷ []) h.body k1.0 (both d e) waits.clock
+          attempt_is_begun p h.mode store (picks ++ pick ∷ []) h.body k1.0 (both d e) h.clock
           h.place waits.form waits.stage.reached waits.is_form waits.bare waits.may
           (append store picks h.body (goes t) d runs t refl (pick ∷ []) k1.0 e
           (subst (λ s. Runs p true true s (pick ∷ []) t k1.0 e) inner k1.1))
       | inr k1 ↦
-          begun_within p h.mode store picks pick h.body t d e waits.clock h.place waits.form
+          begun_within p h.mode store picks pick h.body t d e h.clock h.place waits.form
           waits.stage.reached waits.is_form waits.bare waits.may runs
           (subst (λ s. Begun p true s pick t e) inner k1)
     ] in (
@@ -144,7 +144,7 @@ out_by p fuel v root (d ∷ ds) picks h ws now pick t e is k m runs cost next n 
           root = root;
           attempts = ds;
           levels = levels;
-          waiting = k.2;
+          waiting = wait_on p h.clock now root ws ds waits.not_later k.2;
           bounded = m;
           runs = waits.stage.runs;
           within_fuel = omega (arith, whole, part, cost);

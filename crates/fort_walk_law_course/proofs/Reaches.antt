@@ -20,9 +20,9 @@ begun_here p now root [] es k = at_first refl refl refl
 begun_here p now root (w ∷ ws) [] k = absurd k
 begun_here p now root (w ∷ ws) (e ∷ es) k =
     let waits = k.0 in
-    in_attempt (outward waits.clock (frames w.place.stack))
-    (by_run (begun_here p now root ws es k.2) waits.stage.runs refl)
-    (same_term waits.clock (frames w.place.stack) waits.form) waits.is_form refl
+    in_attempt (outward w.clock (frames w.place.stack))
+    (by_run (begun_here p w.clock root ws es k.2) waits.stage.runs refl)
+    (same_term w.clock (frames w.place.stack) waits.form) waits.is_form refl
 
 pub reached_here : ReachedHere
 reached_here p fuel v picks ws now t c =

@@ -26,7 +26,7 @@ pub seen_base : (p : Program) (now : ℕ) (root : Effect) (ws : List Held) (es :
 seen_base p now root [] [] k = refl
 seen_base p now root [] (e ∷ es) k = absurd k
 seen_base p now root (w ∷ ws) [] k = absurd k
-seen_base p now root (w ∷ ws) (e ∷ es) k = ap (afterwards e) (seen_base p now root ws es k.2)
+seen_base p now root (w ∷ ws) (e ∷ es) k = ap (afterwards e) (seen_base p w.clock root ws es k.2)
 
 pub inner_is : (p : Program) (now : ℕ) (root : Effect) (ws : List Held) (es : List Effect)
     → AllWait p now root ws es → (base_of p root ws es).inner ≡ is_inner ws
@@ -40,9 +40,10 @@ waits_on : (p : Program) (b : Base) (now later : ℕ) (w : Held) → now ≤ lat
 waits_on p b now later w l k =
     record {
       form = k.form;
-      clock = k.clock;
+      is_kept = k.is_kept;
       not_later = omega (arith, k.not_later, l);
       stage = k.stage;
+      nothing = k.nothing;
       is_form = k.is_form;
       bare = k.bare;
       may = k.may;
@@ -54,7 +55,7 @@ wait_on p now later root [] [] l k = k
 wait_on p now later root [] (e ∷ es) l k = absurd k
 wait_on p now later root (w ∷ ws) [] l k = absurd k
 wait_on p now later root (w ∷ ws) (e ∷ es) l k =
-    (waits_on p (base_of p root ws es) now later w l k.0, k.1, wait_on p now later root ws es l k.2)
+    (waits_on p (base_of p root ws es) now later w l k.0, k.1, k.2)
 
 -- something done more, as the levels show it
 pub seen_added : (p : Program) (now : ℕ) (root : Effect) (ws : List Held) (es : List Effect)
@@ -66,5 +67,5 @@ seen_added p now root [] [] e k f g = refl
 seen_added p now root [] (d ∷ ds) e k f g = absurd k
 seen_added p now root (w ∷ ws) [] e k f g = absurd k
 seen_added p now root (w ∷ ws) (d ∷ ds) e k f g =
-    ap (afterwards (both d e)) (seen_base p now root ws ds k.2)
+    ap (afterwards (both d e)) (seen_base p w.clock root ws ds k.2)
     ∙ afterwards_both d e (store_by p root ws ds) f g

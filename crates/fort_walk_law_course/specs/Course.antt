@@ -1,6 +1,6 @@
 -- Chapter "Runs": how far a run has come, with the attempts that are open in it. The code keeps the
 -- picks of each machine, and layers of what was done.
-use Rattle.std.specs.Prelude.{◌≡◌, ℕ, ◌≤◌, Bool, true, false, List, [], ◌∷◌, None}
+use Rattle.std.specs.Prelude.{◌≡◌, ℕ, ◌≤◌, Bool, true, false, List, [], ◌∷◌, Option, None, IfSome}
 use Rattle.fort_core.specs.declared.form.Mode.{Mode}
 use Rattle.fort_core.specs.declared.pick.Pick.{Pick}
 use Rattle.fort_core.specs.declared.program.Program.{Program}
@@ -15,12 +15,16 @@ use Rattle.fort_frames.specs.declared.place.Place.{Place}
 use Rattle.fort_store_effects.specs.Levels.{Levels, seen, spent}
 use Rattle.fort_walk_law_course.specs.Picks.{Stage, MayBeTried}
 
--- A machine that waits for the end of an attempt: where its atomic form stands, how that is tried,
--- its body, and the machine's picks before the attempt.
+-- A machine that waits for the end of an attempt: where its atomic form stands, that form, where it
+-- is kept, how it is tried, and its body; and the machine's clock, the number from which on no
+-- location is there, and its picks, all before the attempt.
 pub record Held : Type 0 where
   pub place : Place
+  pub form : Option Term
   pub mode : Mode
   pub body : Term
+  pub clock : ℕ
+  pub fresh : ℕ
   pub picks : List Pick
 
 -- A machine: whether it is an attempt's, the store and the term with which it began, and what its
@@ -47,24 +51,31 @@ base_of p d [] es = root_base p d
 base_of p d (w ∷ ws) [] = root_base p d
 base_of p d (w ∷ ws) (e ∷ es) = inside (base_of p d ws es) w e
 
+-- A store has no location of this number or a higher one.
+abbrev pub NothingFrom : ℕ → Store → Type 0
+NothingFrom n s = (l : ℕ) → n ≤ l → s l ≡ None
+
 -- A machine waits for an attempt of the atomic form at its place, which may be tried. Its clock
 -- stood still meanwhile.
 pub record Waits (p : Program) (b : Base) (now : ℕ) (w : Held) : Type 0 where
   pub form : Term
-  pub clock : ℕ
-  pub not_later : clock ≤ now
-  pub stage : Stage p b.inner b.store w.picks b.first b.done clock w.place form
+  pub is_kept : IfSome w.form (λ a. a ≡ form)
+  pub not_later : w.clock ≤ now
+  pub stage : Stage p b.inner b.store w.picks b.first b.done w.clock w.place form
+  pub nothing : NothingFrom w.fresh (afterwards b.done b.store)
   pub is_form : Form form w.mode w.body
   pub bare : Bare w.body
-  pub may : MayBeTried (afterwards b.done b.store) (rebuilt clock (frames w.place.stack) form) form
+  pub may : MayBeTried (afterwards b.done b.store)
+      (rebuilt w.clock (frames w.place.stack) form) form
 
--- So does each machine but the innermost one, each for an attempt of its own.
+-- So does each machine but the innermost one, each for an attempt of its own, and since no later
+-- time than those within it.
 abbrev pub AllWait : Program → ℕ → Effect → List Held → List Effect → Type 0
 AllWait p now d [] [] = Unit {0}
 AllWait p now d [] (e ∷ es) = ⊥
 AllWait p now d (w ∷ ws) [] = ⊥
 AllWait p now d (w ∷ ws) (e ∷ es) = Waits p (base_of p d ws es) now w × MakesWithinBounds e
-    × AllWait p now d ws es
+    × AllWait p w.clock d ws es
 
 -- The innermost machine's picks are a run of it to this end or term; the machines round it wait;
 -- the levels have what all of them did; and the fuel covers what that cost.
@@ -84,10 +95,6 @@ pub record Comes (p : Program) (fuel : ℕ) (v : Levels) (picks : List Pick) (ws
   pub runs : let b = base_of p root ws attempts
       in Runs p b.inner true b.store picks b.first r b.done
   pub within_fuel : spent v ≤ fuel
-
--- A store has no location of this number or a higher one.
-abbrev pub NothingFrom : ℕ → Store → Type 0
-NothingFrom n s = (l : ℕ) → n ≤ l → s l ≡ None
 
 -- How far a run has come: its innermost machine has come to a term that is a form at a place, which
 -- may go on; and no location is there from a number on.

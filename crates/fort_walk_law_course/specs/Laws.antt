@@ -1,6 +1,6 @@
 -- Chapters "Runs" and "Journals": what keeps the course of a run, step by step, into attempts and
 -- out of them, to its end.
-use Rattle.std.specs.Prelude.{◌≡◌, ℕ, ◌+◌, ◌<◌, ◌≤◌, List, [], ◌∷◌, ◌++◌, Some}
+use Rattle.std.specs.Prelude.{◌≡◌, ℕ, ◌+◌, ◌<◌, ◌≤◌, List, [], ◌∷◌, ◌++◌, Option, Some, IfSome}
 use Rattle.fort_core.specs.declared.form.Mode.{Mode}
 use Rattle.fort_core.specs.declared.form.Mode.TheVariants as mode
 use Rattle.fort_core.specs.declared.journal.Ending.TheVariants.{Completed, Uncaught, OutOfFuel}
@@ -15,7 +15,7 @@ use Rattle.fort_machine.specs.Acts.{enters, ends, unit, single}
 use Rattle.fort_machine.specs.Steps.{Acts, Local}
 use Rattle.fort_machine.specs.Marked.{Bare, Marks}
 use Rattle.fort_machine.specs.Written.{WrittenProgram}
-use Rattle.fort_machine.specs.Attempts.{Form, goes, aborts}
+use Rattle.fort_machine.specs.Attempts.{Form, Ended, goes, aborts}
 use Rattle.fort_machine.specs.Runs.{location}
 use Rattle.fort_machine.specs.Proper.{Reached}
 use Rattle.fort_machine.specs.Journals.{opening_store, MakesWithinBounds}
@@ -24,7 +24,7 @@ use Rattle.fort_frames.specs.declared.place.Place.{Place}
 use Rattle.fort_store_effects.specs.Calls.{Adds, AreMarks}
 use Rattle.fort_store_effects.specs.Closes as layers
 use Rattle.fort_store_effects.specs.declared.cell.Closing.TheVariants as closing
-use Rattle.fort_store_effects.specs.Levels.{Levels, seen, spent, first_levels, opened, with_attempts}
+use Rattle.fort_store_effects.specs.Levels.{Levels, seen, spent, first_levels, opened, undone, with_attempts}
 use Rattle.fort_walk_law_course.specs.Picks.{MayBeTried}
 use Rattle.fort_walk_law_course.specs.Course.{Held, Comes, IsCourse, NothingFrom, is_inner}
 use Rattle.fort_walk_law_course.specs.Ends.{HasRun, PassesLast}
@@ -52,15 +52,33 @@ StepKeeps = (p : Program) (fuel : ℕ) (v w : Levels) (picks : List Pick) (ws : 
     → clock < later → spent w ≤ fuel → MakesWithinBounds e → NothingFrom fresher (seen w)
     → IsCourse p fuel w (picks ++ Step place.path (location loc) ∷ []) ws later fresher place b
 
--- An attempt begins within: its machine is at the body, and has picked nothing.
+-- An attempt begins within: its machine is at the body, and has picked nothing. Where the form is
+-- kept it is this one.
 abbrev pub OpeningKeeps : Type 0
 OpeningKeeps = (p : Program) (fuel : ℕ) (v : Levels) (picks : List Pick) (ws : List Held)
-    (clock fresh : ℕ) (place root : Place) (m : Mode) (a body : Term)
+    (clock fresh : ℕ) (place root : Place) (m : Mode) (a body : Term) (kept : Option Term)
     → IsCourse p fuel v picks ws clock fresh place a → Form a m body → Bare body
-    → MayBeTried (seen v) (rebuilt clock (frames place.stack) a) a → spent v + 1 ≤ fuel
-    → frames root.stack ≡ []
+    → MayBeTried (seen v) (rebuilt clock (frames place.stack) a) a → IfSome kept (λ b. b ≡ a)
+    → spent v + 1 ≤ fuel → frames root.stack ≡ []
     → IsCourse p fuel (opened v) []
-    (record { place = place; mode = m; body = body; picks = picks } ∷ ws) clock fresh root body
+    (record {
+      place = place;
+      form = kept;
+      mode = m;
+      body = body;
+      clock = clock;
+      fresh = fresh;
+      picks = picks;
+    } ∷ ws) clock fresh root body
+
+-- Where an attempt's form was kept, the run without the attempt is as far as it was before: at that
+-- form, which may be tried.
+abbrev pub LeavingKeeps : Type 0
+LeavingKeeps = (p : Program) (fuel : ℕ) (v : Levels) (picks : List Pick) (h : Held)
+    (ws : List Held) (now : ℕ) (r : Ended) (a : Term)
+    → Comes p fuel v picks (h ∷ ws) now r → h.form ≡ Some a
+    → IsCourse p fuel (undone v) h.picks ws h.clock h.fresh h.place a × Form a h.mode h.body
+    × Bare h.body × MayBeTried (seen (undone v)) (rebuilt h.clock (frames h.place.stack) a) a
 
 -- A step of `abort()` ends an attempt's machine.
 abbrev pub AbortKeeps : Type 0

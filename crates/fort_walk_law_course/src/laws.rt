@@ -1,6 +1,6 @@
 //! What keeps the course of a run, and what picks at a state's place are to it.
 ghost use Rattle.fort_walk_law_course.specs.Picks.{AttemptIsBegun, AttemptIsPick, BegunWithin, InnerAbortEnds, NobodyAwake, StepIsNext, StepIsPick};
-ghost use Rattle.fort_walk_law_course.specs.Laws.{Begins, MovesKeep, StepKeeps, OpeningKeeps, AbortKeeps, CompletionKeeps, FailureKeeps, GivingUpKeeps, FallingAsleepKeeps, CompletedRun, UncaughtRun, StepPasses, AbortPasses, AttemptPasses, LastGoesOut, RunPasses, ReachedHere, BareHere};
+ghost use Rattle.fort_walk_law_course.specs.Laws.{Begins, MovesKeep, StepKeeps, OpeningKeeps, LeavingKeeps, AbortKeeps, CompletionKeeps, FailureKeeps, GivingUpKeeps, FallingAsleepKeeps, CompletedRun, UncaughtRun, StepPasses, AbortPasses, AttemptPasses, LastGoesOut, RunPasses, ReachedHere, BareHere};
 
 /// A step of the form at a state's place is the run's next pick, with the state's own path;
 /// afterwards the clock has risen.
@@ -56,6 +56,11 @@ pub fn step_keeps()
 /// An attempt begins within, at the body of its atomic form.
 pub fn opening_keeps()
     ensures { OpeningKeeps }
+{}
+
+/// A run without its innermost attempt is as far as it was before it began.
+pub fn leaving_keeps()
+    ensures { LeavingKeeps }
 {}
 
 /// A step of `abort()` ends an attempt's machine.

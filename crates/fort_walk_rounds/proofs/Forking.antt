@@ -1,5 +1,5 @@
 -- Legs of parts, as those of the form that they stand in.
-use Rattle.std.proofs.Common.{◌≡◌, ◌≢◌, ℕ, zero, suc, ◌+◌, ◌<◌, ◌≤◌, Bool, true, false, ◌&&◌, ◌||◌, List, [], ◌∷◌, ◌++◌, map, length, take, drop, slice_get, slice_set, Option, Some, None, refl, ap, sym, ◌∙◌, subst, arith}
+use Rattle.std.proofs.Common.{◌≡◌, ◌≢◌, ℕ, zero, suc, ◌+◌, ◌<◌, Bool, true, false, ◌&&◌, ◌||◌, List, [], ◌∷◌, ◌++◌, map, length, take, drop, slice_get, slice_set, Option, Some, None, refl, ap, sym, ◌∙◌, subst, arith}
 use Rattle.std.specs.Prelude.{IsTrue}
 use Rattle.fort_core.specs.declared.path.Path.{Path}
 use Rattle.fort_core.specs.declared.pick.Pick.{Pick}
@@ -27,7 +27,6 @@ use Rattle.fort_walk_legs.proofs.Legs.{leg_is_framed, leg_lifts, legs_join, no_a
 use Rattle.fort_frames_moves.specs.Turns.{IsNext, IsPart, raw_form}
 use Rattle.fort_frames_moves.specs.declared.across.Next.{Next}
 use Rattle.fort_frames_moves.proofs.Parts.{not_passed_part, open_form, part_in}
-use Rattle.fort_walk_rounds.specs.Goes.{Goes, MayGo, StaysBelow}
 use Rattle.fort_walk_rounds.specs.Parts.{IsPlain}
 
 -- the frames round a part
@@ -133,17 +132,14 @@ part_joins p inner s t h ts n u picks more d e st k whole leg some fits =
     (part_leg p inner (afterwards d s) h ts n u more e st k
     (leg_is_framed p inner s (afterwards d s) n.part u more e leg fits) some)
 
--- a part of a form of which legs may be taken
-pub part_may : (p : Program) (inner : Bool) (s : Store) (t : Term) (h : Head) (ts : List Term)
-    (n : Next) (from own : ℕ) → IsTrue (suits h ts) → raw_form h ts ≡ t → IsPlain ts n
-    → from ≤ own → MayGo p inner s t from → MayGo p inner s n.part own
-part_may p inner s t h ts n from own st is k up may = record {
-  reach = part_is_in_reach p inner (round h ts n) s n.part (round_passed h ts n st k.next)
-      k.unmarked
-      (subst (IsInReach p inner s)
-      (sym (round_part h ts n st k.next ∙ sym (open_form h ts n k.next) ∙ is)) may.reach);
-  nothing = λ l high. may.nothing l (omega (arith, up, high));
-}
+-- a part of a form that is in reach
+pub part_reach : (p : Program) (inner : Bool) (s : Store) (t : Term) (h : Head) (ts : List Term)
+    (n : Next) → IsTrue (suits h ts) → raw_form h ts ≡ t → IsPlain ts n → IsInReach p inner s t
+    → IsInReach p inner s n.part
+part_reach p inner s t h ts n st is k reach =
+    part_is_in_reach p inner (round h ts n) s n.part (round_passed h ts n st k.next) k.unmarked
+    (subst (IsInReach p inner s)
+    (sym (round_part h ts n st k.next ∙ sym (open_form h ts n k.next) ∙ is)) reach)
 
 -- ---- forms that go from left to right
 
@@ -198,10 +194,8 @@ order_leg p inner s f t u picks d h m leg =
     (subst (λ ps. IsLeg p inner s (on (frame_of f) t) ps (plug (round_after picks fs) u) d) path
     lifted)
 
-pub order_may : (p : Program) (inner : Bool) (s : Store) (f : Frame) (t : Term) (from : ℕ)
-    → IsInOrder f → has_stepped t ≡ false → MayGo p inner s (on (frame_of f) t) from
-    → MayGo p inner s t from
-order_may p inner s f t from h m may = record {
-  reach = part_is_in_reach p inner (frame_of f ∷ []) s t (order_passed f t h) m may.reach;
-  nothing = may.nothing;
-}
+pub order_reach : (p : Program) (inner : Bool) (s : Store) (f : Frame) (t : Term)
+    → IsInOrder f → has_stepped t ≡ false → IsInReach p inner s (on (frame_of f) t)
+    → IsInReach p inner s t
+order_reach p inner s f t h m reach =
+    part_is_in_reach p inner (frame_of f ∷ []) s t (order_passed f t h) m reach

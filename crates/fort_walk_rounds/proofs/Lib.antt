@@ -8,3 +8,4 @@ pub mod Taking
 pub mod Turning
 pub mod Wholly
 pub mod Within
+pub mod Below

@@ -4,22 +4,21 @@ use Rattle.fort_core.specs.declared.program.Program.{Program}
 use Rattle.fort_core.specs.declared.term.Term.{Term}
 use Rattle.fort_machine.specs.Effects.{Store}
 use Rattle.fort_frames_moves.specs.declared.across.Next.{Next}
-use Rattle.fort_walk_rounds.specs.Goes.{MayGo}
+use Rattle.fort_walk_legs.specs.Legs.{IsInReach}
 use Rattle.fort_walk_rounds.specs.Parts.{IsNode, IsPlain}
-use Rattle.fort_walk_rounds.specs.Wholes.{AreLegs, GoesWithin, IsOpenWhole, IsWholeOf, OthersStay, PartsMayGo, WasPlain}
+use Rattle.fort_walk_rounds.specs.Wholes.{AreLegs, GoesWithin, IsOpenWhole, IsWholeOf, OthersStay, PartsInReach, WasPlain}
 use Rattle.fort_walk_rounds.specs.declared.leg.Room.{Room}
 use Rattle.fort_walk_rounds.specs.declared.node.ParallelForm.{ParallelForm}
 use Rattle.fort_walk_rounds.specs.declared.whole.Found.{Found}
 use Rattle.fort_walk_rounds.specs.declared.whole.Whole.{Whole}
-use Rattle.fort_walk_rounds.proofs.Sides.{side_may}
+use Rattle.fort_walk_rounds.proofs.Sides.{side_reach}
 
 -- ---- what is asked
 
 -- of each part of a form of which it may be asked
-pub parts_may : (p : Program) (inner : Bool) (s : Store) (t : Term) (node : ParallelForm)
-    (from : ℕ) → IsNode t node → MayGo p inner s t from → PartsMayGo p inner s node.parts from
-parts_may p inner s t node from is may = λ n plain.
-    side_may p inner s t node node.parts n from from is refl plain (omega arith) may
+pub parts_reach : (p : Program) (inner : Bool) (s : Store) (t : Term) (node : ParallelForm)
+    → IsNode t node → IsInReach p inner s t → PartsInReach p inner s node.parts
+parts_reach p inner s t node is reach = λ n plain. side_reach p inner s t node n is plain reach
 
 -- ---- a row of legs
 

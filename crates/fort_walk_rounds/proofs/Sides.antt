@@ -6,16 +6,16 @@ use Rattle.fort_machine.specs.Effects.{Store}
 use Rattle.fort_machine.specs.Frames.{on}
 use Rattle.fort_frames.specs.Frames.{frame_of}
 use Rattle.fort_store_effects.specs.Levels.{effect_of}
-use Rattle.fort_walk_legs.specs.Legs.{IsLeg}
+use Rattle.fort_walk_legs.specs.Legs.{IsInReach, IsLeg}
 use Rattle.fort_frames_moves.specs.declared.across.Next.{Next}
-use Rattle.fort_walk_rounds.specs.Goes.{Goes, MayGo}
+use Rattle.fort_walk_rounds.specs.Goes.{Goes}
 use Rattle.fort_walk_rounds.specs.Parts.{IsGoing, IsNode, IsPlain}
 use Rattle.fort_walk_rounds.specs.Wholes.{GoesWithin}
 use Rattle.fort_walk_rounds.specs.declared.leg.Leg.{Leg}
 use Rattle.fort_walk_rounds.specs.declared.leg.Room.{Room}
 use Rattle.fort_walk_rounds.specs.declared.node.InOrder.{InOrder}
 use Rattle.fort_walk_rounds.specs.declared.node.ParallelForm.{ParallelForm}
-use Rattle.fort_walk_rounds.proofs.Forking.{order_leg, order_may, part_may}
+use Rattle.fort_walk_rounds.proofs.Forking.{order_leg, order_reach, part_reach}
 
 -- the leg of a form that goes from left to right
 pub around_goes : (p : Program) (inner : Bool) (s : Store) (room : Room) (t : Term) (f : InOrder)
@@ -44,20 +44,19 @@ around_goes p inner s room t f leg u h g is =
       from = g.from;
     }
 
--- its first part may go on
-pub inside_may : (p : Program) (inner : Bool) (s : Store) (t : Term) (f : InOrder) (from : ℕ)
-    → IsGoing t f → MayGo p inner s t from → MayGo p inner s f.part from
-inside_may p inner s t f from h may =
-    order_may p inner s f.frame f.part from h.in_order h.unmarked
-    (subst (λ v. MayGo p inner s v from) (sym h.is_form) may)
+-- its first part is in reach
+pub inside_reach : (p : Program) (inner : Bool) (s : Store) (t : Term) (f : InOrder)
+    → IsGoing t f → IsInReach p inner s t → IsInReach p inner s f.part
+inside_reach p inner s t f h reach =
+    order_reach p inner s f.frame f.part h.in_order h.unmarked
+    (subst (IsInReach p inner s) (sym h.is_form) reach)
 
--- so may a part of a parallel form, with a room of its own
-pub side_may : (p : Program) (inner : Bool) (s : Store) (t : Term) (node : ParallelForm)
-    (ts : List Term) (n : Next) (from own : ℕ) → IsNode t node → ts ≡ node.parts → IsPlain ts n
-    → from ≤ own → MayGo p inner s t from → MayGo p inner s n.part own
-side_may p inner s t node ts n from own is same plain up may =
-    part_may p inner s t node.head node.parts n from own is.suits is.is_form
-    (subst (λ us. IsPlain us n) same plain) up may
+-- so is a part of a parallel form
+pub side_reach : (p : Program) (inner : Bool) (s : Store) (t : Term) (node : ParallelForm)
+    (n : Next) → IsNode t node → IsPlain node.parts n → IsInReach p inner s t
+    → IsInReach p inner s n.part
+side_reach p inner s t node n is plain reach =
+    part_reach p inner s t node.head node.parts n is.suits is.is_form plain reach
 
 -- a leg within a room of its own
 pub goes_within : (p : Program) (inner : Bool) (s : Store) (t : Term) (room own : Room) (leg : Leg)

@@ -99,7 +99,7 @@ flags_on p inner s room x place a b c h = record {
   bounded = h.bounded;
   below = h.below;
   from = h.from;
-  may = h.may;
+  reach = h.reach;
 }
 
 -- the same form stands there where no further step is taken

@@ -1,5 +1,5 @@
 -- A step more of a leg.
-use Rattle.std.proofs.Common.{◌≡◌, ℕ, ◌+◌, ◌<◌, ◌≤◌, ◌^◌, ◌==◌, if◌then◌else◌, Bool, true, false, List, [], ◌∷◌, ◌++◌, length, Option, Some, None, refl, ap, sym, ◌∙◌, subst, arith, rules}
+use Rattle.std.proofs.Common.{◌≡◌, ℕ, ◌+◌, ◌<◌, ◌≤◌, ◌^◌, Bool, true, false, List, [], ◌∷◌, ◌++◌, length, Option, Some, None, refl, ap, sym, ◌∙◌, subst, arith}
 use Rattle.std.specs.Prelude.{IsSome}
 use Rattle.fort_core.specs.declared.pick.Pick.{Pick, Step}
 use Rattle.fort_core.specs.declared.pick.Pick.TheVariants.{outs-Step}
@@ -8,33 +8,34 @@ use Rattle.fort_core.specs.declared.term.Term.{Term}
 use Rattle.fort_core.specs.declared.term.Term as term
 use Rattle.fort_core.specs.declared.value.Value.{Value}
 use Rattle.fort_machine.specs.Acts as acts
-use Rattle.fort_machine.specs.Cells.{untouched, found, made, Fits}
-use Rattle.fort_machine.specs.Effects.{Store, Effect, FitsAll, afterwards, both, printed, reading, writing, making, only_at, made_from}
+use Rattle.fort_machine.specs.Cells.{found, Fits}
+use Rattle.fort_machine.specs.Effects.{Store, Effect, FitsAll, afterwards, both, printed, reading, writing, making}
 use Rattle.fort_machine.specs.Journals.{MakesWithinBounds}
 use Rattle.fort_machine.specs.Marked.{Bare}
 use Rattle.fort_machine.specs.Runs.{location}
 use Rattle.fort_machine.specs.Steps.{Acts, Local, steps, or_unit}
 use Rattle.fort_machine.specs.Written.{WrittenProgram}
 use Rattle.fort_machine.proofs.Effects.{made_in_row}
+use Rattle.fort_machine.proofs.Plain.{makes_plainly}
 use Rattle.fort_frames.specs.declared.place.Place.{Place}
+use Rattle.fort_store_effects.specs.Calls.{AreFree}
 use Rattle.fort_store_effects.specs.Levels.{effect_of}
 use Rattle.fort_walk_law_course.specs.Picks.{Stage}
 use Rattle.fort_walk_law_course.proofs.Picks.{step_is_pick}
-use Rattle.fort_walk_law_course.specs.Course.{NothingFrom}
 use Rattle.fort_walk_law_course.proofs.Bounds.{both_bounded}
-use Rattle.fort_walk_legs.specs.Legs.{AreSteps, IsStepOf}
+use Rattle.fort_walk_legs.specs.Legs.{AreSteps, IsInReach, IsStepOf}
 use Rattle.fort_walk_legs.proofs.Legs.{steps_append}
-use Rattle.fort_walk_rounds.specs.Goes.{MayGo, StaysBelow}
+use Rattle.fort_walk_rounds.specs.Goes.{MakesBelow}
 use Rattle.fort_walk_rounds.specs.Stretches.{IsOn, IsPicked, MayTake}
 use Rattle.fort_walk_rounds.specs.declared.leg.Room.{Room}
 use Rattle.fort_walk_rounds.specs.declared.stretch.Stretch.{Stretch}
-use Rattle.fort_walk_rounds.proofs.Within.{body_is_bare, both_below, made_fits, made_past, none_behind, one_fits, only_below, there_below}
+use Rattle.fort_walk_rounds.proofs.Within.{body_is_bare, both_below, none_made, one_fits}
 
 -- what a step does beside: with which locations, in what room
 pub record Adds (room : Room) (x : Stretch) (s : Store) (fresh : ℕ) (e : Effect) : Type 0 where
   pub fits : FitsAll e (afterwards (effect_of x.done) s)
   pub up : x.fresh ≤ fresh
-  pub below : StaysBelow fresh e
+  pub below : MakesBelow fresh e
   pub bounded : MakesWithinBounds e
   pub affords : (effect_of x.done).cost + e.cost ≤ room.cost
 
@@ -60,8 +61,8 @@ takes p inner s room x mid y place loc b e m adds done picks first clock h =
     sym (h.picks ∙ ap (λ ps. ps ++ Step place.path (location loc) ∷ []) picks) in
     let same_first : x.first ≡ y.first = sym (h.first ∙ first) in
     let effect : both d e ≡ effect_of y.done = sym (ap effect_of h.done ∙ done) in
-    let below : StaysBelow y.fresh (both d e) =
-    subst (λ n. StaysBelow n (both d e)) (sym h.fresh)
+    let below : MakesBelow y.fresh (both d e) =
+    subst (λ n. MakesBelow n (both d e)) (sym h.fresh)
     (both_below x.fresh mid.fresh d e adds.up on.below adds.below) in (
       record {
         stage =
@@ -75,10 +76,10 @@ takes p inner s room x mid y place loc b e m adds done picks first clock h =
             (one_step place loc));
         affords = subst (λ c. c.cost ≤ room.cost) effect adds.affords;
         bounded = subst MakesWithinBounds effect (both_bounded d e on.bounded adds.bounded);
-        below = subst (StaysBelow y.fresh) effect below;
+        below = subst (MakesBelow y.fresh) effect below;
         from = let up = adds.up in let old = on.from in let same = h.fresh in
             omega (arith, up, old, same);
-        may = subst (λ t. MayGo p inner s t room.from) same_first on.may;
+        reach = subst (IsInReach p inner s) same_first on.reach;
       },
       sym same_first,
     )
@@ -129,76 +130,48 @@ pub prints_adds : (room : Room) (x : Stretch) (s : Store) (text : List ℕ) (cos
 prints_adds room x s text cost k = record {
   fits = λ l. tt;
   up = omega arith;
-  below = λ l high. refl;
+  below = λ l v e. let q = e in cc;
   bounded = λ l v e. let q = e in cc;
   affords = k;
 }
 
-one_made : (l : ℕ) (r w v : Option Value) (k : ℕ) → only_at l (found r w) k ≡ made v → k < 2 ^ 64
-one_made l r w v k e = go (l == k) e
-  where
-    go : (b : Bool) → (if b then found r w else untouched) ≡ made v → k < 2 ^ 64
-    go true q = absurd cc
-    go false q = absurd cc
-
-pub reads_adds : (p : Program) (inner : Bool) (s : Store) (room : Room) (x : Stretch)
-    (place : Place) (b : Term) (l : ℕ) (v : Value)
-    → MayTake p inner s room x place 0 b (reading l v)
+pub reads_adds : (room : Room) (x : Stretch) (s : Store) (l : ℕ) (v : Value)
     → afterwards (effect_of x.done) s l ≡ Some v → (effect_of x.done).cost + 1 ≤ room.cost
     → Adds room x s x.fresh (reading l v)
-reads_adds p inner s room x place b l v m there k =
-    let on = m.on in
-    record {
-      fits = one_fits l (Some v) None (afterwards (effect_of x.done) s)
-          (subst (Fits (found (Some v) None)) (sym there) refl);
-      up = omega arith;
-      below = only_below l x.fresh (found (Some v) None)
-          (there_below (effect_of x.done) s room.from x.fresh on.may.nothing on.from on.below l v
-          there);
-      bounded = λ i w e. one_made l (Some v) None w i e;
-      affords = k;
-    }
+reads_adds room x s l v there k = record {
+  fits = one_fits l (Some v) None (afterwards (effect_of x.done) s)
+      (subst (Fits (found (Some v) None)) (sym there) refl);
+  up = omega arith;
+  below = λ i w e. absurd (none_made l (Some v) None w i e);
+  bounded = λ i w e. absurd (none_made l (Some v) None w i e);
+  affords = k;
+}
 
 found_there : (v : Value) (o : Option Value) → IsSome o → Fits (found None (Some v)) o
 found_there v None h = let z : false ≡ true = h in cc
 found_there v (Some w) h = tt
 
-some_there : (o : Option Value) → IsSome o → (w : Value) × (o ≡ Some w)
-some_there None h = let z : false ≡ true = h in absurd cc
-some_there (Some w) h = (w, refl)
-
-pub writes_adds : (p : Program) (inner : Bool) (s : Store) (room : Room) (x : Stretch)
-    (place : Place) (b : Term) (l : ℕ) (v : Value)
-    → MayTake p inner s room x place 0 b (writing l v)
+pub writes_adds : (room : Room) (x : Stretch) (s : Store) (l : ℕ) (v : Value)
     → IsSome (afterwards (effect_of x.done) s l) → (effect_of x.done).cost + 1 ≤ room.cost
     → Adds room x s x.fresh (writing l v)
-writes_adds p inner s room x place b l v m there k =
-    let on = m.on in
-    let w = some_there (afterwards (effect_of x.done) s l) there in
-    record {
-      fits = one_fits l None (Some v) (afterwards (effect_of x.done) s)
-          (found_there v (afterwards (effect_of x.done) s l) there);
-      up = omega arith;
-      below = only_below l x.fresh (found None (Some v))
-          (there_below (effect_of x.done) s room.from x.fresh on.may.nothing on.from on.below l w.0
-          w.1);
-      bounded = λ i o e. one_made l None (Some v) o i e;
-      affords = k;
-    }
+writes_adds room x s l v there k = record {
+  fits = one_fits l None (Some v) (afterwards (effect_of x.done) s)
+      (found_there v (afterwards (effect_of x.done) s l) there);
+  up = omega arith;
+  below = λ i w e. absurd (none_made l None (Some v) w i e);
+  bounded = λ i w e. absurd (none_made l None (Some v) w i e);
+  affords = k;
+}
 
-pub makes_adds : (p : Program) (inner : Bool) (s : Store) (room : Room) (x : Stretch)
-    (place : Place) (b : Term) (vs : List Value) (cost : ℕ)
-    → MayTake p inner s room x place x.fresh b (making x.fresh vs cost)
+pub makes_adds : (room : Room) (x : Stretch) (s : Store) (vs : List Value) (cost : ℕ)
+    → AreFree x.fresh (length vs) (afterwards (effect_of x.done) s)
     → x.fresh + length vs ≤ 2 ^ 64 → (effect_of x.done).cost + cost ≤ room.cost
     → Adds room x s (x.fresh + length vs) (making x.fresh vs cost)
-makes_adds p inner s room x place b vs cost m bound k =
-    let on = m.on in
-    record {
-      fits = made_fits x.fresh vs (afterwards (effect_of x.done) s)
-          (none_behind (effect_of x.done) s room.from x.fresh on.may.nothing on.from on.below);
-      up = omega arith;
-      below = λ l high. made_past x.fresh vs l high;
-      bounded = λ i w e. let r = made_in_row x.fresh vs i w e in let high = r.1
-          in omega (arith, bound, high);
-      affords = k;
-    }
+makes_adds room x s vs cost free bound k = record {
+  fits = (makes_plainly x.fresh vs cost (afterwards (effect_of x.done) s)).0.1 free;
+  up = omega arith;
+  below = λ i w e. (made_in_row x.fresh vs i w e).1;
+  bounded = λ i w e. let r = made_in_row x.fresh vs i w e in let high = r.1
+      in omega (arith, bound, high);
+  affords = k;
+}

@@ -11,8 +11,8 @@ use Rattle.fort_frames.specs.States.{term_at, Stands}
 use Rattle.fort_frames.specs.declared.place.Place.{Place}
 use Rattle.fort_frames.specs.declared.state.State.{State}
 use Rattle.fort_store_effects.specs.Levels.{effect_of}
-use Rattle.fort_walk_legs.specs.Legs.{AreSteps}
-use Rattle.fort_walk_rounds.specs.Goes.{MayGo, StaysBelow}
+use Rattle.fort_walk_legs.specs.Legs.{AreSteps, IsInReach}
+use Rattle.fort_walk_rounds.specs.Goes.{MakesBelow}
 use Rattle.fort_walk_rounds.specs.Stretches.{IsFirst, IsOn, IsWhole}
 use Rattle.fort_walk_rounds.specs.declared.leg.Room.{Room}
 use Rattle.fort_walk_rounds.specs.declared.stretch.Stretch.{Stretch}
@@ -20,9 +20,9 @@ use Rattle.fort_walk_rounds.specs.declared.stretch.Stretch.{Stretch}
 -- before the first step
 pub begins : (p : Program) (inner : Bool) (s : Store) (room : Room) (x : Stretch) (t : Term)
     (state : State) → IsFirst t room.from x → Stands x.clock t state
-    → MayGo p inner s t room.from
+    → IsInReach p inner s t
     → IsOn p inner s room x state.place (term_at state.«at»)
-begins p inner s room x t state h st may =
+begins p inner s room x t state h st reach =
     let none_spent : 0 ≤ room.cost = omega arith in
     let now = goes (rebuilt x.clock (frames state.place.stack) (term_at state.«at»)) in
     record {
@@ -35,9 +35,9 @@ begins p inner s room x t state h st may =
       steps = subst AreSteps (sym h.picks) tt;
       affords = subst (λ (d : Effect). d.cost ≤ room.cost) (sym h.done) none_spent;
       bounded = subst MakesWithinBounds (sym h.done) (λ l v e. let q = e in cc);
-      below = subst (StaysBelow x.fresh) (sym h.done) (λ l high. refl);
+      below = subst (MakesBelow x.fresh) (sym h.done) (λ l v e. let q = e in cc);
       from = let same = h.fresh in omega (arith, same);
-      may = subst (λ u. MayGo p inner s u room.from) (sym h.first) may;
+      reach = subst (IsInReach p inner s) (sym h.first) reach;
     }
 
 -- at another place of the same term
@@ -57,7 +57,7 @@ moves_on p inner s room x old new a b h is reached =
       bounded = h.bounded;
       below = h.below;
       from = h.from;
-      may = h.may;
+      reach = h.reach;
     }
 
 -- out of the whole part

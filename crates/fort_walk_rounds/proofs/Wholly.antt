@@ -21,7 +21,7 @@ use Rattle.fort_walk_legs.specs.Legs.{AreSteps, IsLeg}
 use Rattle.fort_frames_moves.specs.Turns.{IsNext, IsPart}
 use Rattle.fort_frames_moves.specs.declared.across.Next.{Next}
 use Rattle.fort_frames_moves.proofs.Parts.{open_form}
-use Rattle.fort_walk_rounds.specs.Goes.{StaysBelow}
+use Rattle.fort_walk_rounds.specs.Goes.{MakesBelow}
 use Rattle.fort_walk_rounds.specs.Parts.{IsNode, IsPlain}
 use Rattle.fort_walk_rounds.specs.Wholes.{GoesWithin, IsOpenWhole, IsWholeOf, OthersStay, WasPlain}
 use Rattle.fort_walk_rounds.specs.declared.leg.Leg.{Leg}
@@ -63,7 +63,7 @@ begins_whole p inner s t room node x is done picks fresh head parts = λ n plain
       leg = no_leg p inner s t (form_of x.head x.parts) x.picks (effect_of x.done) picks same done;
       affords = subst (λ (d : Effect). d.cost ≤ room.cost) (sym done) (omega arith);
       bounded = subst MakesWithinBounds (sym done) (λ l v e. let q = e in cc);
-      below = subst (StaysBelow x.fresh) (sym done) (λ l high. refl);
+      below = subst (MakesBelow x.fresh) (sym done) (λ l v e. let q = e in cc);
       from = omega (arith, fresh);
     }
 
@@ -140,9 +140,9 @@ joins p inner s t room x y n leg w plain g some fits affords done picks head par
       leg = joins_leg p inner s t room x y n leg w plain own.leg some fits done picks head parts;
       affords = subst (λ (made : Effect). made.cost ≤ room.cost) (sym done) affords;
       bounded = subst MakesWithinBounds (sym done) (both_bounded d e w.bounded own.bounded);
-      below = subst (StaysBelow y.fresh) (sym done)
-          (both_below x.fresh y.fresh d e up w.below
-          (λ l high. own.below l (omega (arith, over, high))));
+      below = subst (MakesBelow y.fresh) (sym done)
+          (both_below x.fresh y.fresh d e up w.below (λ l v made. let low = own.below l v made in
+          omega (arith, over, low)));
       from = omega (arith, low, up);
     }
 

@@ -3,7 +3,7 @@ use Rattle.std.specs.Prelude.{◌≡◌, ℕ, ◌+◌, ◌<◌, ◌≤◌, Bool,
 use Rattle.fort_core.specs.declared.pick.Pick.{Step}
 use Rattle.fort_core.specs.declared.program.Program.{Program}
 use Rattle.fort_core.specs.declared.term.Term.{Term}
-use Rattle.fort_machine.specs.Effects.{Store, Effect, idle}
+use Rattle.fort_machine.specs.Effects.{Store, Effect, afterwards, idle}
 use Rattle.fort_machine.specs.Journals.{MakesWithinBounds}
 use Rattle.fort_machine.specs.Runs.{location}
 use Rattle.fort_machine.specs.Steps.{Local, or_unit}
@@ -12,10 +12,11 @@ use Rattle.fort_frames.specs.declared.place.Place.{Place}
 use Rattle.fort_step_deal.specs.declared.deal.Deal.{Deal}
 use Rattle.fort_step_deal.specs.declared.deal.Deal.TheVariants as deal
 use Rattle.fort_step_deal.specs.Deals.{making_cost, new_values}
+use Rattle.fort_store_effects.specs.Calls.{AreFree}
 use Rattle.fort_store_effects.specs.Levels.{effect_of}
 use Rattle.fort_walk_law_course.specs.Picks.{Stage}
-use Rattle.fort_walk_legs.specs.Legs.{AreSteps, IsLeg}
-use Rattle.fort_walk_rounds.specs.Goes.{Goes, MayGo, StaysBelow}
+use Rattle.fort_walk_legs.specs.Legs.{AreSteps, IsInReach, IsLeg}
+use Rattle.fort_walk_rounds.specs.Goes.{Goes, MakesBelow}
 use Rattle.fort_walk_rounds.specs.declared.leg.Room.{Room}
 use Rattle.fort_walk_rounds.specs.declared.stretch.Stretch.{Stretch}
 use Rattle.fort_walk_rounds.specs.declared.stretch.Turned.{Turned}
@@ -43,9 +44,9 @@ pub record IsOn (p : Program) (inner : Bool) (s : Store) (room : Room) (x : Stre
   pub steps : AreSteps x.picks
   pub affords : (effect_of x.done).cost ≤ room.cost
   pub bounded : MakesWithinBounds (effect_of x.done)
-  pub below : StaysBelow x.fresh (effect_of x.done)
+  pub below : MakesBelow x.fresh (effect_of x.done)
   pub from : room.from ≤ x.fresh
-  pub may : MayGo p inner s x.first room.from
+  pub reach : IsInReach p inner s x.first
 
 -- The steps so far are a leg within the room, and have led to this term.
 pub record IsWhole (p : Program) (inner : Bool) (s : Store) (room : Room) (x : Stretch)
@@ -53,7 +54,7 @@ pub record IsWhole (p : Program) (inner : Bool) (s : Store) (room : Room) (x : S
   pub leg : IsLeg p inner s x.first x.picks u (effect_of x.done)
   pub affords : (effect_of x.done).cost ≤ room.cost
   pub bounded : MakesWithinBounds (effect_of x.done)
-  pub below : StaysBelow x.fresh (effect_of x.done)
+  pub below : MakesBelow x.fresh (effect_of x.done)
   pub from : room.from ≤ x.fresh
 
 -- A form at a place may take this step.
@@ -69,15 +70,19 @@ price (deal.Turns t output cost) = cost
 price (deal.Makes m) = making_cost m
 price _ = 1
 
--- The numbers behind the new locations of a deal are within a room.
-abbrev pub HasNumbers : ℕ → ℕ → Deal → Type 0
-HasNumbers fresh until (deal.Makes m) = fresh + length (or_unit (new_values m)) ≤ until
-HasNumbers fresh until _ = Unit {0}
+-- So many numbers from one on are within a room, and a store has no location with one of them.
+abbrev pub AreLeft : Store → ℕ → ℕ → ℕ → Type 0
+AreLeft s fresh count until = (fresh + count ≤ until) × AreFree fresh count s
 
--- There is room for what a deal costs, and for what it makes.
-pub record HasRoom (room : Room) (x : Stretch) (d : Deal) : Type 0 where
+-- So are those of the new locations of a deal.
+abbrev pub HasNumbers : Store → ℕ → ℕ → Deal → Type 0
+HasNumbers s fresh until (deal.Makes m) = AreLeft s fresh (length (or_unit (new_values m))) until
+HasNumbers s fresh until _ = Unit {0}
+
+-- There is room for what a deal costs, and for what it makes behind what was done so far.
+pub record HasRoom (s : Store) (room : Room) (x : Stretch) (d : Deal) : Type 0 where
   pub affords : (effect_of x.done).cost + price d ≤ room.cost
-  pub numbers : HasNumbers x.fresh room.until d
+  pub numbers : HasNumbers (afterwards (effect_of x.done) s) x.fresh room.until d
 
 -- What comes next: the leg goes on, or it is whole.
 abbrev pub Follows : Program → Bool → Store → Term → Room → Turned → Type 0

@@ -6,9 +6,9 @@ use Rattle.fort_machine.specs.Effects.{Store}
 use Rattle.fort_machine.specs.Journals.{MakesWithinBounds}
 use Rattle.fort_store_effects.specs.Levels.{effect_of}
 use Rattle.fort_frames.specs.Heads.{form_of, suits}
-use Rattle.fort_walk_legs.specs.Legs.{IsLeg}
+use Rattle.fort_walk_legs.specs.Legs.{IsInReach, IsLeg}
 use Rattle.fort_frames_moves.specs.declared.across.Next.{Next}
-use Rattle.fort_walk_rounds.specs.Goes.{Goes, MayGo, StaysBelow}
+use Rattle.fort_walk_rounds.specs.Goes.{Goes, MakesBelow}
 use Rattle.fort_walk_rounds.specs.Parts.{IsPlain}
 use Rattle.fort_walk_rounds.specs.declared.leg.Leg.{Leg}
 use Rattle.fort_walk_rounds.specs.declared.leg.Room.{Room}
@@ -22,7 +22,7 @@ pub record IsWholeOf (p : Program) (inner : Bool) (s : Store) (t : Term) (room :
   pub leg : IsLeg p inner s t x.picks (form_of x.head x.parts) (effect_of x.done)
   pub affords : (effect_of x.done).cost ≤ room.cost
   pub bounded : MakesWithinBounds (effect_of x.done)
-  pub below : StaysBelow x.fresh (effect_of x.done)
+  pub below : MakesBelow x.fresh (effect_of x.done)
   pub from : room.from ≤ x.fresh
 
 -- So it is where one of the parts may go on.
@@ -53,6 +53,6 @@ AreLegs p inner s parts room from (f ∷ fs) = IsPlain parts f.next × (from ≤
     × GoesWithin p inner s f.next.part room f.leg
     × AreLegs p inner s parts room (f.next.«at» + 1) fs
 
--- Legs may be taken of each part that may go on.
-abbrev pub PartsMayGo : Program → Bool → Store → List Term → ℕ → Type 0
-PartsMayGo p inner s parts from = (n : Next) → IsPlain parts n → MayGo p inner s n.part from
+-- Each part that may go on is in reach.
+abbrev pub PartsInReach : Program → Bool → Store → List Term → Type 0
+PartsInReach p inner s parts = (n : Next) → IsPlain parts n → IsInReach p inner s n.part

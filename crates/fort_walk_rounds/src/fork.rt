@@ -4,11 +4,12 @@ ghost use Rattle.std.specs.Thread.{IsSync};
 ghost use Rattle.fort_machine.specs.Written.{WrittenProgram};
 ghost use Rattle.fort_disp.specs.Rows.{MayPick};
 ghost use Rattle.fort_store_effects.specs.Levels.{levels_of, seen};
-ghost use Rattle.fort_walk_rounds.specs.Goes.{Goes, MayGo};
+ghost use Rattle.fort_walk_legs.specs.Legs.{IsInReach};
+ghost use Rattle.fort_walk_rounds.specs.Goes.{Goes};
 ghost use Rattle.fort_walk_rounds.specs.Parts.{IsGoing};
-ghost use Rattle.fort_walk_rounds.specs.Wholes.{AreLegs, PartsMayGo};
+ghost use Rattle.fort_walk_rounds.specs.Wholes.{AreLegs, PartsInReach};
 
-use crate::leaf::leaf;
+use crate::in_turn::leaf;
 use crate::leg::{Leg, Room, Team};
 use crate::node::{InOrder, in_order, open_count, open_from, parallel, past};
 use crate::whole::{Found, Whole};
@@ -46,8 +47,7 @@ pub fn leg_of<R: Threads + Sync, G: Gate + Sync>(
 ) -> Result<Leg, Memory>
     requires written { WrittenProgram tables.now.program.now }
     requires tables { MayPick tables.now }
-    requires may { MayGo tables.now.program.now inner (seen (levels_of view.now)) part.now
-        room.from }
+    requires reach { IsInReach tables.now.program.now inner (seen (levels_of view.now)) part.now }
     ensures { IfOk result
         (Goes tables.now.program.now inner (seen (levels_of view.now)) part.now room) }
 {
@@ -102,8 +102,8 @@ fn row<R: Threads + Sync, G: Gate + Sync>(
 ) -> Result<List<Found>, Memory>
     requires written { WrittenProgram tables.now.program.now }
     requires tables { MayPick tables.now }
-    requires may { PartsMayGo tables.now.program.now inner (seen (levels_of view.now)) parts.now
-        room.from }
+    requires reach { PartsInReach tables.now.program.now inner (seen (levels_of view.now))
+        parts.now }
     requires deep { 1 ≤ depth }
     ensures { IfOk result
         (AreLegs tables.now.program.now inner (seen (levels_of view.now)) parts.now room from) }
@@ -161,10 +161,9 @@ fn both<R: Threads + Sync, G: Gate + Sync>(
 ) -> Result<(Leg, List<Found>), Memory>
     requires written { WrittenProgram tables.now.program.now }
     requires tables { MayPick tables.now }
-    requires own { MayGo tables.now.program.now inner (seen (levels_of view.now)) part.now
-        own.from }
-    requires others { PartsMayGo tables.now.program.now inner (seen (levels_of view.now)) parts.now
-        rest.from }
+    requires own { IsInReach tables.now.program.now inner (seen (levels_of view.now)) part.now }
+    requires others { PartsInReach tables.now.program.now inner (seen (levels_of view.now))
+        parts.now }
     requires deep { 1 ≤ depth }
     requires some { 1 ≤ own_team.workers }
     ensures { IfOk result (λ legs.
@@ -175,7 +174,7 @@ fn both<R: Threads + Sync, G: Gate + Sync>(
     let own_leg = move || -> Result<Leg, Memory>
         requires { IsSync R.row × IsSync G.row × WrittenProgram tables.now.program.now
             × MayPick tables.now
-            × MayGo tables.now.program.now inner (seen (levels_of view.now)) part.now own.from
+            × IsInReach tables.now.program.now inner (seen (levels_of view.now)) part.now
             × (1 ≤ depth) }
         ensures { IfOk result
             (Goes tables.entry.now.program.now inner (seen (levels_of view.entry.now))
@@ -197,8 +196,7 @@ fn both<R: Threads + Sync, G: Gate + Sync>(
     let other_legs = move || -> Result<List<Found>, Memory>
         requires { IsSync R.row × IsSync G.row × WrittenProgram tables.now.program.now
             × MayPick tables.now
-            × PartsMayGo tables.now.program.now inner (seen (levels_of view.now)) parts.now
-            rest.from
+            × PartsInReach tables.now.program.now inner (seen (levels_of view.now)) parts.now
             × (1 ≤ depth) }
         ensures { IfOk result
             (AreLegs tables.entry.now.program.now inner (seen (levels_of view.entry.now))
@@ -225,8 +223,7 @@ fn alone<G: Gate>(
 ) -> Result<Leg, Memory>
     requires written { WrittenProgram tables.now.program.now }
     requires tables { MayPick tables.now }
-    requires may { MayGo tables.now.program.now inner (seen (levels_of view.now)) part.now
-        room.from }
+    requires reach { IsInReach tables.now.program.now inner (seen (levels_of view.now)) part.now }
     ensures { IfOk result
         (Goes tables.now.program.now inner (seen (levels_of view.now)) part.now room) }
 {

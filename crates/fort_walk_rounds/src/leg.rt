@@ -15,7 +15,7 @@ pub struct Leg {
     pub picks: List<Pick>,
     /// What the part has become.
     pub term: Shared<Term>,
-    /// They touched no location with this number or a higher one.
+    /// They made no location with this number or a higher one.
     pub fresh: u64,
     /// Whether an open thread was left out, other than for want of room in the leg: it stands at an
     /// atomic form, say.

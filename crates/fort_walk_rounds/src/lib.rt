@@ -3,7 +3,8 @@
 #![tactic(auto)]
 
 mod fork;
-mod leaf;
+mod in_turn;
+mod laws;
 mod leg;
 mod node;
 mod steps;
@@ -12,5 +13,7 @@ mod whole;
 mod wide;
 
 pub use fork::leg_of;
+pub use in_turn::leaf;
+pub use laws::leg_stays_below;
 pub use leg::{Leg, Room, Team};
 pub use wide::is_wide;

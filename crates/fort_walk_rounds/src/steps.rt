@@ -1,5 +1,5 @@
 //! The step of a thread.
-ghost use Rattle.std.specs.Prelude.{◌≡◌, ◌+◌, ◌≤◌, false, length, IfOk, IsSome, IsTrue, Some};
+ghost use Rattle.std.specs.Prelude.{◌≡◌, ◌+◌, ◌<◌, ◌≤◌, ◌^◌, false, length, IfOk, IsSome, IsTrue, None, Some};
 ghost use Rattle.std.specs.Option.{option_copied};
 ghost use Rattle.fort_core.specs.declared.term.Term as a_term;
 ghost use Rattle.fort_step_deal.specs.Deals.{making_cost, made_by as term_of, new_values as values_of};
@@ -9,12 +9,13 @@ ghost use Rattle.fort_machine.specs.Attempts.{Ready as IsReady};
 ghost use Rattle.fort_machine.specs.Effects.{afterwards, making, printed, reading, writing};
 ghost use Rattle.fort_machine.specs.Steps.{Acts, or_unit};
 ghost use Rattle.fort_machine.specs.Written.{WrittenProgram};
+ghost use Rattle.fort_store_effects.specs.Calls.{AreFree};
 ghost use Rattle.fort_store_effects.specs.Levels.{effect_of, levels_of, seen};
 ghost use Rattle.fort_frames_moves.specs.Turns.{IsMade, ready_term};
 ghost use Rattle.fort_step_acting.specs.Only.{IsDealt};
-ghost use Rattle.fort_walk_rounds.specs.Stretches.{Follows, HasRoom, IsOn, MayTake, price};
+ghost use Rattle.fort_walk_rounds.specs.Stretches.{AreLeft, Follows, HasRoom, IsOn, MayTake, price};
 
-use crate::leaf::left_out;
+use crate::in_turn::left_out;
 use crate::leg::Room;
 use crate::stretch::{Stretch, Turned};
 use fort_base::{Bytes, List, Loc, Memory, Shared};
@@ -26,15 +27,16 @@ use fort_step_deal::{Deal, Goes, Makes};
 use fort_store_effects::Layers;
 use std::alloc::Global;
 
-/// Whether there is no room for what a deal costs, or makes.
-pub(crate) fn wants_room(deal: &Deal, stretch: &Stretch, room: Room) -> bool
-    ensures { (result ≡ false) → HasRoom room stretch.now deal.now }
+/// Whether there is no room for what a deal costs, or makes behind what was done so far.
+pub(crate) fn wants_room(deal: &Deal, stretch: &Stretch, view: &Layers, room: Room) -> bool
+    ensures { (result ≡ false)
+        → HasRoom (seen (levels_of view.now)) room stretch.now deal.now }
 {
     if !stretch.affords(room, price_of(deal)) {
         return true;
     }
     match deal {
-        Deal::Makes(makes) => !has_numbers(stretch.fresh, makes_count(makes), room.until),
+        Deal::Makes(makes) => !has_numbers(stretch, view, makes_count(makes), room.until),
         _ => false,
     }
 }
@@ -50,14 +52,39 @@ fn price_of(deal: &Deal) -> u64
     }
 }
 
-// Whether so many numbers from one on are left.
-fn has_numbers(first: u64, count: u64, until: u64) -> bool
-    ensures { IsTrue result → first + count ≤ until }
+// Whether so many numbers are left, and no location has one of them.
+fn has_numbers(stretch: &Stretch, view: &Layers, count: u64, until: u64) -> bool
+    ensures { IsTrue result
+        → AreLeft (afterwards (effect_of stretch.now.done) (seen (levels_of view.now)))
+        stretch.now.fresh count until }
 {
-    match first.checked_add(count) {
+    match stretch.fresh.checked_add(count) {
         None => false,
-        Some(behind) => behind <= until,
+        Some(behind) => behind <= until && are_free(stretch, view, count),
     }
+}
+
+// Whether no location has one of so many numbers.
+fn are_free(stretch: &Stretch, view: &Layers, count: u64) -> bool
+    requires { stretch.now.fresh + count < 2 ^ 64 }
+    ensures { IsTrue result
+        → AreFree stretch.now.fresh count
+        (afterwards (effect_of stretch.now.done) (seen (levels_of view.now))) }
+{
+    for next in 0..count {
+        if is_there(stretch, view, stretch.fresh + next) {
+            return false;
+        }
+    }
+    true
+}
+
+// Whether there is a location of a number.
+fn is_there(stretch: &Stretch, view: &Layers, number: u64) -> bool
+    ensures { (result ≡ false)
+        → (afterwards (effect_of stretch.now.done) (seen (levels_of view.now)) number ≡ None) }
+{
+    stretch.done.look(view, Loc(number)).is_some()
 }
 
 /// What a thread's form does is done; what can't be done beside the run isn't.
@@ -78,7 +105,7 @@ pub(crate) fn take(
     requires thread { IsReady (ready_term ready) }
     requires made { IsMade ready }
     requires dealt { IsDealt program.now (ready_term ready) deal }
-    requires room { HasRoom room stretch deal }
+    requires room { HasRoom (seen (levels_of view.now)) room stretch deal }
     ensures { IfOk result
         (Follows program.now inner (seen (levels_of view.now)) stretch.first room) }
 {
@@ -116,7 +143,7 @@ fn touches(
         (ready_term ready) }
     requires made { IsMade ready }
     requires dealt { IsDealt program.now (ready_term ready) deal }
-    requires room { HasRoom room stretch deal }
+    requires room { HasRoom (seen (levels_of view.now)) room stretch deal }
     ensures { IfOk result
         (Follows program.now inner (seen (levels_of view.now)) stretch.first room) }
 {
@@ -363,6 +390,8 @@ fn makes_some(
         (making stretch.fresh (or_unit (values_of makes)) (making_cost makes)) }
     requires affords { (effect_of stretch.done).cost + making_cost makes ≤ room.cost }
     requires numbers { stretch.fresh + length (or_unit (values_of makes)) ≤ room.until }
+    requires free { AreFree stretch.fresh (length (or_unit (values_of makes)))
+        (afterwards (effect_of stretch.done) (seen (levels_of view.now))) }
     ensures { IfOk result
         (Follows program.now inner (seen (levels_of view.now)) stretch.first room) }
 {

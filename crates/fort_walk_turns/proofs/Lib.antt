@@ -8,3 +8,4 @@ pub mod Giving
 pub mod Begins
 pub mod Dealing
 pub mod Running
+pub mod Leaving

@@ -1,5 +1,5 @@
 -- Attempts of a walk.
-use Rattle.std.proofs.Common.{◌≡◌, ◌≢◌, Bool, true, false, List, [], ◌∷◌, refl, ap, ◌⊎◌, inl, inr}
+use Rattle.std.proofs.Common.{◌≡◌, ◌≢◌, Bool, true, false, List, [], ◌∷◌, refl, ap, sym, subst, ◌⊎◌, inl, inr}
 use Rattle.std.specs.Prelude.{◌↔◌, IsTrue}
 use Rattle.fort_core.specs.declared.form.Mode.{Mode}
 use Rattle.fort_core.specs.declared.program.Program.{Program}
@@ -18,7 +18,8 @@ use Rattle.fort_walk_law_course.specs.Course.{Held, is_inner}
 use Rattle.fort_walk_law_course.proofs.Reaches.{bare_here}
 use Rattle.fort_walk_course.specs.declared.course.Course.{Course}
 use Rattle.fort_walk_course.specs.Courses.{StandsAt, around}
-use Rattle.fort_walk_course.specs.Calls.{MayTry, MayAbort}
+use Rattle.fort_walk_course.specs.Calls.{MayTry, MayTryThis, MayAbort}
+use Rattle.fort_walk_course.specs.declared.attempts.Tried.{Tried}
 use Rattle.fort_walk_course.proofs.Around.{around_some}
 use Rattle.fort_walk_turns.specs.declared.sweep.Sweep.{Sweep}
 use Rattle.fort_walk_turns.specs.Idles.{IsAtPlace, IsAtThread, Rests}
@@ -46,6 +47,19 @@ may_try p c w place a m body written h f may = record {
       h.stands.course).1 m body f;
   may = try_awake p c w place a h may;
 }
+
+-- the form that is tried is this one
+pub may_try_this : (p : Program) (c : Course) (w : Sweep) (place : Place) (a : Term) (m : Mode)
+    (body : Term) (t : Tried) → t.form ≡ a → t.mode ≡ m → t.body ≡ body → WrittenProgram p
+    → IsAtPlace p c w place a → Form a m body
+    → (w.wakes ≡ true) ⊎ (Sleeps (seen (levels_of c.layers)) a → ⊥)
+    → MayTryThis p c place t.form t.mode t.body
+unfolding may_try
+may_try_this p c w place a m body t ef em eb written h f may =
+    subst (λ x. MayTryThis p c place x t.mode t.body) (sym ef)
+    (subst (λ x. MayTryThis p c place a x t.body) (sym em)
+    (subst (λ x. MayTryThis p c place a m x) (sym eb)
+    (may_try p c w place a m body written h f may, refl)))
 
 first_inner : (hs : List Held) (g : Held) (gs : List Held) → hs ≡ g ∷ gs → is_inner hs ≡ true
 first_inner hs g gs e = ap is_inner e

@@ -4,7 +4,7 @@ ghost use Rattle.fort_core.specs.declared.form.Mode.{Mode};
 ghost use Rattle.fort_core.specs.declared.term.Term.{Term};
 ghost use Rattle.fort_core.specs.declared.value.Value.{Value};
 ghost use Rattle.fort_machine.specs.Acts as acts;
-ghost use Rattle.fort_machine.specs.Attempts.{Form, Sleeps};
+ghost use Rattle.fort_machine.specs.Attempts.{Ended, Form, Sleeps};
 ghost use Rattle.fort_machine.specs.Effects.{printed};
 ghost use Rattle.fort_machine.specs.Ends.{throw_of};
 ghost use Rattle.fort_machine.specs.Marked.{In};
@@ -12,9 +12,11 @@ ghost use Rattle.fort_machine.specs.Steps.{Acts};
 ghost use Rattle.fort_machine.specs.Written.{WrittenProgram};
 ghost use Rattle.fort_store_effects.specs.Levels.{levels_of, seen};
 ghost use Rattle.fort_frames_moves.specs.Turns.{IsMade, ready_term};
-ghost use Rattle.fort_walk_course.specs.Calls.{MayAbort, MayStep, MayTry};
+ghost use Rattle.fort_walk_course.specs.Courses.{HasCome, around};
+ghost use Rattle.fort_walk_course.specs.Calls.{KeepsForm, MayAbort, MayStep, MayTryThis};
 ghost use Rattle.fort_step_acting.specs.Only.{OnlyDoes};
 ghost use Rattle.fort_walk_turns.specs.Idles.{Follows, IsAtPlace, IsAtThread, Rests};
+ghost use Rattle.fort_walk_turns.specs.declared.next.Next.TheVariants as nexts;
 
 use crate::next::{Next, Walking, closed, left};
 use crate::sweep::Sweep;
@@ -22,9 +24,9 @@ use crate::threads::turns;
 use crate::walked::Walked;
 use fort_base::{List, Loc, Memory, Shared};
 use fort_core::{Mode, Program, Term, Value};
-use fort_frames::Place;
+use fort_frames::{At, Place, State};
 use fort_frames_moves::Ready;
-use fort_walk_course::{Execution, single};
+use fort_walk_course::{Execution, Going, Standing, Tried, single};
 use std::alloc::Global;
 
 /// An atomic form is tried, or it sleeps, or its turn is over.
@@ -49,10 +51,29 @@ pub fn at_atomic(
         return Ok(left(program, course, sweep.passed(), place, form));
     }
     match form.get() {
-        Term::Atomic(mode, body) => begin(alloc, program, course, sweep, place, *mode, body),
-        Term::Asleep(_, body) => { begin(alloc, program, course, sweep, place, Mode::Atomic, body) }
+        Term::Atomic(mode, body) => {
+            let tried = to_try(&form, *mode, body)?;
+            begin(alloc, program, course, sweep, place, tried)
+        }
+        Term::Asleep(_, body) => {
+            let tried = to_try(&form, Mode::Atomic, body)?;
+            begin(alloc, program, course, sweep, place, tried)
+        }
         _ => unreachable!(),
     }
+}
+
+// The form as it is tried.
+fn to_try(form: &Shared<Term>, mode: Mode, body: &Shared<Term>) -> Result<Tried, Memory>
+    ensures form { IfOk result (λ tried. tried.form ≡ form.now) }
+    ensures mode { IfOk result (λ tried. tried.mode ≡ mode) }
+    ensures body { IfOk result (λ tried. tried.body ≡ body.now) }
+{
+    Ok(Tried {
+        form: form.share()?,
+        mode,
+        body: body.share()?,
+    })
 }
 
 // Whether a form sleeps, and isn't tried.
@@ -104,21 +125,47 @@ fn begin(
     course: Execution,
     sweep: Sweep,
     place: Place,
-    mode: Mode,
-    body: &Shared<Term>,
+    tried: Tried,
 ) -> Result<Next, Memory>
     requires written { WrittenProgram program.now }
-    requires may { MayTry program.now course place mode body.now }
+    requires may { MayTryThis program.now course place tried.form tried.mode tried.body }
     ensures { IfOk result (Follows program.now course.fuel) }
 {
     if !course.affords(1) {
-        let ran = course.end_at_attempt(alloc, program, &place, mode, body)?;
+        let ran = course.end_at_attempt(alloc, program, &place, tried.mode, &tried.body)?;
         return Ok(Next::Ends(Walked::Ran(ran)));
     }
-    let body = body.share()?;
-    let going = course.begin(alloc, program, place, mode, body, sweep.taken)?;
+    let going = course.enter(alloc, program, place, tried, sweep.turn())?;
     let sweep = Sweep::new(false);
     Ok(Next::Goes(Walking { going, sweep }))
+}
+
+/// The innermost attempt is left, since none of its threads goes on: it is undone, and the sweep of
+/// the machine round it goes on behind its form. Where that sleeps it was tried since nobody is
+/// awake there, and so are the other sleepers.
+///
+/// # Errors
+///
+/// `Memory` where memory is wanting.
+#[inline(never)]
+pub fn leave(alloc: Global, program: &Program, course: Execution) -> Result<Walking, Memory>
+    requires kept { KeepsForm (around course) }
+    requires come { (r : Ended) × HasCome program.now course r }
+    ensures { IfOk result (λ walking. Follows program.now course.fuel (nexts.Goes walking)) }
+{
+    let Standing {
+        course,
+        place,
+        form,
+        turn,
+    } = course.leave(alloc, program)?;
+    let wakes = sleeps(&course, form.get());
+    let at = At::Left(form);
+    let state = State { place, at };
+    Ok(Walking {
+        going: Going { course, state },
+        sweep: Sweep::left(turn, wakes),
+    })
 }
 
 /// A step of `abort()`: it ends an attempt's machine, and is a throw in the root's.

@@ -8,7 +8,7 @@ mod sweep;
 mod threads;
 mod walked;
 
-pub use attempts::at_atomic;
+pub use attempts::{at_atomic, leave};
 pub use next::{Next, Walking, at_form, closed, left, picked};
 pub use sweep::Sweep;
 pub use threads::at_thread;

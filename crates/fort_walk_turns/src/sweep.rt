@@ -2,6 +2,7 @@
 ghost use Rattle.std.specs.Prelude.{◌≡◌, IsTrue, true, false};
 
 use fort_frames::{Place, Stack};
+use fort_walk_course::Turn;
 
 /// How many picks a thread takes in one turn.
 pub const TURN: u32 = 1024;
@@ -15,8 +16,10 @@ const SHALLOW: u32 = 1024;
 pub struct Sweep {
     /// The picks that the thread took in its turn.
     pub taken: u32,
-    /// Whether no pick was taken since the left end of the term.
+    /// Whether no pick was taken since the left end of the term, and no attempt was left.
     pub idle: bool,
+    /// Whether no pick was taken since then, besides those of attempts that were left.
+    pub in_vain: bool,
     /// Whether a thread was met since then that is awake and has no step.
     pub stuck: bool,
     /// Whether sleepers are tried, since nobody else is awake.
@@ -33,6 +36,7 @@ impl Sweep {
         Sweep {
             taken: 0,
             idle: true,
+            in_vain: true,
             stuck: false,
             wakes,
         }
@@ -46,9 +50,38 @@ impl Sweep {
         Sweep {
             taken: taken.saturating_add(1),
             idle: false,
+            in_vain: false,
             stuck: false,
             wakes: false,
         }
+    }
+
+    /// Past a thread whose attempt was left, which began in this turn. Other sleepers are tried too
+    /// (`wakes`) where the thread sleeps.
+    pub fn left(turn: Turn, wakes: bool) -> Sweep
+        ensures idle { result.idle ≡ false }
+        ensures wakes { result.wakes ≡ wakes }
+    {
+        Sweep {
+            taken: 0,
+            idle: false,
+            in_vain: turn.in_vain,
+            stuck: false,
+            wakes,
+        }
+    }
+
+    /// What must be known of the sweep once an attempt that begins now is at its end.
+    pub fn turn(self) -> Turn {
+        Turn {
+            taken: self.taken,
+            in_vain: self.in_vain,
+        }
+    }
+
+    /// Whether each thread that was met sleeps, or its attempt was left.
+    pub fn met_none(self) -> bool {
+        self.in_vain && !self.stuck
     }
 
     /// Past a thread that sleeps, or whose turn is over.

@@ -336,11 +336,11 @@ fn makes_some(
     let _ready = ready;
     let cost = makes.cost();
     let fresh = course.fresh();
-    let loc = Loc(fresh);
     let count = makes_count(&makes);
     if !has_room(fresh, count) {
         return Err(Memory);
     }
+    let loc = Loc(fresh as u64);
     if !course.affords(cost) {
         return out_at(alloc, program, course, &place, loc);
     }
@@ -351,11 +351,14 @@ fn makes_some(
 }
 
 // Whether so many locations from one on have numbers.
-fn has_room(first: u64, count: u64) -> bool
+fn has_room(first: u128, count: u64) -> bool
     ensures { IsTrue result → first + count < 2 ^ 64 }
 {
-    match first.checked_add(count) {
-        None => false,
-        Some(_) => true,
+    match u64::try_from(first) {
+        Err(_) => false,
+        Ok(first) => match first.checked_add(count) {
+            None => false,
+            Some(_) => true,
+        },
     }
 }

@@ -1,11 +1,17 @@
 use Rattle.std.proofs.Common.{subst}
 use Rattle.std.proofs.lemmas.Result.{IfOk-weaker}
 use Rattle.fort_plain.specs.Paths.{IsFound, whole}
+use Rattle.fort_plain.proofs.Marks.{marks_here}
 use Rattle.fort_plain.proofs.Attempting.{stands_there, tries_there, thread_not_tried, nothing_tried}
 use Rattle.fort_plain.proofs.act.attempt_at.Goals as goal
 
-pub find-requires : goal.find-requires
-find-requires c = rw c.clock.ensures c.requires.going.course.reached
+pub find-requires-clause-reached : goal.find-requires-clause-reached
+find-requires-clause-reached c = rw c.clock.ensures c.requires.going.course.reached
+
+pub find-requires-clause-marks : goal.find-requires-clause-marks
+find-requires-clause-marks c =
+    rw c.clock.ensures
+    (marks_here c.args.program.now c.requires.written c.args.course c.args.state c.requires.going)
 
 pub begin-requires-clause-stands : goal.begin-requires-clause-stands
 begin-requires-clause-stands c =

@@ -2,11 +2,17 @@ use Rattle.std.proofs.Common.{subst}
 use Rattle.std.proofs.lemmas.Result.{IfOk-weaker}
 use Rattle.fort_frames_moves.specs.Turns.{ready_term}
 use Rattle.fort_plain.specs.Paths.{IsFound, whole}
+use Rattle.fort_plain.proofs.Marks.{marks_here}
 use Rattle.fort_plain.proofs.Attempting.{thread_there, acts_there, form_no_step, nothing_steps}
 use Rattle.fort_plain.proofs.act.step_at.Goals as goal
 
-pub find-requires : goal.find-requires
-find-requires c = rw c.clock.ensures c.requires.going.course.reached
+pub find-requires-clause-reached : goal.find-requires-clause-reached
+find-requires-clause-reached c = rw c.clock.ensures c.requires.going.course.reached
+
+pub find-requires-clause-marks : goal.find-requires-clause-marks
+find-requires-clause-marks c =
+    rw c.clock.ensures
+    (marks_here c.args.program.now c.requires.written c.args.course c.args.state c.requires.going)
 
 pub step-requires-clause-thread : goal.step-requires-clause-thread
 step-requires-clause-thread c =

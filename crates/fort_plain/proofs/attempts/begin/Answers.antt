@@ -5,6 +5,7 @@ use Rattle.fort_machine.specs.Attempts.{fresh, slept}
 use Rattle.fort_walk_course.specs.Calls.{MayTry}
 use Rattle.fort_machine.proofs.Ready.{form_ready}
 use Rattle.fort_plain.specs.Takes.{MustWait, term_round}
+use Rattle.fort_plain.proofs.Marks.{marks_round}
 use Rattle.fort_plain.proofs.Attempting.{sleeper_waits, may_try}
 use Rattle.fort_plain.proofs.attempts.begin.Goals as goal
 
@@ -14,6 +15,11 @@ must_wait-requires-clause-ready c =
 
 pub must_wait-requires-clause-reached : goal.must_wait-requires-clause-reached
 must_wait-requires-clause-reached c = c.requires.stands.course.reached
+
+pub must_wait-requires-clause-marks : goal.must_wait-requires-clause-marks
+must_wait-requires-clause-marks c =
+    marks_round c.args.program.now c.requires.written c.args.course c.args.place c.args.form
+    c.requires.stands
 
 pub returns-then-branch : goal.returns-then-branch
 returns-then-branch c = λ turn within.

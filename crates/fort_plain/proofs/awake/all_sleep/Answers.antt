@@ -5,6 +5,7 @@ use Rattle.fort_store_effects.specs.Levels.{levels_of, seen}
 use Rattle.fort_frames.specs.Frames.{Reaches, frames, rebuilt}
 use Rattle.fort_frames.specs.declared.place.Place.{Place}
 use Rattle.fort_plain.specs.Paths.{AllSleep}
+use Rattle.fort_plain.proofs.Marks.{same_marks}
 use Rattle.fort_plain.proofs.awake.all_sleep.Goals as goal
 
 pub whole_term-requires-clause-is_open : goal.whole_term-requires-clause-is_open
@@ -19,6 +20,14 @@ whole_term-requires-clause-reached c =
     (sym c.in_ok-share.ensures) (subst (λ
     (t : Term). Reaches c.args.course.now.clock (frames c.args.place.now.stack) t)
     (sym c.in_ok-share-2.ensures) c.requires.reached))
+
+pub sweep-requires : goal.sweep-requires
+sweep-requires c =
+    same_marks (rebuilt c.args.course.now.clock (frames c.args.place.now.stack) c.args.form.now)
+    c.in_ok-term.term
+    ((rw c.clock.ensures at c.in_ok-term.ensures)
+    ∙ (λ i. rebuilt c.args.course.now.clock (frames (c.in_ok-share.ensures i).stack)
+    (c.in_ok-share-2.ensures i))) c.requires.marks
 
 pub returns : goal.returns
 returns c =

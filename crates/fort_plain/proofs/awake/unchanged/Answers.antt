@@ -30,7 +30,8 @@ pub returns : goal.returns
 returns c =
     let marks = c.as_slice-mark-items.result.now in
     let end : length marks ≤ c.loop-mark.mark-index = omega (arith, c.loop-mark-test.false) in (
-      λ e. subst (AllThere (seen (levels_of c.args.course.now.layers))) c.as_slice-mark-items.ensures
+      λ e. subst (AllThere (seen (levels_of c.args.course.now.layers)))
+          c.as_slice-mark-items.ensures
           (all_there (seen (levels_of c.args.course.now.layers)) marks c.loop-mark.mark-index end
           c.loop-mark.invariant),
       λ h. refl,

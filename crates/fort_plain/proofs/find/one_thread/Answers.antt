@@ -1,6 +1,7 @@
 use Rattle.std.proofs.Common.{subst}
 use Rattle.fort_frames_moves.specs.Turns.{IsStop}
 use Rattle.fort_plain.specs.Paths.{whole}
+use Rattle.fort_plain.proofs.Marks.{none_odd}
 use Rattle.fort_plain.proofs.Finding.{own_step, step_sought, own_try, try_sought, own_group, group_sought, ends_sought}
 use Rattle.fort_plain.proofs.find.one_thread.Goals as goal
 
@@ -42,6 +43,12 @@ returns-in-Groups c =
     c.args.path.now c.at_group.result
     (subst (IsStop c.args.clock (whole c.args.clock c.args.state)) c.in-Groups.is
     c.in_ok-place.ensures.stops) c.at_group.ensures
+
+pub unreachable-requires : goal.unreachable-requires
+unreachable-requires c =
+    none_odd c.args.clock (whole c.args.clock c.args.state) _ _ c.requires.marks
+    (subst (IsStop c.args.clock (whole c.args.clock c.args.state)) c.in-Odd.is
+    c.in_ok-place.ensures.stops)
 
 pub returns-in-Ends : goal.returns-in-Ends
 returns-in-Ends c =

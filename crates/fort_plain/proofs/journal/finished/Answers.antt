@@ -3,9 +3,6 @@ use Rattle.fort_plain.specs.Replays.{EndsAt}
 use Rattle.fort_plain.proofs.Ending.{right_end, wrong_end}
 use Rattle.fort_plain.proofs.journal.finished.Goals as goal
 
-pub settle-requires : goal.settle-requires
-settle-requires c = rw c.clock.ensures c.requires.going.course.reached
-
 pub returns-then-ends_so : goal.returns-then-ends_so
 returns-then-ends_so c =
     let g = c.args.going in

@@ -1,23 +1,21 @@
-use Rattle.std.proofs.Common.{subst}
-use Rattle.fort_frames_moves.specs.Turns.{IsStop}
-use Rattle.fort_plain.specs.Paths.{whole}
-use Rattle.fort_plain.proofs.Finding.{thread_unfinished, try_unfinished, odd_unfinished}
+use Rattle.fort_plain.proofs.Settling.{settled_first, settled_out, settled_all, fewer}
 use Rattle.fort_plain.proofs.settled.settle.Goals as goal
 
-pub returns-in-Steps : goal.returns-in-Steps
-returns-in-Steps c =
-    thread_unfinished c.args.clock (whole c.args.clock c.loop-turn.state) _ _ _
-    (subst (IsStop c.args.clock (whole c.args.clock c.loop-turn.state)) c.in-Steps.is
-    c.in_ok-_place.ensures.stops) c.loop-turn.invariant.is_term
+pub frames-init : goal.frames-init
+frames-init c =
+    settled_first c.args.clock c.args.state c.in_ok-settled.settled c.in_ok-settled.ensures
 
-pub returns-in-Tries : goal.returns-in-Tries
-returns-in-Tries c =
-    try_unfinished c.args.clock (whole c.args.clock c.loop-turn.state) _ _ _
-    (subst (IsStop c.args.clock (whole c.args.clock c.loop-turn.state)) c.in-Tries.is
-    c.in_ok-_place.ensures.stops) c.loop-turn.invariant.is_term
+pub returns-in-None : goal.returns-in-None
+returns-in-None c =
+    settled_all _ _ c.frames.place c.frames.settled c.frames.invariant
+    (rw c.in-None.is at c.in_ok-leave.ensures)
 
-pub returns-in-Odd : goal.returns-in-Odd
-returns-in-Odd c =
-    odd_unfinished c.args.clock (whole c.args.clock c.loop-turn.state) _ _ _
-    (subst (IsStop c.args.clock (whole c.args.clock c.loop-turn.state)) c.in-Odd.is
-    c.in_ok-_place.ensures.stops) c.loop-turn.invariant.is_term
+pub frames-preserved : goal.frames-preserved
+frames-preserved c =
+    settled_out _ _ c.frames.place c.in-Some.below c.in-Some.frame c.frames.settled _
+    c.frames.invariant (rw c.in-Some.is at c.in_ok-leave.ensures)
+    c.in_ok-settled-in-Some.ensures
+
+pub frames-smaller : goal.frames-smaller
+frames-smaller c =
+    fewer c.frames.place c.in-Some.below c.in-Some.frame (rw c.in-Some.is at c.in_ok-leave.ensures)

@@ -19,9 +19,9 @@ returns-then-not-turn c =
 pub returns-then-turn : goal.returns-then-turn
 returns-then-turn c =
     abort_last c.args.program.now c.args.course c.args.place (ready_term c.args.ready.now)
-    c.args.turn c.args.loc.0 c.in_ok-all.all c.requires.only c.requires.inside
+    c.args.turn c.args.loc.0 c.cost_with-all.result c.requires.only c.requires.inside
     (none_named c.args.loc.0 c.names_one.result c.names_one.ensures c.if-names_one.false)
-    c.if-turn.true c.requires.turn c.in_ok-all.ensures
+    c.if-turn.true c.requires.turn c.cost_with-all.ensures
 
 pub returns-then-not-affords : goal.returns-then-not-affords
 returns-then-not-affords c =
@@ -50,4 +50,4 @@ returns c =
     (rw c.in-Some.is at c.in_ok-abort.ensures.fuel)
     (rw c.in-Some.is at c.in_ok-abort.ensures.picks)
     (none_named c.args.loc.0 c.names_one.result c.names_one.ensures c.if-names_one.false)
-    (is_so c.args.turn.is_last c.if-not-turn.false)
+    (is_so c.args.turn.is_last c.if-not-turn.false) c.if-turn.false

@@ -1,6 +1,6 @@
 use Rattle.std.proofs.Common.{◌≡◌, true, false, sym, ◌∙◌}
 use Rattle.fort_store_effects.specs.Levels.{levels_of, seen}
-use Rattle.fort_plain.proofs.Testing.{free_none, free_more, free_one}
+use Rattle.fort_plain.proofs.Testing.{free_none, free_more, free_one, free_rest}
 use Rattle.fort_plain.proofs.steps.are_free.Goals as goal
 
 pub loop-at-init : goal.loop-at-init
@@ -18,4 +18,12 @@ returns-then-not-is_free c = (
       ∙ c.is_free.ensures.1
       (free_one c.args.loc.0 c.args.count c.loop-at.«at» (seen (levels_of c.args.course.now.layers))
       c.loop-at-test.true h),
+)
+
+pub returns-then-is_behind : goal.returns-then-is_behind
+returns-then-is_behind c = (
+  λ e. free_rest c.args.loc.0 c.args.count c.loop-at.«at» c.args.course.now.fresh
+      (seen (levels_of c.args.course.now.layers)) c.loop-at.invariant c.requires
+      (c.is_behind.ensures.0 c.if-is_behind.true) (c.have_numbers.ensures.0 e),
+  λ h. c.have_numbers.ensures.1 h.0,
 )

@@ -22,11 +22,11 @@ pub returns-then-turn : goal.returns-then-turn
 returns-then-turn c =
     asks_last c.args.program.now c.args.course c.args.place (ready_term c.args.ready.now)
     c.args.from.0 (λ v. next_by c.args.goes_by v) c.in_ok-value-in-Some.value c.args.loc.0
-    c.in_ok-all.all c.args.turn c.requires.only
+    c.cost_with-all.result c.args.turn c.requires.only
     (sym c.in-Some.ensures
     ∙ ap Some (sym c.in_ok-value-in-Some.ensures))
     (none_named c.args.loc.0 c.names_one.result c.names_one.ensures c.if-names_one.false)
-    c.if-turn.true c.requires.turn c.in_ok-all.ensures
+    c.if-turn.true c.requires.turn c.cost_with-all.ensures
 
 pub returns-then-not-affords : goal.returns-then-not-affords
 returns-then-not-affords c =
@@ -51,4 +51,4 @@ returns c =
     c.in_ok-course.ensures.stands c.in_ok-course.ensures.fuel
     (subst (λ n. PicksStep c.args.course c.args.place n c.in_ok-course.course)
     (sym (none_named c.args.loc.0 c.names_one.result c.names_one.ensures
-    c.if-names_one.false)) c.in_ok-course.ensures.picks)
+    c.if-names_one.false)) c.in_ok-course.ensures.picks) c.if-turn.false

@@ -24,11 +24,11 @@ returns-then-is_none c =
 pub returns-then-turn : goal.returns-then-turn
 returns-then-turn c =
     sets_last c.args.program.now c.args.course c.args.place (ready_term c.args.ready.now)
-    c.args.to.0 c.args.value c.args.loc.0 c.in_ok-all.all c.args.turn c.requires.only
+    c.args.to.0 c.args.value c.args.loc.0 c.cost_with-all.result c.args.turn c.requires.only
     (some_seen c.look.result (seen (levels_of c.args.course.layers) c.args.to.0) c.is_none.result
     c.look.ensures c.is_none.ensures c.if-is_none.false)
     (none_named c.args.loc.0 c.names_one.result c.names_one.ensures c.if-names_one.false)
-    c.if-turn.true c.requires.turn c.in_ok-all.ensures
+    c.if-turn.true c.requires.turn c.cost_with-all.ensures
 
 pub returns-then-not-affords : goal.returns-then-not-affords
 returns-then-not-affords c =
@@ -55,4 +55,4 @@ returns c =
     c.in_ok-course.ensures.stands c.in_ok-course.ensures.fuel
     (subst (λ n. PicksStep c.args.course c.args.place n c.in_ok-course.course)
     (sym (none_named c.args.loc.0 c.names_one.result c.names_one.ensures
-    c.if-names_one.false)) c.in_ok-course.ensures.picks)
+    c.if-names_one.false)) c.in_ok-course.ensures.picks) c.if-turn.false

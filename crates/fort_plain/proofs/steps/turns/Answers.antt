@@ -14,10 +14,10 @@ returns-then-names_one c =
 pub returns-then-turn : goal.returns-then-turn
 returns-then-turn c =
     turn_last c.args.program.now c.args.course c.args.place (ready_term c.args.ready.now)
-    c.args.next c.args.output c.args.cost c.args.loc.0 c.in_ok-all.all c.args.turn
+    c.args.next c.args.output c.args.cost c.args.loc.0 c.cost_with-all.result c.args.turn
     c.requires.only
     (none_named c.args.loc.0 c.names_one.result c.names_one.ensures c.if-names_one.false)
-    c.if-turn.true c.requires.turn c.in_ok-all.ensures
+    c.if-turn.true c.requires.turn c.cost_with-all.ensures
 
 pub returns-then-not-affords : goal.returns-then-not-affords
 returns-then-not-affords c =
@@ -38,4 +38,4 @@ returns c =
     c.in_ok-course.ensures.stands c.in_ok-course.ensures.fuel
     (subst (λ n. PicksStep c.args.course c.args.place n c.in_ok-course.course)
     (sym (none_named c.args.loc.0 c.names_one.result c.names_one.ensures
-    c.if-names_one.false)) c.in_ok-course.ensures.picks)
+    c.if-names_one.false)) c.in_ok-course.ensures.picks) c.if-turn.false

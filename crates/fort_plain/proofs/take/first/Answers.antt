@@ -12,7 +12,7 @@ act-requires-clause-turn c = λ e. refl
 pub returns-in-Goes : goal.returns-in-Goes
 returns-in-Goes c =
     let g = c.args.going in
-    out_first _ g.course _ _
+    out_first _ g.course _ _ _
     (subst (ActsOn c.args.program.now g.course (whole g.course.clock g.state) _ c.args.pick.now)
     c.in-Goes.is c.in_ok-going.ensures) c.requires.outside
 

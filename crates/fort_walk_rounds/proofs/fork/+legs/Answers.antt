@@ -6,28 +6,28 @@ use Rattle.fort_store_effects.specs.Levels.{levels_of, seen}
 use Rattle.fort_walk_rounds.specs.Goes.{Goes}
 use Rattle.fort_walk_rounds.specs.Wholes.{AreLegs}
 use Rattle.fort_walk_rounds.specs.declared.whole.Found.{Found}
-use Rattle.fort_walk_rounds.proofs.Rows.{legs_from, opens, parts_may}
-use Rattle.fort_walk_rounds.proofs.Sides.{found_form, found_node, found_part, goes_within, inside_may}
+use Rattle.fort_walk_rounds.proofs.Rows.{legs_from, opens, parts_reach}
+use Rattle.fort_walk_rounds.proofs.Sides.{found_form, found_node, found_part, goes_within, inside_reach}
 use Rattle.fort_walk_rounds.proofs.Crossing.{leg_or_not_send, taken_send}
 use Rattle.fort_walk_rounds.proofs.fork.+legs.Goals as goal
 
 -- ---- a form that goes from left to right
 
-pub leg_of-leg_of-requires-clause-may : goal.leg_of-leg_of-requires-clause-may
-leg_of-leg_of-requires-clause-may g t c κs within =
-    inside_may c.args.tables.now.program.now c.args.inner (seen (levels_of c.args.view.now))
-    c.args.part.now c.in-Some.form c.args.room.from
+pub leg_of-leg_of-requires-clause-reach : goal.leg_of-leg_of-requires-clause-reach
+leg_of-leg_of-requires-clause-reach g t c κs within =
+    inside_reach c.args.tables.now.program.now c.args.inner (seen (levels_of c.args.view.now))
+    c.args.part.now c.in-Some.form
     (found_form c.get-2.result.now c.args.part.now c.in_ok-form.field-0 c.in-Some.form
-    c.in_ok-form.ensures c.in-Some.is c.get-2.ensures) c.requires.may
+    c.in_ok-form.ensures c.in-Some.is c.get-2.ensures) c.requires.reach
 
 -- ---- a parallel form
 
-pub leg_of-row-requires-clause-may : goal.leg_of-row-requires-clause-may
-leg_of-row-requires-clause-may g t c κs within =
-    parts_may c.args.tables.now.program.now c.args.inner (seen (levels_of c.args.view.now))
-    c.args.part.now c.in-Some-2.node c.args.room.from
+pub leg_of-row-requires-clause-reach : goal.leg_of-row-requires-clause-reach
+leg_of-row-requires-clause-reach g t c κs within =
+    parts_reach c.args.tables.now.program.now c.args.inner (seen (levels_of c.args.view.now))
+    c.args.part.now c.in-Some-2.node
     (found_node c.get-3.result.now c.args.part.now c.in_ok-node.field-0 c.in-Some-2.node
-    c.in_ok-node.ensures c.in-Some-2.is c.get-3.ensures) c.requires.may
+    c.in_ok-node.ensures c.in-Some-2.is c.get-3.ensures) c.requires.reach
 
 pub leg_of-with_all-requires-clause-whole : goal.leg_of-with_all-requires-clause-whole
 leg_of-with_all-requires-clause-whole g t c =

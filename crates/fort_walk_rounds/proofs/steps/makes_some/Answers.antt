@@ -13,5 +13,5 @@ returns c =
     makes_takes a.program.now a.inner (seen (levels_of a.view.now)) a.room a.stretch
     c.in_ok-stretch.stretch a.place a.makes c.in_ok-next.next c.in_ok-values.values
     c.cost-cost.result c.makes_count-count.result c.make.new.self c.requires.on c.requires.affords
-    bound c.cost-cost.ensures c.makes_count-count.ensures c.in_ok-values.ensures
+    bound c.requires.free c.cost-cost.ensures c.makes_count-count.ensures c.in_ok-values.ensures
     c.in_ok-next.ensures c.in_ok-make.ensures c.in_ok-stretch.ensures

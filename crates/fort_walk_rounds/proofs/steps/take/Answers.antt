@@ -15,7 +15,8 @@ prints-requires-clause-may c =
 
 pub prints-requires-clause-affords : goal.prints-requires-clause-affords
 prints-requires-clause-affords c =
-    afforded c.args.room c.args.stretch c.args.deal _ c.in-Turns.is c.requires.room
+    afforded (seen (levels_of c.args.view.now)) c.args.room c.args.stretch c.args.deal _
+    c.in-Turns.is c.requires.room
 
 pub prints-requires-in-Enters-clause-may : goal.prints-requires-in-Enters-clause-may
 prints-requires-in-Enters-clause-may c =
@@ -27,4 +28,5 @@ prints-requires-in-Enters-clause-may c =
 
 pub prints-requires-in-Enters-clause-affords : goal.prints-requires-in-Enters-clause-affords
 prints-requires-in-Enters-clause-affords c =
-    afforded c.args.room c.args.stretch c.args.deal _ c.in-Enters.is c.requires.room
+    afforded (seen (levels_of c.args.view.now)) c.args.room c.args.stretch c.args.deal _
+    c.in-Enters.is c.requires.room

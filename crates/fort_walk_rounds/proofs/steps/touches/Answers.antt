@@ -13,7 +13,8 @@ asks-requires-clause-acts c =
 
 pub asks-requires-clause-affords : goal.asks-requires-clause-affords
 asks-requires-clause-affords c =
-    afforded c.args.room c.args.stretch c.args.deal _ c.in-Asks.is c.requires.room
+    afforded (seen (levels_of c.args.view.now)) c.args.room c.args.stretch c.args.deal _
+    c.in-Asks.is c.requires.room
 
 pub sets-requires-clause-acts : goal.sets-requires-clause-acts
 sets-requires-clause-acts c =
@@ -21,7 +22,8 @@ sets-requires-clause-acts c =
 
 pub sets-requires-clause-affords : goal.sets-requires-clause-affords
 sets-requires-clause-affords c =
-    afforded c.args.room c.args.stretch c.args.deal _ c.in-Sets.is c.requires.room
+    afforded (seen (levels_of c.args.view.now)) c.args.room c.args.stretch c.args.deal _
+    c.in-Sets.is c.requires.room
 
 pub makes_some-requires-clause-on : goal.makes_some-requires-clause-on
 makes_some-requires-clause-on c =
@@ -33,8 +35,15 @@ makes_some-requires-clause-on c =
 
 pub makes_some-requires-clause-affords : goal.makes_some-requires-clause-affords
 makes_some-requires-clause-affords c =
-    afforded c.args.room c.args.stretch c.args.deal _ c.in-Makes.is c.requires.room
+    afforded (seen (levels_of c.args.view.now)) c.args.room c.args.stretch c.args.deal _
+    c.in-Makes.is c.requires.room
 
 pub makes_some-requires-clause-numbers : goal.makes_some-requires-clause-numbers
 makes_some-requires-clause-numbers c =
-    numbered c.args.room c.args.stretch c.args.deal _ c.in-Makes.is c.requires.room
+    (numbered (seen (levels_of c.args.view.now)) c.args.room c.args.stretch c.args.deal _
+    c.in-Makes.is c.requires.room).0
+
+pub makes_some-requires-clause-free : goal.makes_some-requires-clause-free
+makes_some-requires-clause-free c =
+    (numbered (seen (levels_of c.args.view.now)) c.args.room c.args.stretch c.args.deal _
+    c.in-Makes.is c.requires.room).1

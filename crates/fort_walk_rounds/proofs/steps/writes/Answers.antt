@@ -10,6 +10,5 @@ returns c =
     let s = seen (levels_of a.view.now) in
     takes a.program.now a.inner s a.room a.stretch (record a.stretch { done = c.write.new.self })
     c.in_ok-stretch.stretch a.place 0 a.next (writing a.loc.0 a.value) c.requires.may
-    (writes_adds a.program.now a.inner s a.room a.stretch a.place a.next a.loc.0 a.value
-    c.requires.may c.requires.there c.requires.affords) c.in_ok-write.ensures refl refl refl
-    c.in_ok-stretch.ensures
+    (writes_adds a.room a.stretch s a.loc.0 a.value c.requires.there c.requires.affords)
+    c.in_ok-write.ensures refl refl refl c.in_ok-stretch.ensures

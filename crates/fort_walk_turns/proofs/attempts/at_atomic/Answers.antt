@@ -4,7 +4,7 @@ use Rattle.fort_store_effects.specs.Levels.{levels_of, seen}
 use Rattle.fort_machine.specs.Attempts.{Sleeps, fresh, slept}
 use Rattle.fort_walk_turns.specs.Idles.{Rests}
 use Rattle.fort_walk_turns.proofs.Past.{over_left, sleeper_left}
-use Rattle.fort_walk_turns.proofs.Trying.{form_thread, may_try}
+use Rattle.fort_walk_turns.proofs.Trying.{form_thread, may_try_this}
 use Rattle.fort_walk_turns.proofs.attempts.at_atomic.Goals as goal
 
 pub left-requires : goal.left-requires
@@ -30,8 +30,10 @@ left-requires-then-rests c =
 
 pub begin-requires-clause-may : goal.begin-requires-clause-may
 begin-requires-clause-may c =
-    may_try c.args.program.now c.args.course c.args.sweep c.args.place c.args.form c.in-Atomic.mode
-    c.in-Atomic.body c.requires.written c.requires.form
+    may_try_this c.args.program.now c.args.course c.args.sweep c.args.place c.args.form
+    c.in-Atomic.mode c.in-Atomic.body c.in_ok-tried-in-Atomic.tried
+    c.in_ok-tried-in-Atomic.ensures.form c.in_ok-tried-in-Atomic.ensures.mode
+    c.in_ok-tried-in-Atomic.ensures.body c.requires.written c.requires.form
     (fresh (sym c.get-2.ensures ∙ c.in-Atomic.is))
     (subst (λ b. Rests b c.args.sweep.wakes
     (Sleeps (seen (levels_of c.args.course.layers)) c.args.form)) c.if-rests.false
@@ -39,8 +41,10 @@ begin-requires-clause-may c =
 
 pub begin-requires-in-Asleep-clause-may : goal.begin-requires-in-Asleep-clause-may
 begin-requires-in-Asleep-clause-may c =
-    may_try c.args.program.now c.args.course c.args.sweep c.args.place c.args.form mode.Atomic
-    c.in-Asleep.body c.requires.written c.requires.form
+    may_try_this c.args.program.now c.args.course c.args.sweep c.args.place c.args.form mode.Atomic
+    c.in-Asleep.body c.in_ok-tried-in-Asleep.tried c.in_ok-tried-in-Asleep.ensures.form
+    c.in_ok-tried-in-Asleep.ensures.mode c.in_ok-tried-in-Asleep.ensures.body
+    c.requires.written c.requires.form
     (slept c.in-Asleep.field-0 refl (sym c.get-2.ensures ∙ c.in-Asleep.is))
     (subst (λ b. Rests b c.args.sweep.wakes
     (Sleeps (seen (levels_of c.args.course.layers)) c.args.form)) c.if-rests.false

@@ -1,4 +1,4 @@
-use Rattle.std.proofs.Common.{◌+◌, ◌<◌, ◌≤◌, ◌^◌, length, arith, subst, sym}
+use Rattle.std.proofs.Common.{◌≡◌, ℕ, ◌+◌, ◌<◌, ◌≤◌, ◌^◌, length, ap, arith, subst, sym}
 use Rattle.fort_machine.specs.Effects.{making}
 use Rattle.fort_machine.specs.Steps.{or_unit}
 use Rattle.fort_walk_course.specs.Calls.{MayStep}
@@ -6,6 +6,24 @@ use Rattle.fort_step_deal.specs.Deals.{making_cost, made_by, new_values}
 use Rattle.fort_frames_moves.specs.Turns.{ready_term}
 use Rattle.fort_walk_turns.proofs.Taking.{makes_on, makes_passes, too_dear, follows_by}
 use Rattle.fort_walk_turns.proofs.threads.makes_some.Goals as goal
+
+pub overflow_cast-loc : goal.overflow_cast-loc
+overflow_cast-loc c =
+    let less = c.has_room.ensures c.if-not-has_room.false in omega (arith, less)
+
+pub make-requires-clause-first : goal.make-requires-clause-first
+make-requires-clause-first c =
+    let less = rw c.fresh-fresh.ensures at (c.has_room.ensures c.if-not-has_room.false) in
+    omega (arith, less)
+
+pub make-requires-clause-bounded : goal.make-requires-clause-bounded
+make-requires-clause-bounded c =
+    let less =
+    subst (λ (n : ℕ). c.args.course.fresh + n < 2 ^ 64) c.makes_count-count.ensures
+    (rw c.fresh-fresh.ensures at (c.has_room.ensures c.if-not-has_room.false)) in
+    let same : length c.in_ok-values.values ≡ length (or_unit (new_values c.args.makes)) =
+    ap length c.in_ok-values.ensures in
+    omega (arith, less, same)
 
 pub out_at-requires : goal.out_at-requires
 out_at-requires c =

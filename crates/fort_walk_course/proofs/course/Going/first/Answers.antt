@@ -7,7 +7,7 @@ returns-clause-going c =
     rw c.in_ok-course.ensures
     (first_stands c.args.program.now _ c.root-place.result c.in_ok-share.field-0
     c.in_ok-share.ensures c.in_ok-of.ensures c.new.ensures c.new-2.ensures refl
-    c.root-place.ensures c.in_ok-fresh_from.ensures)
+    c.root-place.ensures c.fresh_from.ensures)
 
 pub returns-clause-picks : goal.returns-clause-picks
 returns-clause-picks c =

@@ -1,5 +1,5 @@
 use Rattle.std.proofs.lemmas.Result.{IfOk-weaker}
-use Rattle.fort_walk_course.proofs.Tried.{aborts_come, going_still, stop_picks, stops_within}
+use Rattle.fort_walk_course.proofs.Trying.{aborts_come, going_still, stop_picks, stops_within}
 use Rattle.fort_walk_course.proofs.execution.Execution.abort.Goals as goal
 
 pub stop-requires-clause-spent : goal.stop-requires-clause-spent

@@ -1,7 +1,7 @@
 use Rattle.std.proofs.Common.{sym}
 use Rattle.fort_machine.specs.Attempts.{aborts}
 use Rattle.fort_store_effects.specs.declared.cell.Closing.TheVariants.{Aborted}
-use Rattle.fort_walk_course.proofs.Tried.{aborted_stands, close_picks, come_same, has_attempt, is_open, nothing_thrown, one_waits}
+use Rattle.fort_walk_course.proofs.Trying.{aborted_stands, close_picks, come_same, has_attempt, is_open, nothing_thrown, one_waits}
 use Rattle.fort_walk_course.proofs.execution.Execution.aborted.Goals as goal
 
 pub unreachable-requires : goal.unreachable-requires

@@ -1,7 +1,7 @@
 use Rattle.fort_core.specs.declared.term.Term as term
 use Rattle.fort_machine.specs.Attempts.{goes}
 use Rattle.fort_store_effects.specs.declared.cell.Closing.TheVariants.{Completed}
-use Rattle.fort_walk_course.proofs.Tried.{close_picks, completes, is_open}
+use Rattle.fort_walk_course.proofs.Trying.{close_picks, completes, is_open}
 use Rattle.fort_walk_course.proofs.execution.Execution.complete.Goals as goal
 
 pub close-requires-clause-open : goal.close-requires-clause-open

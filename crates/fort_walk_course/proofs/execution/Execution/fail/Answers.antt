@@ -1,7 +1,7 @@
 use Rattle.fort_machine.specs.Ends.{throw_of}
 use Rattle.fort_machine.specs.Attempts.{goes}
 use Rattle.fort_store_effects.specs.declared.cell.Closing.TheVariants.{Failed}
-use Rattle.fort_walk_course.proofs.Tried.{close_picks, fails, is_open}
+use Rattle.fort_walk_course.proofs.Trying.{close_picks, fails, is_open}
 use Rattle.fort_walk_course.proofs.execution.Execution.fail.Goals as goal
 
 pub close-requires-clause-open : goal.close-requires-clause-open
