@@ -1,10 +1,11 @@
 -- The numbers of spellings, and names that grow.
-use Rattle.std.proofs.Common.{◌≡◌, ◌<◌, ◌≤◌, ◌⊎◌, ℕ, zero, suc, Bool, true, false, cond, List, [], ◌∷◌, ◌++◌, length, Some, inl, inr, refl, sym, ap, subst, ◌∙◌, arith, append_assoc}
+use Rattle.std.proofs.Common.{◌≡◌, ◌<◌, ◌≤◌, ◌⊎◌, ℕ, zero, suc, Bool, true, false, cond, List, [], ◌∷◌, ◌++◌, length, take, drop, ◌-◌, Some, inl, inr, refl, sym, ap, subst, ◌∙◌, arith, append_assoc}
 use Rattle.std.specs.Prelude.{nat_lt, slice_get}
 use Rattle.std.specs.Str.{bytes_eq}
 use Rattle.std.specs.Cmp.Lexicographic.{bytes_decides}
 use Rattle.std.proofs.lemmas.Bool.{ltb-true, ltb-false, lt-ltb}
-use Rattle.std.proofs.lemmas.List.{append-nil}
+use Rattle.std.proofs.lemmas.List.{append-nil, length-drop, take_all}
+use Rattle.std.proofs.Math.Seq.{drop-append_seam}
 use Rattle.std.proofs.Math.ListN.{length-append}
 use Rattle.fort_link_table.specs.Names.{Spelling, number_in, with_spelling, grown}
 
@@ -117,6 +118,26 @@ go_on names (s ∷ more) =
       first.0 ++ rest.0,
       rest.1 ∙ ap (λ z. z ++ rest.0) first.1 ∙ append_assoc names first.0 rest.0,
     )
+
+-- the names so far, and behind them those that came
+pub grown_behind : (names more : List Spelling)
+    → names ++ drop (length names) (grown names more) ≡ grown names more
+grown_behind names more =
+    let on = go_on names more in
+    ap (λ z. names ++ drop (length names) z) on.1 ∙ ap (λ z. names ++ z) (drop-append_seam names on.0)
+    ∙ sym on.1
+
+-- a slice from a place on, as the code takes it
+pub rest_is : (n : ℕ) (names : List Spelling)
+    → take (length names - n) (drop n names) ≡ drop n names
+rest_is n names =
+    let l = length-drop n names in
+    take_all (length names - n) (drop n names) (omega arith)
+
+pub grown_longer : (names more : List Spelling) → length names ≤ length (grown names more)
+grown_longer names more =
+    let on = go_on names more in let l = length-append names on.0 in
+    subst (λ z. length names ≤ length z) (sym on.1) (omega arith)
 
 stays_in : (names more : List Spelling) (s : Spelling) → number_in names s < length names
     → number_in (grown names more) s < length (grown names more)

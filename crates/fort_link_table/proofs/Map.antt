@@ -32,6 +32,22 @@ again names old y n h e =
           (known_number old s) (h.knows s);
     }
 
+-- The spelling that is added has a number already: it is put over it, and then the number again.
+pub again_held : (names : List Spelling) (old mid new : Numbers) (y : Spelling) (n first : ℕ)
+    → HoldsNumbers names old → Some first ≡ known_number old y
+    → ((v : Spelling) → known_number mid v ≡ cond (bytes_eq y v) (Some n) (known_number old v))
+    → ((v : Spelling) → known_number new v ≡ cond (bytes_eq y v) (Some first) (known_number mid v))
+    → HoldsNumbers (names ++ y ∷ []) new
+again_held names old mid new y n first h e m u = record {
+  knows = λ s. subst (NumberIs (names ++ y ∷ []) s) (sym (u s ∙ at s (bytes_eq y s) refl))
+      ((again names old y first h e).knows s);
+}
+  where
+    at : (s : Spelling) (b : Bool) → bytes_eq y s ≡ b
+        → cond b (Some first) (known_number mid s) ≡ known_number old s
+    at s true f = e ∙ ap (known_number old) ((bytes_decides y s).0 f)
+    at s false f = m s ∙ ap (λ b. cond b (Some n) (known_number old s)) f
+
 new_by : (names : List Spelling) (s y : Spelling) (n : ℕ) → NumberIs names y None
     → length names ≡ n → (r : Option ℕ) → NumberIs names s r → (b : Bool) → bytes_eq y s ≡ b
     → NumberIs (names ++ y ∷ []) s (cond b (Some n) r)

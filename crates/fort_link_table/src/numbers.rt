@@ -28,13 +28,13 @@ pub struct Numbers<'a> {
 }
 
 impl<'a> Numbers<'a> {
-    /// No name yet.
-    fn new(alloc: Global) -> Numbers<'a>
-        ensures { HoldsNumbers [] result }
+    /// No name yet, and room for so many.
+    fn with_room(alloc: Global, room: usize) -> Result<Numbers<'a>, Memory>
+        ensures { IfOk result (HoldsNumbers []) }
     {
-        Numbers {
-            known: IndexMap::new(alloc),
-        }
+        Ok(Numbers {
+            known: IndexMap::with_capacity(alloc, room)?,
+        })
     }
 
     /// The numbers of names.
@@ -45,26 +45,24 @@ impl<'a> Numbers<'a> {
     pub fn of(alloc: Global, names: &'a [Bytes]) -> Result<Numbers<'a>, Memory>
         ensures { IfOk result (HoldsNumbers names.now) }
     {
-        let mut numbers = Numbers::new(alloc);
+        let mut numbers = Numbers::with_room(alloc, names.len())?;
         for i in 0..names.len() {
             numbers.add(names[i].as_slice(), number_for(i)?)?;
         }
         Ok(numbers)
     }
 
-    /// Gives a spelling the next number, where it has none yet.
+    /// Gives a spelling the next number, where it has none yet. Most have none: so the map is asked
+    /// once, and gets the older number back where there was one.
     pub fn add(&mut self, spelling: &'a [u8], number: u32) -> Result<(), Memory>
         ensures { OnOk result ((names : Seq Spelling) → HoldsNumbers names self.old
             → length names ≡ number
             → HoldsNumbers (names ++ spelling.now ∷ []) self.new) }
     {
-        match self.known.get(spelling) {
-            Some(_) => Ok(()),
-            None => {
-                self.known.insert(spelling, number)?;
-                Ok(())
-            }
+        if let Some(first) = self.known.insert(spelling, number)? {
+            self.known.insert(spelling, first)?;
         }
+        Ok(())
     }
 
     /// The number of a spelling, or none where no name is spelled so.

@@ -1,5 +1,5 @@
 //! The table of names and texts that grows from file to file.
-ghost use Rattle.std.specs.Prelude.{◌≡◌, ◌≤◌, ◌<◌, ◌+◌, ◌^◌, length, map, IfOk, OnOk, OnErr};
+ghost use Rattle.std.specs.Prelude.{◌≡◌, ◌≤◌, ◌<◌, ◌+◌, ◌^◌, length, map, take, IfOk, OnOk, OnErr};
 ghost use Rattle.std.specs.List.{AllByRecursion};
 ghost use Rattle.fort_lex_token.specs.declared.token.Token.{Token as AToken};
 ghost use Rattle.fort_link_table.specs.Names.{grown, with_spelling};
@@ -12,6 +12,7 @@ use fort_base::{Bytes, List, Memory, NameId, Place};
 use fort_lex_token::{Kind, Token, Tokens};
 use fort_ops::Op;
 use std::alloc::Global;
+use std::mem;
 
 /// What is known of the files so far.
 #[derive(Debug, Drop)]
@@ -55,17 +56,18 @@ impl Table {
         ensures err { OnErr result (self.new ≡ self.old) }
     {
         let Joined { list, names } = self.joined(alloc, &tokens)?;
-        let names_there = copied(alloc, names.as_slice())?;
-        let mut texts_there = copied(alloc, self.texts.as_slice())?;
-        texts_there.append(copied(alloc, tokens.texts.as_slice())?)?;
-        self.texts.append(tokens.texts)?;
-        self.names = names;
+        let before = self.names.len();
+        let more = copied(alloc, &names.as_slice()[before..])?;
+        let mut texts = copied(alloc, self.texts.as_slice())?;
+        texts.append(copied(alloc, tokens.texts.as_slice())?)?;
+        self.names.append(more)?;
+        if let Err(memory) = self.texts.append(tokens.texts) {
+            let names = mem::replace(&mut self.names, List::new(alloc));
+            self.names = cut(names, before);
+            return Err(memory);
+        }
         self.lines += lines;
-        Ok(Tokens {
-            list,
-            names: names_there,
-            texts: texts_there,
-        })
+        Ok(Tokens { list, names, texts })
     }
 
     /// The tokens of a file in the whole, and all names with the file's.
@@ -74,6 +76,7 @@ impl Table {
             (λ (t : AToken). self.now.lines + t.place.line < 2 ^ 32) tokens.now.list }
         ensures list { IfOk result (λ it. it.list ≡ (joined self.now tokens.now).list) }
         ensures names { IfOk result (λ it. it.names ≡ grown self.now.names tokens.now.names) }
+        ensures longer { IfOk result (λ it. length self.now.names ≤ length it.names) }
     {
         let mut known = Numbers::of(alloc, self.names.as_slice())?;
         let mut names = copied(alloc, self.names.as_slice())?;
@@ -95,6 +98,15 @@ impl Table {
 struct Joined {
     list: List<Token>,
     names: List<Bytes>,
+}
+
+/// The first so many of these names.
+fn cut(names: List<Bytes>, count: usize) -> List<Bytes>
+    ensures { result ≡ take count names }
+{
+    let mut kept = names.into_vec();
+    kept.truncate(count);
+    List::from_vec(kept)
 }
 
 /// A list equal to the spellings.
