@@ -1,6 +1,6 @@
 -- What keeps a book.
 use Rattle.std.proofs.Common.{◌≡◌, ℕ, ◌+◌, ◌≤◌, Bool, true, false, List, [], ◌∷◌, ◌++◌, map, Option, Some, None, refl, ap, sym, ◌∙◌, subst, append_assoc, arith}
-use Rattle.std.specs.Prelude.{IfSome}
+use Rattle.std.specs.Prelude.{MatchOption}
 use Rattle.std.proofs.lemmas.List.{append-nil}
 use mathlib.Core.List.{IsPrefix}
 use Rattle.fort_core.specs.declared.pick.Pick.{Pick}
@@ -36,11 +36,10 @@ use Rattle.fort_hall_books.specs.declared.leg.Kind.TheVariants as kind
 use Rattle.fort_hall_books.specs.declared.leg.Leg.{Leg}
 
 -- a book without a leg
-pub begins : (p : Program) (x : Book) → did x ≡ idle → IfSome x.done (λ l. l ≡ x.did.value)
-    → x.entries ≡ [] → x.term ≡ x.first → IsKept p x
-begins p x done hand entries term = record {
+pub begins : (p : Program) (x : Book) → did x ≡ idle → x.entries ≡ [] → x.term ≡ x.first
+    → IsKept p x
+begins p x done entries term = record {
   legs = no_leg (ap picks_of entries) (sym term) done;
-  at_hand = hand;
   affords = subst (λ (d : Effect). d.cost ≤ x.most) (sym done) (omega arith);
   bounded = subst MakesWithinBounds (sym done) idle_bounded;
 }
@@ -48,18 +47,37 @@ begins p x done hand entries term = record {
 -- a new book
 pub new_book : (inner : Bool) (view : Layers) (first : Term) (most : ℕ) (x : Book)
     → x.inner ≡ inner → x.view ≡ view → x.first ≡ first → x.most ≡ most → did x ≡ idle
-    → IfSome x.done (λ l. l ≡ x.did.value) → x.entries ≡ [] → x.term ≡ first
-    → IsNew inner view first most x
-new_book inner view first most x a b c d done hand entries term = record {
+    → x.entries ≡ [] → x.term ≡ first → IsNew inner view first most x
+new_book inner view first most x a b c d done entries term = record {
   origin = λ i. record { inner = a i; store = seen (levels_of (b i)); first = c i };
   bound = d;
   entries = entries;
-  kept = λ p. begins p x done hand entries (term ∙ sym c);
+  effect = done;
+  kept = λ p. begins p x done entries (term ∙ sym c);
 }
 
--- the layer that is at hand is what was done
-pub at_hand_is : (o : Option Layer) (l m : Layer) → IfSome o (λ k. k ≡ m) → o ≡ Some l → l ≡ m
-at_hand_is o l m h e = subst (λ x. IfSome x (λ k. k ≡ m)) e h
+-- what stands before the last of a list
+pub but_last : (xs ys : List Entry) (x y : Entry) → xs ++ x ∷ [] ≡ ys ++ y ∷ [] → xs ≡ ys
+but_last [] [] x y q = refl
+but_last [] (z ∷ []) x y q = absurd cc
+but_last [] (z ∷ w ∷ zs) x y q = absurd cc
+but_last (z ∷ []) [] x y q = absurd cc
+but_last (z ∷ w ∷ zs) [] x y q = absurd cc
+but_last (a ∷ xs) (b ∷ ys) x y q =
+    let first : a ≡ b = cc in
+    let rest : xs ++ x ∷ [] ≡ ys ++ y ∷ [] = cc in
+    let more : xs ≡ ys = but_last xs ys x y rest in
+    ap (λ z. z ∷ xs) first ∙ ap (λ zs. b ∷ zs) more
+
+not_nil : (xs : List Entry) (e : Entry) → xs ++ e ∷ [] ≡ [] → ⊥
+not_nil [] e q = absurd cc
+not_nil (x ∷ xs) e q = absurd cc
+
+-- what was put at the end of a list is taken off it
+pub popped : (xs new pushed : List Entry) (e : Entry) (r : Option Entry) → pushed ≡ xs ++ e ∷ []
+    → MatchOption r ((pushed ≡ []) × (new ≡ [])) (λ last. pushed ≡ new ++ last ∷ []) → new ≡ xs
+popped xs new pushed e None q h = absurd (not_nil xs e (sym q ∙ h.0))
+popped xs new pushed e (Some last) q h = but_last new xs last e (sym h ∙ q)
 
 -- picks of entries behind others
 pub picks_behind : (xs ys : List Entry) → picks_of (xs ++ ys) ≡ picks_of xs ++ picks_of ys
@@ -119,9 +137,8 @@ pub appended : (p : Program) (x y : Book) (leg : Leg) (whole : Term) (pass : ℕ
     → y.inner ≡ x.inner → y.view ≡ x.view → y.first ≡ x.first → y.most ≡ x.most
     → picks ≡ map (under leg.path.0) leg.picks
     → y.entries ≡ x.entries ++ record { pass = pass; picks = picks } ∷ []
-    → y.term ≡ whole → did y ≡ both (did x) (effect_of leg.done)
-    → IfSome y.done (λ l. l ≡ y.did.value) → IsKept p y
-appended p x y leg whole pass picks b l put may inner view first most own entries term done hand =
+    → y.term ≡ whole → did y ≡ both (did x) (effect_of leg.done) → IsKept p y
+appended p x y leg whole pass picks b l put may inner view first most own entries term done =
     let d = did x in
     let e = effect_of leg.done in
     let all : picks_of y.entries ≡ picks_of x.entries ++ map (under leg.path.0) leg.picks =
@@ -141,36 +158,52 @@ appended p x y leg whole pass picks b l put may inner view first most own entrie
           (picks_of x.entries ++ map (under leg.path.0) leg.picks) u (did y)) (sym term)
           (subst (Legs p x.inner (seen (levels_of x.view)) x.first
           (picks_of x.entries ++ map (under leg.path.0) leg.picks) whole) (sym done) legs)))));
-      at_hand = hand;
       affords = subst (λ (n : ℕ). (did y).cost ≤ n) (sym most)
           (subst (λ (made : Effect). made.cost ≤ x.most) (sym done) may.affords);
       bounded = subst MakesWithinBounds (sym done) (both_bounded d e b.bounded l.bounded);
     }
 
+-- a book that stays as it is
+pub stays_kept : (p : Program) (x y : Book) → IsKept p x → y.inner ≡ x.inner → y.view ≡ x.view
+    → y.first ≡ x.first → y.most ≡ x.most → y.entries ≡ x.entries → y.term ≡ x.term
+    → did y ≡ did x → IsKept p y
+stays_kept p x y k inner view first most entries term done = record {
+  legs =
+      subst (λ i. Legs p i (seen (levels_of y.view)) y.first (picks_of y.entries) y.term (did y))
+      (sym inner)
+      (subst (λ v. Legs p x.inner (seen (levels_of v)) y.first (picks_of y.entries) y.term (did y))
+      (sym view)
+      (subst (λ t. Legs p x.inner (seen (levels_of x.view)) t (picks_of y.entries) y.term (did y))
+      (sym first)
+      (subst (λ es. Legs p x.inner (seen (levels_of x.view)) x.first (picks_of es) y.term (did y))
+      (sym entries)
+      (subst (λ u. Legs p x.inner (seen (levels_of x.view)) x.first (picks_of x.entries) u (did y))
+      (sym term)
+      (subst (Legs p x.inner (seen (levels_of x.view)) x.first (picks_of x.entries) x.term)
+      (sym done) k.legs)))));
+  affords = subst (λ (n : ℕ). (did y).cost ≤ n) (sym most)
+      (subst (λ (d : Effect). d.cost ≤ x.most) (sym done) k.affords);
+  bounded = subst MakesWithinBounds (sym done) k.bounded;
+}
+
 -- a book that is closed
 pub closed : (p : Program) (x : Book) (c : Closed) → IsKept p x → c.view ≡ x.view
-    → c.picks ≡ picks_of x.entries → c.term ≡ x.term → x.done ≡ Some c.done → IsClosed p x c
-closed p x c k view picks term done =
-    let same : c.done ≡ x.did.value = at_hand_is x.done c.done x.did.value k.at_hand done in
-    record {
-      view = view;
-      picks = picks;
-      legs =
-          subst (λ v. Legs p x.inner (seen (levels_of v)) x.first c.picks c.term (effect_of c.done))
-          (sym view)
-          (subst (λ ps. Legs p x.inner (seen (levels_of x.view)) x.first ps c.term (effect_of c.done))
-          (sym picks)
-          (subst (λ t. Legs p x.inner (seen (levels_of x.view)) x.first (picks_of x.entries) t
-          (effect_of c.done)) (sym term)
-          (subst (λ (l : Layer). Legs p x.inner (seen (levels_of x.view)) x.first
-          (picks_of x.entries) x.term (effect_of l)) (sym same) k.legs)));
-      affords = subst (λ (l : Layer). (effect_of l).cost ≤ x.most) (sym same) k.affords;
-      bounded = subst (λ (l : Layer). MakesWithinBounds (effect_of l)) (sym same) k.bounded;
-    }
-
--- a book whose layer was lost
-pub lost : (p : Program) (x : Book) → IsKept p x → IsKept p (record x { done = None })
-lost p x b = record { legs = b.legs; at_hand = tt; affords = b.affords; bounded = b.bounded }
+    → c.picks ≡ picks_of x.entries → c.term ≡ x.term → c.done ≡ x.done → IsClosed p x c
+closed p x c k view picks term same = record {
+  view = view;
+  picks = picks;
+  legs =
+      subst (λ v. Legs p x.inner (seen (levels_of v)) x.first c.picks c.term (effect_of c.done))
+      (sym view)
+      (subst (λ ps. Legs p x.inner (seen (levels_of x.view)) x.first ps c.term (effect_of c.done))
+      (sym picks)
+      (subst (λ t. Legs p x.inner (seen (levels_of x.view)) x.first (picks_of x.entries) t
+      (effect_of c.done)) (sym term)
+      (subst (λ (l : Layer). Legs p x.inner (seen (levels_of x.view)) x.first
+      (picks_of x.entries) x.term (effect_of l)) (sym same) k.legs)));
+  affords = subst (λ (l : Layer). (effect_of l).cost ≤ x.most) (sym same) k.affords;
+  bounded = subst (λ (l : Layer). MakesWithinBounds (effect_of l)) (sym same) k.bounded;
+}
 
 pub kept_is_book : KeptIsBook
 kept_is_book p x k reached = record {

@@ -44,11 +44,17 @@ pub record Appends (leg : Leg) (pass : ℕ) (whole : Term) (old new : Book) : Ty
   pub term : new.term ≡ whole
   pub effect : did new ≡ both (did old) (effect_of leg.done)
 
+-- A book is as it was.
+pub record Stays (old new : Book) : Type 0 where
+  pub entries : new.entries ≡ old.entries
+  pub term : new.term ≡ old.term
+  pub effect : did new ≡ did old
+
 -- A book answers: the leg was appended, and the old term is handed out; or it has this cause, is
--- handed back, and nothing has changed. Where memory is wanting the entries are as they were.
+-- handed back, and nothing has changed. Where memory is wanting the book is as it was.
 abbrev pub HasAnswered : Leg → ℕ → Term → Book → Result Answer Memory → Book → Type 0
 HasAnswered leg pass whole old (Ok (Done before)) new =
     Appends leg pass whole old new × (before ≡ old.term)
 HasAnswered leg pass whole old (Ok (Stale why back)) new =
     HasCause old leg why × (back ≡ leg) × (new ≡ old)
-HasAnswered leg pass whole old (Err e) new = new.entries ≡ old.entries
+HasAnswered leg pass whole old (Err e) new = Stays old new

@@ -1,9 +1,9 @@
 -- The chapter "Books" of docs/THREADS.md: the code's book as the machine's.
-use Rattle.std.specs.Prelude.{◌≡◌, ℕ, ◌≤◌, Bool, List, [], ◌∷◌, ◌++◌, IfSome}
+use Rattle.std.specs.Prelude.{◌≡◌, ℕ, ◌≤◌, Bool, List, [], ◌∷◌, ◌++◌}
 use Rattle.fort_core.specs.declared.pick.Pick.{Pick}
 use Rattle.fort_core.specs.declared.program.Program.{Program}
 use Rattle.fort_core.specs.declared.term.Term.{Term}
-use Rattle.fort_machine.specs.Effects.{Store, Effect}
+use Rattle.fort_machine.specs.Effects.{Store, Effect, idle}
 use Rattle.fort_machine.specs.Journals.{MakesWithinBounds}
 use Rattle.fort_store_effects.specs.Levels.{effect_of, levels_of, seen}
 use Rattle.fort_store_effects.specs.declared.layers.Layers.{Layers}
@@ -19,7 +19,7 @@ origin_of x = record { inner = x.inner; store = seen (levels_of x.view); first =
 
 -- What its legs did.
 abbrev pub did : Book → Effect
-did x = effect_of x.did.value
+did x = effect_of x.done
 
 -- The store to which it has come.
 abbrev pub store_of : Book → Store
@@ -31,18 +31,18 @@ picks_of [] = []
 picks_of (e ∷ es) = e.picks ++ picks_of es
 
 -- A book is kept: its entries are legs from where it began to its term, which did what it says,
--- within its bound; and what was done is at hand, unless memory was wanting.
+-- within its bound.
 pub record IsKept (p : Program) (x : Book) : Type 0 where
   pub legs : Legs p x.inner (seen (levels_of x.view)) x.first (picks_of x.entries) x.term (did x)
-  pub at_hand : IfSome x.done (λ l. l ≡ x.did.value)
   pub affords : (did x).cost ≤ x.most
   pub bounded : MakesWithinBounds (did x)
 
--- A book without a leg, that began so and may cost so much.
+-- A book without a leg, that began so, did nothing yet, and may cost so much.
 pub record IsNew (inner : Bool) (view : Layers) (first : Term) (most : ℕ) (x : Book) : Type 0 where
   pub origin : origin_of x ≡ record { inner = inner; store = seen (levels_of view); first = first }
   pub bound : x.most ≡ most
   pub entries : x.entries ≡ []
+  pub effect : did x ≡ idle
   pub kept : (p : Program) → IsKept p x
 
 -- It is the same book: it began so, and may cost so much.

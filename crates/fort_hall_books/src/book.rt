@@ -1,12 +1,12 @@
 //! A book.
-ghost use Rattle.std.specs.Prelude.{◌≡◌, ◌↔◌, [], length, IfOk, IsTrue};
+ghost use Rattle.std.specs.Prelude.{◌≡◌, ◌↔◌, ◌-◌, [], length, IfOk, IsTrue};
+ghost use Rattle.fort_store_effects.specs.Levels.{effect_of};
 ghost use Rattle.fort_hall_books.specs.Books.{IsNew};
 
 use fort_base::{List, Memory, Shared};
 use fort_core::{Pick, Term};
 use fort_store_effects::{Layer, Layers};
 use std::alloc::Global;
-use std::snapshot::Snapshot;
 
 /// A leg that was appended: the pass that did, and its picks.
 #[derive(Drop)]
@@ -21,15 +21,13 @@ pub struct Book {
     /// Whether the machine is an attempt's.
     pub(crate) inner: bool,
     /// Layers that stay as they are, with the store on which it began.
-    pub(crate) view: Layers,
+    pub(crate) view: Shared<Layers>,
     /// The term with which it began.
     pub(crate) first: Shared<Term>,
     /// What it may cost.
     pub(crate) most: u64,
-    /// What was done, over the view; none once memory was wanting.
-    pub(crate) done: Option<Layer>,
-    /// The same, for the contracts alone.
-    pub(crate) did: Snapshot<Layer>,
+    /// What was done, over the view.
+    pub(crate) done: Layer,
     pub(crate) entries: List<Entry>,
     /// The term to which it has come.
     pub(crate) term: Shared<Term>,
@@ -38,7 +36,7 @@ pub struct Book {
 /// A book that takes in nothing more.
 #[derive(Drop)]
 pub struct Closed {
-    pub view: Layers,
+    pub view: Shared<Layers>,
     pub done: Layer,
     pub picks: List<Pick>,
     pub term: Shared<Term>,
@@ -55,22 +53,19 @@ impl Book {
     pub fn new(
         alloc: Global,
         inner: bool,
-        view: Layers,
+        view: Shared<Layers>,
         first: Shared<Term>,
         most: u64,
     ) -> Result<Book, Memory>
         ensures { IfOk result (IsNew inner view first most) }
     {
         let term = first.share()?;
-        let done = Layer::new(alloc);
-        let did = Snapshot::of(&done);
         Ok(Book {
             inner,
             view,
             first,
             most,
-            done: Some(done),
-            did,
+            done: Layer::new(alloc),
             entries: List::new(alloc),
             term,
         })
@@ -81,6 +76,27 @@ impl Book {
         ensures { result.now ≡ self.now.term }
     {
         &self.term
+    }
+
+    /// What was done, over the layers on which it began.
+    pub fn done(&self) -> &Layer
+        ensures { result.now ≡ self.now.done }
+    {
+        &self.done
+    }
+
+    /// Whether its machine is an attempt's.
+    pub fn is_inner(&self) -> bool
+        ensures { result ≡ self.now.inner }
+    {
+        self.inner
+    }
+
+    /// What it may still cost.
+    pub fn left(&self) -> u64
+        ensures { result ≡ self.now.most - (effect_of self.now.done).cost }
+    {
+        self.most.saturating_sub(self.done.cost())
     }
 
     /// The number of its entries.

@@ -5,7 +5,7 @@ ghost use Rattle.fort_store_effects.specs.Levels.{effect_of, levels_of, seen};
 ghost use Rattle.fort_hall_law_books.specs.Puts.{IsPut};
 ghost use Rattle.fort_hall_books.specs.Legs.{AllThere, IsLegOf};
 ghost use Rattle.fort_hall_books.specs.Books.{IsClosed, IsKept, IsSame, picks_of};
-ghost use Rattle.fort_hall_books.specs.Answers.{Appends, HasAnswered, HasCause, IsAsleep, Suits};
+ghost use Rattle.fort_hall_books.specs.Answers.{Appends, HasAnswered, HasCause, IsAsleep, Stays, Suits};
 
 use crate::book::{Book, Closed, Entry};
 use crate::leg::{Answer, Cause, Kind, Leg};
@@ -15,7 +15,6 @@ use fort_core::{Pick, Program, Term, Value};
 use fort_store_effects::{Layer, Layers};
 use std::alloc::Global;
 use std::mem;
-use std::snapshot::Snapshot;
 
 impl Book {
     /// A leg is appended where it suits the book, as one entry that names the pass; else it is
@@ -23,8 +22,7 @@ impl Book {
     ///
     /// # Errors
     ///
-    /// `Memory` where memory is wanting, now or in an earlier call. Its entries are as they were,
-    /// and it takes in nothing more.
+    /// `Memory` where memory is wanting. The leg is let go, and the book is as it was.
     pub fn submit(
         &mut self,
         alloc: Global,
@@ -40,31 +38,27 @@ impl Book {
         ensures same { IsSame self.old self.new }
         ensures answered { HasAnswered leg pass whole self.old result self.new }
     {
-        let Some(done) = &self.done else {
-            return Err(Memory);
-        };
-        if let Some(cause) = self.cause(done, &leg) {
+        if let Some(cause) = self.cause(&leg) {
             return Ok(Answer::Stale(cause, leg));
         }
         Ok(Answer::Done(self.append(alloc, program, leg, whole, pass)?))
     }
 
-    // Why a leg doesn't suit, if it doesn't, by what was done so far.
-    #[tactic(auto, using(crate::proofs::Suits::all_suits, crate::proofs::Suits::too_dear, crate::proofs::Suits::not_found, crate::proofs::Suits::sleeps_there))]
-    fn cause(&self, done: &Layer, leg: &Leg) -> Option<Cause>
-        requires { done.now ≡ self.now.did.value }
+    // Why a leg doesn't suit, if it doesn't.
+    #[tactic(auto, using(crate::proofs::Suits::too_dear))]
+    fn cause(&self, leg: &Leg) -> Option<Cause>
         ensures { MatchOption result (Suits self.now leg.now) (HasCause self.now leg.now) }
     {
         if leg.inner != self.inner {
             return Some(Cause::Machine);
         }
-        if !affords(done, &leg.done, self.most) {
+        if !affords(&self.done, &leg.done, self.most) {
             return Some(Cause::Cost);
         }
-        if !done.admits(&self.view, &leg.done) {
+        if !self.done.admits(self.view.get(), &leg.done) {
             return Some(Cause::Store);
         }
-        if sleeps(done, &self.view, &leg.kind) {
+        if sleeps(&self.done, self.view.get(), &leg.kind) {
             return Some(Cause::Asleep);
         }
         None
@@ -87,7 +81,7 @@ impl Book {
         ensures same { IsSame self.old self.new }
         ensures ok { IfOk result
             (λ before. Appends leg pass whole self.old self.new × (before ≡ self.old.term)) }
-        ensures err { OnErr result (self.new.entries ≡ self.old.entries) }
+        ensures err { OnErr result (Stays self.old self.new) }
     {
         let _program = program;
         let _most = self.most;
@@ -101,21 +95,21 @@ impl Book {
             term: _term,
         } = leg;
         let picks = all_under(alloc, &path, picks)?;
-        let Some(done) = mem::replace(&mut self.done, None) else {
-            return Err(Memory);
-        };
-        let all = done.then(more)?;
         self.entries.push(Entry { pass, picks })?;
-        self.did = Snapshot::of(&all);
-        self.done = Some(all);
-        Ok(mem::replace(&mut self.term, whole))
+        match self.done.append(more) {
+            Ok(()) => Ok(mem::replace(&mut self.term, whole)),
+            Err(wanting) => {
+                self.entries.pop();
+                Err(wanting)
+            }
+        }
     }
 
     /// All that it took in, as legs over its layers.
     ///
     /// # Errors
     ///
-    /// `Memory` where memory is wanting, now or in an earlier call.
+    /// `Memory` where memory is wanting.
     #[tactic(auto, using(crate::proofs::Books::closed))]
     pub fn close(self, alloc: Global, program: &Program) -> Result<Closed, Memory>
         requires { IsKept program.now self }
@@ -128,13 +122,9 @@ impl Book {
             first: _first,
             most: _most,
             done,
-            did: _did,
             entries,
             term,
         } = self;
-        let Some(done) = done else {
-            return Err(Memory);
-        };
         let picks = in_a_row(alloc, entries)?;
         Ok(Closed {
             view,

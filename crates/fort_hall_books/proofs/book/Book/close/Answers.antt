@@ -4,4 +4,4 @@ use Rattle.fort_hall_books.proofs.book.Book.close.Goals as goal
 
 pub returns : goal.returns
 returns c =
-    closed c.args.program.now c.args.self _ c.requires refl c.in_ok-picks.ensures refl c.in-Some.is
+    closed c.args.program.now c.args.self _ c.requires refl c.in_ok-picks.ensures refl refl
