@@ -85,13 +85,7 @@ fn first_of(first: Option<Value>, is_written: bool, next: Option<Value>) -> Opti
 {
     match first {
         Some(value) => Some(value),
-        None => {
-            if is_written {
-                None
-            } else {
-                next
-            }
-        }
+        None => { if is_written { None } else { next } }
     }
 }
 
