@@ -1,4 +1,5 @@
-//! Tests from outside, of what no clause says: of primitives, stores, records, notes and the bank.
+//! Tests from outside, of what no clause says: of primitives, stores, records, notes, the bank
+//! and the parts of terms.
 //! They stand apart from the crates that they test, so that those are proved once.
 #![tactic(auto)]
 
@@ -6,6 +7,8 @@
 mod banks;
 #[cfg(test)]
 mod notes;
+#[cfg(test)]
+mod parts;
 #[cfg(test)]
 mod primitives;
 #[cfg(test)]
