@@ -1,0 +1,7 @@
+//! Legs of a form of a program, made by the workers of a hall. The chapter "Books" of
+//! docs/THREADS.md.
+#![tactic(auto)]
+
+mod legs;
+
+pub use legs::{HallLegs, legs_by};
