@@ -2,9 +2,9 @@
 use Rattle.std.proofs.Common.{◌≡◌, ◌≢◌, ℕ, [], refl}
 use Rattle.fort_core.specs.declared.program.Program.{Program}
 use Rattle.fort_store_effects.specs.Levels.{levels_of, seen}
-use Rattle.fort_walk_rounds.specs.Goes.{Goes}
-use Rattle.fort_walk_rounds.specs.declared.leg.Leg.{Leg}
-use Rattle.fort_walk_rounds.specs.declared.leg.Room.{Room}
+use Rattle.fort_walk_stretch.specs.Goes.{Goes}
+use Rattle.fort_walk_stretch.specs.declared.leg.Leg.{Leg}
+use Rattle.fort_walk_stretch.specs.declared.leg.Room.{Room}
 use Rattle.fort_hall_books.specs.Legs.{steps}
 use Rattle.fort_hall_books.specs.declared.leg.Kind.TheVariants.{Steps}
 use Rattle.fort_hall_forms.specs.Forms.{IsFirstForm}

@@ -3,7 +3,7 @@ ghost use Rattle.std.specs.Prelude.{◌≡◌, ◌≢◌, [], IfOk};
 ghost use Rattle.fort_machine.specs.Written.{WrittenProgram};
 ghost use Rattle.fort_disp.specs.Rows.{MayPick};
 ghost use Rattle.fort_store_effects.specs.Levels.{levels_of, seen};
-ghost use Rattle.fort_walk_rounds.specs.Goes.{Goes};
+ghost use Rattle.fort_walk_stretch.specs.Goes.{Goes};
 ghost use Rattle.fort_hall_machine.specs.Words.{IsMade};
 ghost use Rattle.fort_hall_program.specs.States.{IsGood, IsLegOfTask};
 
@@ -14,7 +14,7 @@ use fort_disp::Tables;
 use fort_hall_books::{Kind, Leg};
 use fort_hall_forms::first_form;
 use fort_hall_machine::{Made, Room};
-use fort_walk_rounds::{Leg as Stretch, Room as Span, leaf};
+use fort_walk_stretch::{Leg as Stretch, Room as Span, leaf};
 use std::alloc::Global;
 
 // How many numbers for new locations a worker's range has.

@@ -1,5 +1,5 @@
 //! The machine of a form of a program, for a hall of workers: its books, tasks, legs and attempts,
-//! over fort_hall_books and the legs of fort_walk_rounds. The chapter "Books" of docs/THREADS.md.
+//! over fort_hall_books and the legs of fort_walk_stretch. The chapter "Books" of docs/THREADS.md.
 #![tactic(auto)]
 
 mod advance;
