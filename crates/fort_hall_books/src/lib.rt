@@ -6,7 +6,6 @@ mod book;
 mod laws;
 mod leg;
 mod submit;
-mod under;
 
 pub use book::{Book, Closed, Entry};
 pub use laws::{book_grows, kept_is_book};

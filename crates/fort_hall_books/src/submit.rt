@@ -9,10 +9,10 @@ ghost use Rattle.fort_hall_books.specs.Answers.{Appends, HasAnswered, HasCause, 
 
 use crate::book::{Book, Closed, Entry};
 use crate::leg::{Answer, Cause, Kind, Leg};
-use crate::under::all_under;
 use fort_base::{List, Loc, Memory, Shared};
 use fort_core::{Pick, Program, Term, Value};
 use fort_store_effects::{Layer, Layers};
+use fort_walk_legs::all_under;
 use std::alloc::Global;
 use std::mem;
 

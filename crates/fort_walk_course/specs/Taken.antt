@@ -1,4 +1,4 @@
--- Chapter "Legs": a leg as picks of a run.
+-- Chapter "Legs": legs as picks of a run.
 use Rattle.std.specs.Prelude.{◌≡◌, ◌≢◌, ℕ, ◌+◌, ◌<◌, ◌≤◌, false, List, [], ◌++◌, map}
 use Rattle.fort_core.specs.declared.pick.Pick.{Pick}
 use Rattle.fort_core.specs.declared.program.Program.{Program}
@@ -12,24 +12,23 @@ use Rattle.fort_frames.specs.declared.place.Place.{Place}
 use Rattle.fort_store_effects.specs.Calls.{Adds}
 use Rattle.fort_store_effects.specs.Levels.{levels_of, seen}
 use Rattle.fort_walk_law_course.specs.Course.{is_inner}
-use Rattle.fort_walk_legs.specs.Legs.{IsLeg}
+use Rattle.fort_hall_law_books.specs.Legs.{Legs}
 use Rattle.fort_walk_course.specs.declared.course.Course.{Course}
 use Rattle.fort_walk_course.specs.Courses.{StandsAt, around}
 
--- The form at a place has become another one by a leg, which was taken over the layers as they are;
--- it touched no location of a number or a higher one.
+-- The form at a place has become another one by legs, attempts among them, which were taken over the
+-- layers as they are.
 pub record MayTakeIn (p : Program) (c : Course) (place : Place) (b : Term) (e : Effect)
-    (picks : List Pick) (fresh : ℕ) : Type 0 where
+    (picks : List Pick) : Type 0 where
   pub form : Term
   pub stands : StandsAt p c place form
   pub unmarked : has_stepped form ≡ false
-  pub leg : IsLeg p (is_inner (around c)) (seen (levels_of c.layers)) form picks b e
+  pub legs : Legs p (is_inner (around c)) (seen (levels_of c.layers)) form picks b e
   pub some : picks ≢ []
   pub bounded : MakesWithinBounds e
-  pub below : (l : ℕ) → fresh ≤ l → e.cells l ≡ untouched
 
--- A leg of the form at a place was taken in.
-pub record TakesIn (old : Course) (place : Place) (e : Effect) (more : List Pick) (fresh : ℕ)
+-- Legs of the form at a place were taken in. They touched no location from a number on.
+pub record TakesIn (old : Course) (place : Place) (e : Effect) (more : List Pick)
     (new : Course) : Type 0 where
   pub layers : Adds e (levels_of old.layers) (levels_of new.layers)
   pub picks : new.picks ≡ old.picks ++ map (under place.path.0) more
@@ -37,7 +36,9 @@ pub record TakesIn (old : Course) (place : Place) (e : Effect) (more : List Pick
   pub clock : old.clock < new.clock
   pub spent : new.spent ≡ old.spent + e.cost
   pub fuel : new.fuel ≡ old.fuel
-  pub fresher : (old.fresh ≤ new.fresh) × (fresh ≤ new.fresh)
+  pub bound : ℕ
+  pub fresher : (old.fresh ≤ new.fresh) × (bound ≤ new.fresh)
+  pub below : (l : ℕ) → bound ≤ l → e.cells l ≡ untouched
 
 -- Several steps at a place are picks more of the innermost machine.
 pub record PicksMore (old : Course) (place : Place) (more : List Pick) (new : Course) : Type 0 where

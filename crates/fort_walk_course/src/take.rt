@@ -1,8 +1,7 @@
-//! Steps that were taken beside the run.
+//! Legs that were taken beside the run.
 ghost use Rattle.std.specs.Prelude.{◌≡◌, ◌+◌, ◌<◌, ◌≤◌, ◌^◌, IfOk};
 ghost use Rattle.fort_machine.specs.Effects.{FitsAll};
 ghost use Rattle.fort_store_effects.specs.Levels.{effect_of, levels_of, seen, spent as all_spent};
-ghost use Rattle.fort_walk_legs.specs.Legs.{AreSteps};
 ghost use Rattle.fort_walk_course.specs.Courses.{StandsAt};
 ghost use Rattle.fort_walk_course.specs.Taken.{MayTakeIn, PicksMore, TakesIn};
 
@@ -16,14 +15,15 @@ use fort_walk_legs::all_under;
 use std::alloc::Global;
 
 impl Execution {
-    /// Steps that the threads of the form at a place took beside the run, over the layers as they
-    /// are, are picks of its innermost machine: what they did is done in the layers, and the form
-    /// becomes what they made of it. They touched no location with the number `fresh` or a higher
-    /// one. It takes time for each step and for each location that they touched.
+    /// Legs of the form at a place, attempts among them, which were taken beside the run, over the
+    /// layers as they are, are picks of its innermost machine: what they did is done in the layers,
+    /// and the form becomes what they made of it. It takes time for each pick and for each location
+    /// that they touched.
     ///
     /// # Errors
     ///
-    /// `Memory` where memory is wanting, or where the numbers of the clock are at their end.
+    /// `Memory` where memory is wanting, where the numbers of the clock are at their end, or where
+    /// a leg touched the location of the number 2^64 - 1.
     pub fn take(
         self,
         alloc: Global,
@@ -32,9 +32,8 @@ impl Execution {
         next: &Shared<Term>,
         done: Layer,
         picks: List<Pick>,
-        fresh: u64,
     ) -> Result<Execution, Memory>
-        requires may { MayTakeIn program.now self place.now next.now (effect_of done) picks fresh }
+        requires may { MayTakeIn program.now self place.now next.now (effect_of done) picks }
         requires affords { self.spent + (effect_of done).cost ≤ self.fuel }
         ensures stands { IfOk result (λ course. StandsAt program.now course place.now next.now) }
         ensures fuel { IfOk result (λ course. course.fuel ≡ self.fuel) }
@@ -42,31 +41,32 @@ impl Execution {
     {
         let _program = program;
         let _next = next;
-        self.taken(alloc, place, done, picks, fresh)
+        self.taken(alloc, place, done, picks)
     }
 
-    // The steps as picks, and what they did.
+    // The legs as picks, and what they did.
     fn taken(
         self,
         alloc: Global,
         place: &Place,
         done: Layer,
         picks: List<Pick>,
-        fresh: u64,
     ) -> Result<Execution, Memory>
-        requires steps { AreSteps picks }
         requires fits { FitsAll (effect_of done) (seen (levels_of self.layers)) }
         requires spent { self.spent ≡ all_spent (levels_of self.layers) }
         requires affords { self.spent + (effect_of done).cost ≤ self.fuel }
-        ensures { IfOk result (TakesIn self place.now (effect_of done) picks fresh) }
+        ensures { IfOk result (TakesIn self place.now (effect_of done) picks) }
     {
+        let Some(bound) = done.bound() else {
+            return Err(Memory);
+        };
         let mut course = self.into_course();
         let spent = course.with(done.cost());
         course.layers = course.layers.take(done)?;
         course.picks.append(all_under(alloc, &place.path, picks)?)?;
         course.clock = risen(course.clock)?;
         course.spent = spent;
-        course.fresh = higher(course.fresh, fresh as u128);
+        course.fresh = higher(course.fresh, bound as u128);
         Execution::of(alloc, course)
     }
 }

@@ -1,22 +1,20 @@
-//! A part's steps as those of the whole.
+//! A part's picks as those of the whole.
 ghost use Rattle.std.specs.Prelude.{◌≡◌, ◌++◌, map, IfOk};
 ghost use Rattle.fort_core.specs.Opened.{opened_pick};
-ghost use Rattle.fort_core.specs.declared.pick.Pick.{out-Pick};
 ghost use Rattle.fort_machine.specs.Threads.{below_path, under};
-ghost use Rattle.fort_walk_legs.specs.Legs.{AreSteps, IsStepOf};
 
 use fort_base::{List, Memory};
 use fort_core::{Path, Pick, PickNode};
 use std::alloc::Global;
 
-/// The steps of a part as those of the whole: the part's path stands before each step's own. Where
-/// the part is the whole they stay as they are, in constant time.
+/// The picks of a part, attempts among them, as those of the whole: the part's path stands before
+/// each pick's own. Where the part is the whole they stay as they are, in constant time.
 ///
 /// # Errors
 ///
 /// `Memory` where memory is wanting.
+#[tactic(auto, using(crate::proofs::Paths::none_under))]
 pub fn all_under(alloc: Global, path: &Path, picks: List<Pick>) -> Result<List<Pick>, Memory>
-    requires { AreSteps picks }
     ensures { IfOk result (λ all. all ≡ map (under path.now.0) picks) }
 {
     if path.0.is_empty() {
@@ -24,18 +22,17 @@ pub fn all_under(alloc: Global, path: &Path, picks: List<Pick>) -> Result<List<P
     }
     let mut all = List::new(alloc);
     for pick in picks.into_vec() {
-        all.push(step_under(path, pick)?)?;
+        all.push(pick_under(path, pick)?)?;
     }
     Ok(all)
 }
 
-fn step_under(path: &Path, pick: Pick) -> Result<Pick, Memory>
-    requires { IsStepOf (out-Pick pick) }
+fn pick_under(path: &Path, pick: Pick) -> Result<Pick, Memory>
     ensures { IfOk result (λ made. made ≡ under path.now.0 pick) }
 {
     match pick.open() {
         PickNode::Step(own, loc) => Ok(Pick::Step(below(path, own)?, loc)),
-        PickNode::Attempt(_path, _inner) => unreachable!(),
+        PickNode::Attempt(own, within) => Ok(Pick::Attempt(below(path, own)?, within)),
     }
 }
 

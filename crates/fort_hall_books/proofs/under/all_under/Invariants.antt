@@ -1,6 +1,0 @@
-use Rattle.std.proofs.Common.{◌≡◌, map}
-use Rattle.fort_machine.specs.Threads.{under}
-use Rattle.fort_hall_books.proofs.under.all_under.Given as goal
-
-abbrev pub invariant-loop-pick : goal.invariant-loop-pick
-invariant-loop-pick l = l.all ≡ map (under l.path.0) l.yielded
