@@ -18,12 +18,13 @@ use fort_port::{Gate, Shelf};
 use fort_sound::{accepted_component_is_sound, founded_runs_well};
 use fort_sound_never::{founded_goes_through, founded_never_stops};
 use std::alloc::Global;
+use std::sync::Wait;
 use std::thread::Threads;
 
 /// What is meant to say of the files of these names, linked and run with a fuel in steps: all are
 /// read to their ends, or to the first byte behind the limit that they have together, before
 /// anything of them is judged.
-pub(crate) fn link_files<R: Threads + Sync, G: Gate + Sync, F: Shelf>(
+pub(crate) fn link_files<R: Threads + Wait + Sync, G: Gate + Sync, F: Shelf>(
     rt: &R,
     gate: &G,
     alloc: Global,
@@ -71,7 +72,7 @@ fn read_files<F: Shelf>(
 }
 
 /// What is to say of files, linked and run.
-fn link_texts<R: Threads + Sync, G: Gate + Sync>(
+fn link_texts<R: Threads + Wait + Sync, G: Gate + Sync>(
     rt: &R,
     gate: &G,
     alloc: Global,

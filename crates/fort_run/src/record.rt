@@ -13,11 +13,12 @@ use fort_core::Journal;
 use fort_port::Gate;
 use fort_sound_never::accepted_has_text;
 use std::alloc::Global;
+use std::sync::Wait;
 use std::thread::Threads;
 
 /// What is to say of the file of that name, run with a fuel in steps, where the record of the run
 /// is to be written.
-pub(crate) fn record_file<R: Threads + Sync, G: Gate + Sync>(
+pub(crate) fn record_file<R: Threads + Wait + Sync, G: Gate + Sync>(
     rt: &R,
     gate: &G,
     alloc: Global,

@@ -19,6 +19,7 @@ use fort_bench::bank;
 use fort_cmd::{CmdFault, Command, command_of};
 use fort_port::{Gate, Shelf};
 use std::alloc::Global;
+use std::sync::Wait;
 use std::thread::Threads;
 
 /// The fuel of the bank.
@@ -29,7 +30,7 @@ const BENCH_WORKERS: u32 = 4;
 
 /// What the call with these words means to say; a file is read to its end, or to the first byte
 /// behind the limit, before anything of it is judged.
-pub(crate) fn reply_to<R: Threads + Sync, G: Gate + Sync, F: Shelf>(
+pub(crate) fn reply_to<R: Threads + Wait + Sync, G: Gate + Sync, F: Shelf>(
     rt: &R,
     gate: &G,
     alloc: Global,
@@ -52,7 +53,7 @@ pub(crate) fn reply_to<R: Threads + Sync, G: Gate + Sync, F: Shelf>(
 }
 
 /// What the call with this command, which is no link, means to say.
-fn asked<R: Threads + Sync, G: Gate + Sync, F: Shelf>(
+fn asked<R: Threads + Wait + Sync, G: Gate + Sync, F: Shelf>(
     rt: &R,
     gate: &G,
     alloc: Global,
@@ -111,7 +112,7 @@ fn bank_within(alloc: Global, accounts: u32) -> Result<Bytes, Unread>
 }
 
 /// What is meant to say of a command's text; an audit has a second file to read.
-fn judged<R: Threads + Sync, G: Gate + Sync, F: Shelf>(
+fn judged<R: Threads + Wait + Sync, G: Gate + Sync, F: Shelf>(
     rt: &R,
     gate: &G,
     alloc: Global,
@@ -133,7 +134,7 @@ fn judged<R: Threads + Sync, G: Gate + Sync, F: Shelf>(
 }
 
 /// What a command says of its text, where that is its only file.
-fn say<R: Threads + Sync, G: Gate + Sync>(
+fn say<R: Threads + Wait + Sync, G: Gate + Sync>(
     rt: &R,
     gate: &G,
     alloc: Global,
@@ -158,7 +159,7 @@ fn say<R: Threads + Sync, G: Gate + Sync>(
 }
 
 /// What is to say of the bank's text.
-fn run_bank<R: Threads + Sync, G: Gate + Sync>(
+fn run_bank<R: Threads + Wait + Sync, G: Gate + Sync>(
     rt: &R,
     gate: &G,
     alloc: Global,

@@ -7,7 +7,7 @@ ghost use Rattle.fort_lex.specs.Files.{HasTokens};
 ghost use Rattle.fort_machine.specs.Written.{WrittenProgram};
 ghost use Rattle.fort_front.specs.Written.{AreInOrder};
 ghost use Rattle.fort_walk_course.specs.Calls.{IsRun};
-ghost use Rattle.fort_disp.specs.Rows.{GoesThrough};
+ghost use Rattle.fort_disp.specs.Rows.{GoesThrough, MayPick};
 ghost use Rattle.fort_walk_turns.specs.Defined.{AlwaysOne};
 ghost use Rattle.fort_walk_turns.specs.Stops.{StopsShort};
 ghost use Rattle.fort_run.specs.Reply.{RunSays, TellsEnding, TellsRun, file_limit, its_output};
@@ -17,20 +17,21 @@ use crate::answer::{Answer, Told, refused_by};
 use fort_base::{Bytes, Memory};
 use fort_core::{Ending, Program};
 use fort_diag::uncaught;
-use fort_disp::tables;
+use fort_disp::{Tables, tables};
 use fort_front::{accepted_is_written, check};
 use fort_lex::{Tokens, tokens};
 use fort_port::Gate;
 use fort_sound::{accepted_runs_well, file_is_in_order};
 use fort_sound_never::{accepted_goes_through, accepted_never_stops};
-use fort_walk::{Ran, walk};
+use fort_walk::{Ran, walk, walk_side_by_side};
 use std::alloc::Global;
+use std::sync::Wait;
 use std::thread::Threads;
 
 /// What is to say of the file of that name, run with a fuel in steps: the rules of its tokens come
 /// first, then those of the grammar, of grouping, of types, of members, of overloading and of
 /// typing; then it runs.
-pub(crate) fn run_file<R: Threads + Sync, G: Gate + Sync>(
+pub(crate) fn run_file<R: Threads + Wait + Sync, G: Gate + Sync>(
     rt: &R,
     gate: &G,
     alloc: Global,
@@ -53,7 +54,7 @@ pub(crate) fn run_file<R: Threads + Sync, G: Gate + Sync>(
 }
 
 /// What is to say of a file of these tokens.
-fn formed<R: Threads + Sync, G: Gate + Sync>(
+fn formed<R: Threads + Wait + Sync, G: Gate + Sync>(
     rt: &R,
     gate: &G,
     alloc: Global,
@@ -76,9 +77,9 @@ fn formed<R: Threads + Sync, G: Gate + Sync>(
     }
 }
 
-/// What is to say of a component's program: it runs, to its end. Its calls' declarations are found
-/// by its tables.
-pub(crate) fn run_program<R: Threads + Sync, G: Gate + Sync>(
+/// What is to say of a component's program: it runs, to its end, by one worker, who waits for
+/// nobody, or by several. Its calls' declarations are found by its tables.
+pub(crate) fn run_program<R: Threads + Wait + Sync, G: Gate + Sync>(
     rt: &R,
     gate: &G,
     alloc: Global,
@@ -93,8 +94,30 @@ pub(crate) fn run_program<R: Threads + Sync, G: Gate + Sync>(
     ensures { IfOk result (λ a. TellsRun its_output program.now fuel (said a)) }
 {
     let tables = tables(alloc, program)?;
-    let ran = walk(rt, gate, alloc, &tables, fuel, workers)?;
+    let ran = run_by(rt, gate, alloc, &tables, workers, fuel)?;
     told(alloc, program, fuel, ran)
+}
+
+/// The run, by one worker or by several.
+fn run_by<R: Threads + Wait + Sync, G: Gate + Sync>(
+    rt: &R,
+    gate: &G,
+    alloc: Global,
+    tables: &Tables,
+    workers: u32,
+    fuel: u64,
+) -> Result<Ran, Memory>
+    requires written { WrittenProgram tables.now.program.now }
+    requires tables { MayPick tables.now }
+    requires one { AlwaysOne tables.now.program.now }
+    requires never { StopsShort tables.now.program.now → ⊥ }
+    ensures { IfOk result (IsRun tables.now.program.now fuel) }
+{
+    if workers < 2 {
+        walk(alloc, tables, fuel)
+    } else {
+        walk_side_by_side(rt, gate, alloc, tables, fuel, workers)
+    }
 }
 
 /// What is to say of a run.

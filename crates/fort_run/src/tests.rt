@@ -8,6 +8,7 @@ use std::alloc::{AllocError, Global};
 use std::fs::{self, OpenOptions};
 use std::io::{self, Write};
 use std::process::Abort;
+use std::sync::Wait;
 use std::test::Fail;
 use std::thread::Threads;
 
@@ -80,7 +81,7 @@ fn padded(alloc: Global, file: &str, more: &str, len: usize) -> Result<Vec<u8>, 
 
 /// Runs the words over a shelf of one file that gives `most` bytes a call, compares all that comes
 /// out, and answers how the call ended.
-fn expect_finish<R: Threads + Sync + Abort + AllocGlobal>(
+fn expect_finish<R: Threads + Wait + Sync + Abort + AllocGlobal>(
     rt: &R,
     words: &[&str],
     file: &[u8],
@@ -109,7 +110,7 @@ fn expect_finish<R: Threads + Sync + Abort + AllocGlobal>(
 }
 
 /// The same, of which only what comes out is compared.
-fn expect<R: Threads + Sync + Abort + AllocGlobal>(
+fn expect<R: Threads + Wait + Sync + Abort + AllocGlobal>(
     rt: &R,
     words: &[&str],
     file: &[u8],
@@ -167,7 +168,7 @@ fn a_run_costs_what_its_steps_cost(rt: HostRuntime) -> Result<(), Fail> {
 }
 
 /// Audits a record of `LETTER`, and compares all that comes out.
-fn expect_audit<R: Threads + Sync + Abort + AllocGlobal>(
+fn expect_audit<R: Threads + Wait + Sync + Abort + AllocGlobal>(
     rt: &R,
     record: &str,
     status: u8,
@@ -260,7 +261,7 @@ fn a_file_may_have_as_many_bytes_as_the_limit(rt: HostRuntime) -> Result<(), Fai
 }
 
 /// Links two files of the names `a` and `b`, and compares all that comes out.
-fn expect_link<R: Threads + Sync + Abort + AllocGlobal>(
+fn expect_link<R: Threads + Wait + Sync + Abort + AllocGlobal>(
     rt: &R,
     a: &[u8],
     b: &[u8],

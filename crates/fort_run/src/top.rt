@@ -12,6 +12,7 @@ use fort_diag::fixed;
 use fort_front::{never_both, never_both_in_grammar, one_program};
 use fort_port::{Gate, Shelf, Sink};
 use std::alloc::Global;
+use std::sync::Wait;
 use std::thread::Threads;
 
 /// The status of a call that found too little memory.
@@ -43,7 +44,7 @@ pub struct Finish {
 /// what then stands on both outputs, is the chapter "Statuses and notes" of docs/LANGUAGE.md. After
 /// a sink has failed nothing more is written to it. Where memory is wanting the status is 7, and
 /// nothing is said of `out`.
-pub fn fortress<R: Threads + Sync, F: Shelf, K: Sink, N: Sink, G: Gate + Sync>(
+pub fn fortress<R: Threads + Wait + Sync, F: Shelf, K: Sink, N: Sink, G: Gate + Sync>(
     rt: &R,
     alloc: Global,
     words: &[String],

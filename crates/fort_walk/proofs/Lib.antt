@@ -1,4 +1,4 @@
 pub mod Ending
 pub mod Odd
 pub mod Moving
-pub mod Rounding
+pub mod Halls

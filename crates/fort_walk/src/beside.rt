@@ -1,55 +1,52 @@
-//! Legs side by side, where a walk comes to parts that may go on.
-ghost use Rattle.std.specs.Prelude.{◌≡◌, ◌+◌, ◌≤◌, false, IfOk, IfSome, IsTrue};
+//! A hall of workers, where a walk is at the left end of the root's term.
+ghost use Rattle.std.specs.Prelude.{◌≡◌, ◌+◌, ◌≤◌, [], false, IfOk, IfSome, IsTrue};
 ghost use Rattle.fort_machine.specs.Ends.{has_stepped};
 ghost use Rattle.fort_machine.specs.Written.{WrittenProgram};
 ghost use Rattle.fort_disp.specs.Rows.{MayPick};
 ghost use Rattle.fort_frames.specs.States.{term_at};
-ghost use Rattle.fort_walk_law_course.specs.Course.{is_inner};
-ghost use Rattle.fort_walk_course.specs.Courses.{StandsAt, around};
+ghost use Rattle.fort_walk_course.specs.Courses.{StandsAt};
 ghost use Rattle.fort_walk_turns.specs.Defined.{AlwaysOne};
 ghost use Rattle.fort_walk_turns.specs.Idles.{IsWalking};
-ghost use Rattle.fort_walk.specs.Rounds.{GoesOn, IsNextLeg};
+ghost use Rattle.fort_walk.specs.Halls.{AreNext, GoesOn, IsAtRoot};
 
 use crate::pace::Pace;
 use fort_base::{Memory, Shared};
 use fort_core::{Program, Term};
 use fort_disp::Tables;
-use fort_frames::{At, State};
-use fort_port::{Gate, Point};
-use fort_walk_course::{Course, Going};
-use fort_walk_rounds::{Leg, Room, Team, is_wide, leg_of};
+use fort_frames::{At, Stack, State};
+use fort_hall_books::Closed;
+use fort_hall_legs::{Crew, HallForm, HallLegs, legs_by};
+use fort_port::Gate;
+use fort_walk_course::Going;
 use fort_walk_turns::{Sweep, Walking};
 use std::alloc::Global;
+use std::sync::Wait;
 use std::thread::Threads;
 
-/// How many numbers for new locations are left to a round of legs.
-const NUMBERS: u64 = 68_719_476_736;
-
-/// How deep parts of which legs are taken may stand in the term.
-const DEPTH: u32 = 64;
-
-/// A walk, and when its next round of legs comes.
+/// A walk, and when its next hall comes.
 #[derive(Drop)]
 pub(crate) struct Round {
     pub walking: Walking,
     pub pace: Pace,
-    /// Whether legs were taken.
+    /// Whether legs were taken in.
     pub got_on: bool,
 }
 
-/// Where a walk comes to a form with parts that may go on, and it is time for it, these take legs
-/// side by side, in the machine of an attempt too.
+/// Where a walk is at the left end of the root's term, and it is time for it, workers take the
+/// whole term on side by side, attempts at any depth among what they do, until none of its threads
+/// can go on beside the others.
 ///
 /// # Errors
 ///
 /// `Memory` where memory is wanting.
-pub(crate) fn side_by_side<R: Threads + Sync, G: Gate + Sync>(
+pub(crate) fn side_by_side<R: Threads + Wait + Sync, G: Gate + Sync>(
     rt: &R,
     gate: &G,
     alloc: Global,
     tables: &Tables,
     walking: Walking,
     pace: Pace,
+    workers: u32,
 ) -> Result<Round, Memory>
     requires written { WrittenProgram tables.now.program.now }
     requires tables { MayPick tables.now }
@@ -57,34 +54,47 @@ pub(crate) fn side_by_side<R: Threads + Sync, G: Gate + Sync>(
     requires walking { IsWalking tables.now.program.now walking }
     ensures { IfOk result (GoesOn tables.now.program.now walking.going.course.fuel) }
 {
-    let inner = is_inside(&walking);
-    let pace = pace.before(walking.sweep, inner);
-    let whole = walking.going.state.place.path.0.is_empty();
-    if !pace.is_time() || !is_wide_here(&walking) {
+    if workers < 2 || !is_at_root(&walking) || !pace.is_time(walking.sweep) {
         return Ok(as_before(tables.program, walking, pace.passed()));
     }
-    match leg_here(rt, gate, alloc, tables, &walking, inner, pace)? {
-        None => Ok(as_before(tables.program, walking, pace.in_vain(whole))),
-        Some(leg) => take_in(alloc, tables.program, walking, pace, leg),
+    let crew = Crew {
+        workers,
+        base: pace.base(),
+    };
+    match legs_here(rt, gate, alloc, tables, &walking, crew)? {
+        None => Ok(as_before(tables.program, walking, pace.after(0))),
+        Some(legs) => take_in(alloc, tables.program, walking, pace, legs),
     }
 }
 
-// Whether the innermost machine is an attempt's.
-fn is_inside(walking: &Walking) -> bool
-    ensures { result ≡ is_inner (around walking.now.going.course) }
+// Whether it stands at the whole term of the root's machine, which is no mark.
+fn is_at_root(walking: &Walking) -> bool
+    ensures { IsTrue result → IsAtRoot walking.now }
 {
     match walking.going.course.turn() {
-        None => false,
-        Some(_) => true,
+        Some(_) => false,
+        None => match &walking.going.state.place.stack {
+            Stack::Empty => is_unmarked(&walking.going.state.at),
+            _ => false,
+        },
     }
 }
 
-// Whether it stands at a form with parts that may go on side by side; no mark stands round it.
-fn is_wide_here(walking: &Walking) -> bool
-    ensures { IsTrue result → has_stepped (term_at walking.now.going.state.«at») ≡ false }
+// Whether it is a form that is to be gone into, and no mark.
+fn is_unmarked(at: &At) -> bool
+    ensures { IsTrue result → has_stepped (term_at at.now) ≡ false }
 {
-    match &walking.going.state.at {
-        At::Form(form) => is_wide(form.get(), DEPTH),
+    match at {
+        At::Form(form) => !is_mark(form.get()),
+        _ => false,
+    }
+}
+
+fn is_mark(term: &Term) -> bool
+    ensures { result ≡ has_stepped term.now }
+{
+    match term {
+        Term::Stepped(_) => true,
         _ => false,
     }
 }
@@ -102,121 +112,93 @@ fn as_before(program: &Program, walking: Walking, pace: Pace) -> Round
     }
 }
 
-// The leg of the form at which the innermost machine stands, if it has steps.
-fn leg_here<R: Threads + Sync, G: Gate + Sync>(
+// The legs of the term at which it stands, if there are some.
+fn legs_here<R: Threads + Wait + Sync, G: Gate + Sync>(
     rt: &R,
     gate: &G,
     alloc: Global,
     tables: &Tables,
     walking: &Walking,
-    inner: bool,
-    pace: Pace,
-) -> Result<Option<Leg>, Memory>
+    crew: Crew,
+) -> Result<Option<HallLegs>, Memory>
+    requires crew { 0 < crew.workers }
     requires written { WrittenProgram tables.now.program.now }
     requires tables { MayPick tables.now }
     requires one { AlwaysOne tables.now.program.now }
     requires walking { IsWalking tables.now.program.now walking.now }
-    requires inner { inner ≡ is_inner (around walking.now.going.course) }
-    requires unmarked { has_stepped (term_at walking.now.going.state.«at») ≡ false }
+    requires root { IsAtRoot walking.now }
     ensures { IfOk result (λ found. IfSome found
-        (IsNextLeg tables.now.program.now walking.now (term_at walking.now.going.state.«at»))) }
+        (AreNext tables.now.program.now walking.now (term_at walking.now.going.state.«at»))) }
 {
     match &walking.going.state.at {
-        At::Form(form) => leg_at(rt, gate, alloc, tables, walking, form, inner, pace),
+        At::Form(form) => legs_at(rt, gate, alloc, tables, walking, form, crew),
         _ => Ok(None),
     }
 }
 
-// The leg of a form at which it stands.
-fn leg_at<R: Threads + Sync, G: Gate + Sync>(
+// The legs of a form at which it stands.
+fn legs_at<R: Threads + Wait + Sync, G: Gate + Sync>(
     rt: &R,
     gate: &G,
     alloc: Global,
     tables: &Tables,
     walking: &Walking,
     form: &Shared<Term>,
-    inner: bool,
-    pace: Pace,
-) -> Result<Option<Leg>, Memory>
+    crew: Crew,
+) -> Result<Option<HallLegs>, Memory>
+    requires crew { 0 < crew.workers }
     requires written { WrittenProgram tables.now.program.now }
     requires tables { MayPick tables.now }
     requires one { AlwaysOne tables.now.program.now }
     requires stands { StandsAt tables.now.program.now walking.now.going.course
         walking.now.going.state.place form.now }
-    requires inner { inner ≡ is_inner (around walking.now.going.course) }
+    requires root { walking.now.going.course.outer ≡ [] }
     requires unmarked { has_stepped form.now ≡ false }
     ensures { IfOk result
-        (λ found. IfSome found (IsNextLeg tables.now.program.now walking.now form.now)) }
+        (λ found. IfSome found (AreNext tables.now.program.now walking.now form.now)) }
 {
     let course = walking.going.course.get();
-    let whole = walking.going.state.place.path.0.is_empty();
-    let from = match u64::try_from(course.fresh) {
-        Err(_) => return Ok(None),
-        Ok(from) => from,
+    let view = course.layers.again(alloc)?;
+    let whole = HallForm {
+        inner: false,
+        view: Shared::new(alloc, view)?,
+        first: form.share()?,
+        most: course.fuel - course.spent,
     };
-    let room = room_of(course, from, pace.cost(whole));
-    let team = team_of(course, pace.workers);
-    let layers = &course.layers;
-    let leg = leg_of(
-        rt, gate, alloc, tables, layers, inner, form, room, team, DEPTH,
-    )?;
-    if leg.picks.is_empty() {
+    let legs = legs_by(rt, gate, alloc, tables, whole, crew)?;
+    if legs.closed.picks.is_empty() {
         return Ok(None);
     }
-    Ok(Some(leg))
+    Ok(Some(legs))
 }
 
-// What the legs may cost together, and which numbers are theirs.
-fn room_of(course: &Course, from: u64, share: u64) -> Room
-    requires { course.now.spent ≤ course.now.fuel }
-    ensures from { result.from ≡ from }
-    ensures cost { course.now.spent + result.cost ≤ course.now.fuel }
-{
-    let left = course.fuel - course.spent;
-    Room {
-        from,
-        until: from.saturating_add(NUMBERS),
-        cost: if left < share { left } else { share },
-    }
-}
-
-// Who takes them, below how many attempts.
-fn team_of(course: &Course, workers: u32) -> Team {
-    let depth = u32::try_from(course.outer.len()).unwrap_or(u32::MAX);
-    Team {
-        point: Point {
-            worker: 0,
-            depth,
-            child: 0,
-        },
-        workers,
-    }
-}
-
-// The leg is taken in; the round is one pick of the thread's turn.
+// The legs are taken in; the hall is one pick of the thread's turn.
 fn take_in(
     alloc: Global,
     program: &Program,
     walking: Walking,
     pace: Pace,
-    leg: Leg,
+    legs: HallLegs,
 ) -> Result<Round, Memory>
     requires walking { IsWalking program.now walking }
-    requires next { IsNextLeg program.now walking (term_at walking.going.state.«at») leg }
+    requires next { AreNext program.now walking (term_at walking.going.state.«at») legs }
     ensures { IfOk result (GoesOn program.now walking.going.course.fuel) }
 {
     let Walking { going, sweep } = walking;
     let Going { course, state } = going;
     let State { place, at: _at } = state;
-    let pace = pace.after(place.path.0.is_empty(), leg.left_out, leg.done.cost());
-    let Leg {
+    let HallLegs {
+        closed,
+        legs: _legs,
+    } = legs;
+    let Closed {
+        view: _view,
         done,
         picks,
         term,
-        fresh,
-        left_out: _,
-    } = leg;
-    let course = course.take(alloc, program, &place, &term, done, picks, fresh)?;
+    } = closed;
+    let pace = pace.after(done.cost());
+    let course = course.take(alloc, program, &place, &term, done, picks)?;
     let at = At::Form(term);
     Ok(Round {
         walking: Walking {

@@ -1,5 +1,5 @@
-//! Walks of programs: a run, one thread after another, with attempts at any depth. The chapters
-//! "Runs", "Atomic" and "Journals" of docs/MACHINE.md.
+//! Walks of programs: a run, with attempts at any depth, one thread after another, or by several
+//! workers side by side. The chapters "Runs", "Atomic", "Journals" and "Legs" of docs/MACHINE.md.
 #![tactic(auto)]
 
 mod beside;
@@ -8,4 +8,4 @@ mod pace;
 mod walking;
 
 pub use fort_walk_course::Ran;
-pub use walking::walk;
+pub use walking::{walk, walk_side_by_side};

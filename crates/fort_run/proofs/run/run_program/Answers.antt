@@ -6,23 +6,23 @@ use Rattle.fort_walk_turns.specs.Defined.{AlwaysOne}
 use Rattle.fort_walk_turns.specs.Stops.{StopsShort}
 use Rattle.fort_run.proofs.run.run_program.Goals as goal
 
-pub walk-requires-clause-written : goal.walk-requires-clause-written
-walk-requires-clause-written g c κs within =
+pub run_by-requires-clause-written : goal.run_by-requires-clause-written
+run_by-requires-clause-written g c κs within =
     subst WrittenProgram (sym c.in_ok-tables.ensures.program) c.requires.written
 
-pub walk-requires-clause-tables : goal.walk-requires-clause-tables
-walk-requires-clause-tables g c κs within = record {
+pub run_by-requires-clause-tables : goal.run_by-requires-clause-tables
+run_by-requires-clause-tables g c κs within = record {
   rows = subst (λ p. AreRows p p.sets c.in_ok-tables.tables.rows)
       (sym c.in_ok-tables.ensures.program) c.in_ok-tables.ensures.rows;
   through = subst GoesThrough (sym c.in_ok-tables.ensures.program) c.requires.through;
 }
 
-pub walk-requires-clause-one : goal.walk-requires-clause-one
-walk-requires-clause-one g c κs within =
+pub run_by-requires-clause-one : goal.run_by-requires-clause-one
+run_by-requires-clause-one g c κs within =
     subst AlwaysOne (sym c.in_ok-tables.ensures.program) c.requires.one
 
-pub walk-requires-clause-never : goal.walk-requires-clause-never
-walk-requires-clause-never g c κs within stops =
+pub run_by-requires-clause-never : goal.run_by-requires-clause-never
+run_by-requires-clause-never g c κs within stops =
     c.requires.never (subst StopsShort c.in_ok-tables.ensures.program stops)
 
 pub told-requires-clause-run : goal.told-requires-clause-run

@@ -3,5 +3,5 @@ use Rattle.fort_walk_turns.specs.Idles.{IsWalking}
 use Rattle.fort_walk.proofs.walking.walked.Given as goal
 
 abbrev pub invariant-loop-turn : goal.invariant-loop-turn
-invariant-loop-turn g l = IsWalking l.tables.program.now l.walking
+invariant-loop-turn l = IsWalking l.tables.program.now l.walking
     × (l.walking.going.course.fuel ≡ l.fuel)

@@ -1,4 +1,0 @@
-pub mod Goes
-pub mod Parts
-pub mod Stretches
-pub mod Wholes
