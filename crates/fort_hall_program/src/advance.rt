@@ -14,11 +14,25 @@ use fort_disp::Tables;
 use fort_hall_books::{Kind, Leg};
 use fort_hall_forms::first_form;
 use fort_hall_machine::{Made, Room};
+use fort_port::Point;
 use fort_walk_stretch::{Leg as Stretch, Room as Span, leaf};
 use std::alloc::Global;
 
 // How many numbers for new locations a worker's range has.
 const RANGE: u64 = 1 << 50;
+
+/// Where a leg of a state begins, made by this worker.
+pub(crate) fn point_of(state: &State, worker: u32) -> Point {
+    let child = match state.path.0.as_slice().last() {
+        Some(number) => number.saturating_add(1),
+        None => 0,
+    };
+    Point {
+        worker,
+        depth: state.depth,
+        child,
+    }
+}
 
 /// Steps of the task's threads, as far as there is room for them; or the task at an atomic form of
 /// which an attempt is to be opened, where no thread has a step; or nothing. With the number behind
@@ -31,6 +45,7 @@ pub(crate) fn advance(
     alloc: Global,
     tables: &Tables,
     most: u64,
+    base: u64,
     state: State,
     room: Room,
 ) -> Result<(Made<TaskLeg, State>, u64), Memory>
@@ -40,24 +55,71 @@ pub(crate) fn advance(
     ensures { IfOk result (λ r. IsMade (IsLegOfTask tables.now.program.now)
         (IsGood tables.now.program.now most) r.0) }
 {
-    let span = span_of(room, state.left);
-    let part = state.part.share()?;
-    let leg = leaf(alloc, tables, state.view.get(), state.inner, part, span)?;
-    if leg.picks.is_empty() {
-        return Ok((at_form(alloc, tables.program, most, state)?, room.from));
+    let span = span_of(room, base, state.left);
+    let short = Span {
+        cost: span.cost.min(state.slice),
+        ..span
+    };
+    let leg = stretch(alloc, tables, most, &state, short)?;
+    if leg.picks.is_empty() && !leg.left_out && short.cost < span.cost {
+        let longer = stretch(alloc, tables, most, &state, span)?;
+        return made(alloc, tables.program, most, state, longer, span, room.from);
     }
-    let fresh = leg.fresh;
-    Ok((Made::Leg(taken(tables.program, most, state, leg, span)), fresh))
+    made(alloc, tables.program, most, state, leg, short, room.from)
 }
 
-// What a leg may take: the numbers of the worker's range, and what its book may still cost.
-fn span_of(room: Room, left: u64) -> Span {
-    let behind = RANGE - room.from % RANGE;
+// What a leg may take: the numbers of the worker's range from its base on, and what its book may
+// still cost.
+fn span_of(room: Room, base: u64, left: u64) -> Span {
+    let own = room.from % RANGE;
+    let until = room.from.saturating_add(RANGE - own);
+    let skipped = (base % RANGE).saturating_sub(own);
     Span {
-        from: room.from,
-        until: room.from.saturating_add(behind),
+        from: room.from.saturating_add(skipped),
+        until,
         cost: room.most.min(left),
     }
+}
+
+// Steps of the task's threads within a span.
+fn stretch(
+    alloc: Global,
+    tables: &Tables,
+    most: u64,
+    state: &State,
+    span: Span,
+) -> Result<Stretch, Memory>
+    requires written { WrittenProgram tables.now.program.now }
+    requires tables { MayPick tables.now }
+    requires good { IsGood tables.now.program.now most state.now }
+    ensures { IfOk result (Goes tables.now.program.now state.now.inner
+        (seen (levels_of state.now.view)) state.now.part span) }
+{
+    let _most = most;
+    let part = state.part.share()?;
+    leaf(alloc, tables, state.view.get(), state.inner, part, span)
+}
+
+// Steps as a leg of the task; or, where there are none, the task at a form.
+fn made(
+    alloc: Global,
+    program: &Program,
+    most: u64,
+    state: State,
+    leg: Stretch,
+    span: Span,
+    from: u64,
+) -> Result<(Made<TaskLeg, State>, u64), Memory>
+    requires written { WrittenProgram program.now }
+    requires good { IsGood program.now most state }
+    requires goes { Goes program.now state.inner (seen (levels_of state.view)) state.part span leg }
+    ensures { IfOk result (λ r. IsMade (IsLegOfTask program.now) (IsGood program.now most) r.0) }
+{
+    if leg.picks.is_empty() {
+        return Ok((at_form(alloc, program, most, state)?, from));
+    }
+    let fresh = leg.fresh;
+    Ok((Made::Leg(taken(program, most, state, leg, span)), fresh))
 }
 
 // The steps as a leg of the task.
@@ -87,7 +149,8 @@ fn taken(program: &Program, most: u64, state: State, leg: Stretch, span: Span) -
     }
 }
 
-// The task at the first atomic form of its part that may be tried.
+// The task at the first atomic form of its part that may be tried. None where its book can't afford
+// an attempt.
 #[tactic(auto, using(crate::proofs::Advancing::at_found_form, fort_hall_forms::proofs::Odd::part_of_run))]
 fn at_form(
     alloc: Global,
@@ -100,6 +163,9 @@ fn at_form(
     ensures { IfOk result (IsMade (IsLegOfTask program.now) (IsGood program.now most)) }
 {
     let _most = most;
+    if state.left == 0 {
+        return Ok(Made::Nothing);
+    }
     let part = state.part.share()?;
     match first_form(alloc, program, part, state.view.get())? {
         None => Ok(Made::Nothing),

@@ -42,7 +42,8 @@ pub(crate) fn begin(
     }
     let view = state.view.share()?;
     let body = form.body.share()?;
-    TaskBook::new(alloc, true, view, body, state.left.saturating_sub(1))
+    let own = state.left.saturating_sub(1);
+    TaskBook::new(alloc, true, view, body, own, state.depth.saturating_add(1))
 }
 
 // Whether a term is a part in which a step was taken.

@@ -9,6 +9,7 @@ ghost use Rattle.fort_hall_program.specs.States.{IsAt, IsNewBook};
 use crate::tasks::Tasks;
 use fort_base::{Memory, Shared};
 use fort_core::{Program, Term};
+use fort_frames_moves::{Stand, standing_of};
 use fort_hall_books::{Book, Closed};
 use fort_store_effects::{Layer, Layers};
 use std::alloc::Global;
@@ -21,10 +22,13 @@ pub struct TaskBook {
     /// The store, with nothing else; none once memory was wanting.
     pub(crate) at_hand: Option<Layers>,
     pub(crate) tasks: Tasks,
+    /// The number of attempts round its tasks.
+    pub(crate) depth: u32,
 }
 
 impl TaskBook {
-    // A book without a leg, whose only task is the whole term.
+    // A book without a leg, below so many attempts, whose only task is the whole term; it has none
+    // where that isn't open, and has ended so.
     #[tactic(auto, using(crate::proofs::Stores::new_task_book))]
     pub(crate) fn new(
         alloc: Global,
@@ -32,17 +36,19 @@ impl TaskBook {
         view: Shared<Layers>,
         first: Shared<Term>,
         most: u64,
+        depth: u32,
     ) -> Result<TaskBook, Memory>
         requires { (levels_of view).attempts ≡ [] }
         ensures { IfOk result (IsNewBook inner view first most) }
     {
         let store = view.get().again(alloc)?;
+        let tasks = Tasks::new(alloc, is_open(first.get()))?;
         let book = Book::new(alloc, inner, view, first, most)?;
-        let tasks = Tasks::new(alloc)?;
         Ok(TaskBook {
             book,
             at_hand: Some(store),
             tasks,
+            depth,
         })
     }
 
@@ -73,5 +79,13 @@ impl TaskBook {
         if let Ok(store) = store.take(more) {
             self.at_hand = Some(store);
         }
+    }
+}
+
+// Whether a term is neither a value nor a throw.
+fn is_open(term: &Term) -> bool {
+    match standing_of(term) {
+        Stand::Open => true,
+        _ => false,
     }
 }

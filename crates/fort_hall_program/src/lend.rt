@@ -15,7 +15,8 @@ use std::alloc::Global;
 /// How many forms may stand round the part of a task.
 pub(crate) const DEPTH: u32 = 256;
 
-/// Lends a task, where it can be lent.
+/// Lends a task, where it can be lent. One whose part isn't to be reached is given up, and the task
+/// that was divided into it goes on alone: so a book doesn't end here.
 ///
 /// # Errors
 ///
@@ -40,7 +41,7 @@ pub(crate) fn lend(
     match state_of(alloc, program, most, book, task) {
         Ok(Some(state)) => Ok(Found::Runs(state)),
         Ok(None) => {
-            book.tasks.rest(task, legs);
+            let _ = book.tasks.cut(task);
             Ok(Found::Nothing)
         }
         Err(wanting) => {
@@ -91,7 +92,7 @@ fn state_of(
 {
     let _program = program;
     let _most = most;
-    let Some(path) = book.tasks.path(task) else {
+    let Some((path, slice)) = book.tasks.find(task) else {
         return Ok(None);
     };
     let path = path.copy(alloc)?;
@@ -109,6 +110,8 @@ fn state_of(
         part,
         view: Shared::new(alloc, view)?,
         left: book.book.left(),
+        slice,
+        depth: book.depth,
         form: None,
     }))
 }

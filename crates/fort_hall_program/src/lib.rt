@@ -12,5 +12,5 @@ mod submit;
 mod tasks;
 
 pub use book::TaskBook;
-pub use machine::{Naming, TermMachine};
+pub use machine::{Naming, Setting, TermMachine};
 pub use state::{State, TaskLeg, Waste};

@@ -4,7 +4,7 @@ ghost use Rattle.fort_core.specs.declared.program.Program.{Program as a_program}
 ghost use Rattle.fort_hall_law_books.specs.Books.{Origin as an_origin};
 ghost use Rattle.fort_hall_program.specs.Machines.{IsMachine};
 
-use crate::advance::advance;
+use crate::advance::{advance, point_of};
 use crate::attempt::{begin, finish};
 use crate::book::TaskBook;
 use crate::lend::lend;
@@ -14,6 +14,7 @@ use fort_base::{Memory, Shared};
 use fort_core::Term;
 use fort_disp::Tables;
 use fort_hall_machine::{Found, Machine, Made, Room, Submitted};
+use fort_port::Gate;
 use fort_store_effects::Layers;
 use std::alloc::Global;
 use std::marker::{Brand, Model, PhantomData};
@@ -41,20 +42,33 @@ impl Naming for Brand {
     ghost most = { 0 };
 }
 
+/// What a machine is told beside its form.
+#[derive(Clone, Copy, Debug, PartialEq, Eq)]
+pub struct Setting {
+    /// Whether the form stands in an attempt's machine.
+    pub inner: bool,
+    /// What all legs and attempts may cost together.
+    pub most: u64,
+    /// Where new locations begin in each worker's range of 2^50 numbers, modulo 2^50: a hall that
+    /// follows another one over the same store begins behind it, so that no number is given twice.
+    pub base: u64,
+}
+
 /// A form of a program, whose threads go on in a hall, over a store that stays as it is.
 #[derive(Drop)]
-pub struct TermMachine<'a, J: Naming> {
+pub struct TermMachine<'a, J: Naming, G: Gate> {
     alloc: Global,
     tables: &'a Tables<'a>,
-    /// Whether the form stands in an attempt's machine.
+    gate: &'a G,
     inner: bool,
     view: Shared<Layers>,
     first: Shared<Term>,
     most: u64,
+    base: u64,
     of: PhantomData<J>,
 }
 
-impl<'a, J: Naming> Model for TermMachine<'a, J> {
+impl<'a, J: Naming, G: Gate> Model for TermMachine<'a, J, G> {
     ghost use Rattle.fort_hall_program.specs.Machines.{IsMachine};
 
     ghost Value = { Unit {0} };
@@ -65,32 +79,35 @@ impl<'a, J: Naming> Model for TermMachine<'a, J> {
         m.first m.most };
 }
 
-impl<'a, J: Naming> TermMachine<'a, J> {
-    /// The machine of a form on the store that layers show; its legs and attempts together may cost
-    /// so much.
+impl<'a, J: Naming, G: Gate> TermMachine<'a, J, G> {
+    /// The machine of a form on the store that layers show. The gate is told of each leg where it
+    /// begins, also of one that then finds no step.
     pub fn new(
         alloc: Global,
         tables: &'a Tables<'a>,
-        inner: bool,
+        gate: &'a G,
         view: Shared<Layers>,
         first: Shared<Term>,
-        most: u64,
-    ) -> TermMachine<'a, J>
-        requires { IsMachine J.program J.start J.most tables.now inner view first most }
+        setting: Setting,
+    ) -> TermMachine<'a, J, G>
+        requires { IsMachine J.program J.start J.most tables.now setting.inner view first setting.most }
     {
+        let Setting { inner, most, base } = setting;
         TermMachine {
             alloc,
             tables,
+            gate,
             inner,
             view,
             first,
             most,
+            base,
             of: PhantomData,
         }
     }
 }
 
-impl<'a, J: Naming> Machine for TermMachine<'a, J> {
+impl<'a, J: Naming, G: Gate> Machine for TermMachine<'a, J, G> {
     ghost use Rattle.std.specs.Prelude.{◌≡◌, ◌==◌, ◌&&◌};
     ghost use Rattle.fort_hall_books.specs.declared.book.Entry.{Entry as AnEntry};
     ghost use Rattle.fort_hall_law_books.specs.Books.{Origin as AnOrigin};
@@ -133,7 +150,7 @@ impl<'a, J: Naming> Machine for TermMachine<'a, J> {
     fn root(&self) -> Result<TaskBook, Memory> {
         let view = self.view.share()?;
         let first = self.first.share()?;
-        TaskBook::new(self.alloc, self.inner, view, first, self.most)
+        TaskBook::new(self.alloc, self.inner, view, first, self.most, 0)
     }
 
     #[tactic(auto, using(crate::proofs::Machines::own_book, crate::proofs::Machines::own_one, crate::proofs::Machines::named_book, crate::proofs::Machines::named_found))]
@@ -150,16 +167,13 @@ impl<'a, J: Naming> Machine for TermMachine<'a, J> {
     #[tactic(auto, using(crate::proofs::Submitting::kept_still))]
     fn leave(&self, book: &mut TaskBook, task: u64) {
         let legs = book.book.len();
-        book.tasks.rest(task, legs);
+        book.tasks.leave(task, legs);
     }
 
     #[tactic(auto, using(crate::proofs::Machines::own_state, crate::proofs::Machines::own_written, crate::proofs::Machines::named_made))]
-    fn advance(
-        &self,
-        state: State,
-        room: Room,
-    ) -> Result<(Made<TaskLeg, State>, u64), Memory> {
-        advance(self.alloc, self.tables, self.most, state, room)
+    fn advance(&self, state: State, room: Room) -> Result<(Made<TaskLeg, State>, u64), Memory> {
+        self.gate.at(point_of(&state, room.worker));
+        advance(self.alloc, self.tables, self.most, self.base, state, room)
     }
 
     #[tactic(auto, using(crate::proofs::Machines::own_book, crate::proofs::Machines::own_one, crate::proofs::Machines::own_leg, crate::proofs::Machines::named_book, crate::proofs::Machines::named_submitted))]

@@ -19,6 +19,10 @@ pub struct State {
     pub view: Shared<Layers>,
     /// What the book may still cost.
     pub left: u64,
+    /// What a leg of the task may cost.
+    pub slice: u64,
+    /// The number of attempts round the task.
+    pub depth: u32,
     /// The atomic form of the part of which an attempt is to be opened, if one is.
     pub form: Option<AtForm>,
 }

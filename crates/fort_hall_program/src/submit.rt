@@ -22,7 +22,8 @@ use std::alloc::Global;
 
 /// Appends a leg where it suits the book, as one entry that names the pass. What the worker goes on
 /// with is lent: the same task, or the first of those into which it is divided where others look
-/// for work (`wanted`), or the task that waited for this one.
+/// for work (`wanted`), or the task that waited for this one. A leg of a task that was given up is
+/// dropped, whatever it is.
 ///
 /// # Errors
 ///
@@ -46,6 +47,9 @@ pub(crate) fn submit(
     ensures good { IfOk result (λ r. IsSubmitted (IsGood program.now most) r.0) }
 {
     let TaskLeg { task, leg } = leg;
+    if !book.tasks.comes_back(task) {
+        return Ok((Submitted::Gone, Waste::Leg(leg)));
+    }
     let Some(whole) = whole_with(alloc, book, &leg)? else {
         let next = refused(alloc, program, most, book, task);
         return Ok((Submitted::Stale(next), Waste::Leg(leg)));
@@ -64,11 +68,7 @@ pub(crate) fn submit(
 }
 
 // The book's term with what a leg's part has become in its place, where the part stands there.
-fn whole_with(
-    alloc: Global,
-    book: &TaskBook,
-    leg: &Leg,
-) -> Result<Option<Shared<Term>>, Memory>
+fn whole_with(alloc: Global, book: &TaskBook, leg: &Leg) -> Result<Option<Shared<Term>>, Memory>
     requires { standing leg.now.part ≡ open_yet }
     ensures { IfOk result (λ found. IfSome found
         (IsPut book.now.book.term leg.now.path.0 leg.now.part leg.now.term)) }
@@ -140,11 +140,13 @@ fn after(
     ensures same { book.new.book ≡ book.old.book }
     ensures good { IsLent (IsGood program.now most) result.next }
 {
-    let woken = book.tasks.wake();
+    let held = book.tasks.is_held();
+    let woken = book.tasks.wake(book.book.len());
     let offer = turned(alloc, &mut book.tasks, task, &part, wanted);
+    let freed = held && !book.tasks.is_held();
     let next = lend_on(alloc, program, most, book, offer.next);
     After {
-        woken: woken || next.is_none(),
+        woken: woken || freed || next.is_none(),
         next,
         first: offer.first,
         count: offer.count,
@@ -160,16 +162,10 @@ struct Offer {
 }
 
 // How the task stands once its part has become another one.
-fn turned(
-    alloc: Global,
-    tasks: &mut Tasks,
-    task: u64,
-    part: &Shared<Term>,
-    wanted: u32,
-) -> Offer {
+fn turned(alloc: Global, tasks: &mut Tasks, task: u64, part: &Shared<Term>, wanted: u32) -> Offer {
     match standing_of(part.get()) {
         Stand::Open => {
-            tasks.accept(task);
+            tasks.accept(task, wanted);
             if wanted == 0 {
                 return alone(Some(task));
             }
@@ -178,7 +174,8 @@ fn turned(
                 _ => alone(Some(task)),
             }
         }
-        _ => alone(tasks.end(task)),
+        Stand::Value => alone(tasks.end(task)),
+        Stand::Throw => alone(tasks.cut(task)),
     }
 }
 
