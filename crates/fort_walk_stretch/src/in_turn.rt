@@ -27,8 +27,8 @@ use std::alloc::Global;
 
 /// A leg of a part over layers that stay as they are, in a machine, an attempt's (`inner`) or the
 /// root's: its threads go on from left to right, each as far as it can without an attempt, until
-/// the room is used up. It may have no step. Declarations of calls are found by the program's
-/// tables. The chapter "Legs".
+/// the room is used up, or one comes to an atomic form that hasn't slept. It may have no step.
+/// Declarations of calls are found by the program's tables. The chapter "Legs".
 ///
 /// The layers may show any locations, with whatever numbers. New ones get the numbers of the room
 /// in their order; where one of these is that of a location that is there, it is as if there were
@@ -135,7 +135,8 @@ fn at_thread(
     )
 }
 
-/// Past a thread that can't go on beside the run.
+/// Past a thread that can't go on beside the run. Behind an atomic form that hasn't slept no thread
+/// takes a step: else all threads behind it would be begun before its attempt.
 pub(crate) fn left_out(
     program: &Program,
     view: &Layers,
@@ -150,7 +151,16 @@ pub(crate) fn left_out(
 {
     let mut stretch = stretch;
     stretch.left_out = true;
+    stretch.full = is_full(stretch.full, form.get());
     passed(program, view, inner, room, stretch, place, form)
+}
+
+// Whether no further step is taken behind a form that was left out.
+fn is_full(full: bool, form: &Term) -> bool {
+    match form {
+        Term::Atomic(_, _) => true,
+        _ => full,
+    }
 }
 
 /// Past a thread that takes no step here.

@@ -6,4 +6,4 @@ use Rattle.fort_walk_stretch.proofs.in_turn.left_out.Goals as goal
 pub passed-requires : goal.passed-requires
 passed-requires c =
     flags_on c.args.program.now c.args.inner (seen (levels_of c.args.view.now)) c.args.room
-    c.args.stretch c.args.place c.args.form c.args.stretch.full true c.requires
+    c.args.stretch c.args.place c.args.form _ true c.requires
