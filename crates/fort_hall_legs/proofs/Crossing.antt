@@ -1,12 +1,12 @@
 -- What the workers of a hall hand to one another may go to other threads, and the machine may be
 -- read in several at once.
-use mathlib.Core.List.{List, ◌∷◌, []}
-use denote.Builtin.{u8, u32, bool}
+use mathlib.Core.List.{◌∷◌, []}
+use denote.Builtin.{u8, u32}
 use denote.Ref.{NamedLft}
 use denote.RattleType.{RattleType}
 use denote.Struct.Tuple.{Tuple}
-use denote.Param.Send.{IsSend, IsSync, sendable}
-use denote.Param.SendFields.{as_row_send, as_row_sync, declared_send, declared_sync}
+use denote.Param.Send.{IsSend, IsSync, sendable, view_send, view_sync}
+use denote.Param.SendFields.{as_row_send, as_row_sync, declared_send, declared_sync, variants_send, variants_sync}
 use Rattle.indexmap.proofs.map.IndexMap.TheSendSync as index_map
 use Rattle.std.proofs.Crossing as std_crossing
 use Rattle.std.specs.contracts.option.Option as option
@@ -42,7 +42,6 @@ use Rattle.fort_store_effects.specs.contracts.layers.Layers as layers
 use Rattle.fort_store.proofs.tree.Tree.TheLaws.TheKnot as trees
 use Rattle.fort_store.specs.contracts.store.Store as store
 use Rattle.fort_store.specs.contracts.tree.Tree as tree
-use Rattle.fort_frames.proofs.head.Head.TheSendSync as heads
 use Rattle.fort_frames.proofs.stack.Stack.TheLaws.TheKnot as stacks
 use Rattle.fort_frames.specs.contracts.frame.Frame as frame
 use Rattle.fort_frames.specs.contracts.node.Node as node
@@ -56,9 +55,11 @@ use Rattle.fort_hall_forms.specs.contracts.form.AtForm as at_form
 use Rattle.fort_hall_program.proofs.tasks.Tasks.TheSendSync as tasks
 use Rattle.fort_hall_program.specs.contracts.book.TaskBook as task_book
 use Rattle.fort_hall_program.specs.contracts.machine.TermMachine as machine
+use Rattle.fort_hall_program.specs.contracts.machine.TermMachine.TheInside as inside
 use Rattle.fort_hall_program.specs.contracts.state.State as state
 use Rattle.fort_hall_program.specs.contracts.state.TaskLeg as task_leg
 use Rattle.fort_hall_program.specs.contracts.state.Waste as waste
+use Rattle.fort_hall_program.specs.declared.machine.Naming
 
 -- ---- numbers, types, terms
 
@@ -102,6 +103,9 @@ text_sync = search (sendable, list.the_sync)
 
 pair_sync : (A B : RattleType) → IsSync A → IsSync B → IsSync (Tuple (A ∷ B ∷ []))
 pair_sync A B a b = search sendable depth 9
+
+pair_send : (A B : RattleType) → IsSend A → IsSend B → IsSend (Tuple (A ∷ B ∷ []))
+pair_send A B a b = search sendable depth 9
 
 program_sync : IsSync program.the_row
 program_sync =
@@ -320,12 +324,12 @@ book_send =
 pub task_book_send : IsSend task_book.the_row
 task_book_send =
     declared_send task_book.the_type
-    (book_send, (option_send _ layers_send, (tasks.the_send, tt)))
+    (book_send, (option_send _ layers_send, (tasks.the_send, (search sendable, tt))))
 
 -- ---- legs
 
 marks_send : IsSend (option.the_row (list_of (Tuple (a_loc ∷ value.the_row ∷ []))))
-marks_send = search (sendable, list.the_send, loc.the_send, value_row_send) depth 9
+marks_send = option_send _ (list.the_send _ (pair_send _ _ loc.the_send value_row_send))
 
 kind_send : IsSend kind.the_row
 kind_send = search (sendable, list.the_send, loc.the_field_send, value_send) depth 20
@@ -359,12 +363,9 @@ pub task_leg_send : IsSend task_leg.the_row
 task_leg_send = declared_send task_leg.the_type (search sendable, (leg_send, tt))
 
 pub waste_send : IsSend waste.the_row
-waste_send = search (sendable, shared_term_send, leg_send) depth 20
+waste_send = variants_send waste.enum ((shared_term_send, tt), ((leg_send, tt), tt))
 
 -- ---- places
-
-pair_send : (A B : RattleType) → IsSend A → IsSend B → IsSend (Tuple (A ∷ B ∷ []))
-pair_send A B a b = search sendable depth 9
 
 ty_field_send : IsSend a_ty.row
 ty_field_send = types.send-Ty (search sendable depth 9) list.the_send boxed.the_send
@@ -397,20 +398,156 @@ clauses_sync : IsSync (list_of (Tuple (shared_of term.the_row ∷ shared_of ty �
 clauses_sync = list.the_sync _ (pair_sync _ _ shared_term_sync shared_ty_sync)
 
 node_send : IsSend node.the_row
-node_send = search (sendable, heads.the_send, terms_send) depth 20
+node_send = search (sendable, terms_send) depth 20
 
 node_sync : IsSync node.the_row
-node_sync = search (sendable, heads.the_sync, terms_sync) depth 20
+node_sync = search (sendable, terms_sync) depth 20
 
 frame_send : IsSend frame.the_row
 frame_send =
-    search (sendable, node_send, values_send, terms_send, value_send, shared_term_send, shared_ty_send,
-    shared_variables_send, clauses_send) depth 20
+    variants_send frame.enum (
+      (node_send, tt),
+      (
+        tt,
+        (
+          (search sendable depth 9, (values_send, (terms_send, tt))),
+          (
+            (shared_ty_send, (shared_term_send, tt)),
+            (
+              (shared_ty_send, (value_row_send, tt)),
+              (
+                (shared_variables_send, (shared_term_send, tt)),
+                (
+                  (search sendable depth 9, (shared_ty_send, (shared_term_send, tt))),
+                  (
+                    (search sendable depth 9, tt),
+                    (
+                      (search sendable depth 9, tt),
+                      (
+                        (search sendable depth 9, (shared_term_send, tt)),
+                        (
+                          (value_row_send, (search sendable depth 9, tt)),
+                          (
+                            (shared_term_send, tt),
+                            (
+                              (value_row_send, tt),
+                              (
+                                (shared_term_send, (shared_term_send, tt)),
+                                (
+                                  (value_row_send, (shared_term_send, tt)),
+                                  (
+                                    (value_row_send, (value_row_send, tt)),
+                                    (
+                                      tt,
+                                      (
+                                        (shared_term_send, tt),
+                                        (
+                                          (shared_term_send, (shared_term_send, tt)),
+                                          (
+                                            (search sendable depth 9, (clauses_send, (shared_term_send, tt))),
+                                            (
+                                              (search sendable depth 9, (search sendable depth 9, (search sendable depth 9, (shared_term_send, tt)))),
+                                              (
+                                                (search sendable depth 9, (search sendable depth 9, (search sendable depth 9, (shared_term_send, (search sendable depth 9, (shared_term_send, tt)))))),
+                                                (
+                                                  (search sendable depth 9, (clauses_send, (option_send _ shared_term_send, tt))),
+                                                  tt,
+                                                ),
+                                              ),
+                                            ),
+                                          ),
+                                        ),
+                                      ),
+                                    ),
+                                  ),
+                                ),
+                              ),
+                            ),
+                          ),
+                        ),
+                      ),
+                    ),
+                  ),
+                ),
+              ),
+            ),
+          ),
+        ),
+      ),
+    )
 
 frame_sync : IsSync frame.the_row
 frame_sync =
-    search (sendable, node_sync, values_sync, terms_sync, value_sync, shared_term_sync, shared_ty_sync,
-    shared_variables_sync, clauses_sync) depth 20
+    variants_sync frame.enum (
+      (node_sync, tt),
+      (
+        tt,
+        (
+          (search sendable depth 9, (values_sync, (terms_sync, tt))),
+          (
+            (shared_ty_sync, (shared_term_sync, tt)),
+            (
+              (shared_ty_sync, (value_row_sync, tt)),
+              (
+                (shared_variables_sync, (shared_term_sync, tt)),
+                (
+                  (search sendable depth 9, (shared_ty_sync, (shared_term_sync, tt))),
+                  (
+                    (search sendable depth 9, tt),
+                    (
+                      (search sendable depth 9, tt),
+                      (
+                        (search sendable depth 9, (shared_term_sync, tt)),
+                        (
+                          (value_row_sync, (search sendable depth 9, tt)),
+                          (
+                            (shared_term_sync, tt),
+                            (
+                              (value_row_sync, tt),
+                              (
+                                (shared_term_sync, (shared_term_sync, tt)),
+                                (
+                                  (value_row_sync, (shared_term_sync, tt)),
+                                  (
+                                    (value_row_sync, (value_row_sync, tt)),
+                                    (
+                                      tt,
+                                      (
+                                        (shared_term_sync, tt),
+                                        (
+                                          (shared_term_sync, (shared_term_sync, tt)),
+                                          (
+                                            (search sendable depth 9, (clauses_sync, (shared_term_sync, tt))),
+                                            (
+                                              (search sendable depth 9, (search sendable depth 9, (search sendable depth 9, (shared_term_sync, tt)))),
+                                              (
+                                                (search sendable depth 9, (search sendable depth 9, (search sendable depth 9, (shared_term_sync, (search sendable depth 9, (shared_term_sync, tt)))))),
+                                                (
+                                                  (search sendable depth 9, (clauses_sync, (option_sync _ shared_term_sync, tt))),
+                                                  tt,
+                                                ),
+                                              ),
+                                            ),
+                                          ),
+                                        ),
+                                      ),
+                                    ),
+                                  ),
+                                ),
+                              ),
+                            ),
+                          ),
+                        ),
+                      ),
+                    ),
+                  ),
+                ),
+              ),
+            ),
+          ),
+        ),
+      ),
+    )
 
 -- A stack's one part is shared: a frame, and the stack below it.
 stack_send : IsSend stack.the_field.row
@@ -457,8 +594,14 @@ state_send =
               (
                 search sendable,
                 (
-                  option_send _ at_form_send,
-                  tt,
+                  search sendable,
+                  (
+                    search sendable,
+                    (
+                      option_send _ at_form_send,
+                      tt,
+                    ),
+                  ),
                 ),
               ),
             ),
@@ -469,52 +612,66 @@ state_send =
 
 -- ---- the machine
 
-pub machine_send : (a : NamedLft) (J : RattleType) → IsSend J → IsSend (machine.the_row a J)
-machine_send a J s =
-    declared_send (machine.the_type a J) (
+pub machine_send : (a : NamedLft) (J G : RattleType) (n : Naming.Ghosts J.Denot) → IsSync G
+    → IsSend (machine.the_row a J G n)
+machine_send a J G n g =
+    view_send _ _ _ _ _ (declared_send (inside.the_type a J G n) (
       search (sendable, std_crossing.send) depth 9,
       (
         search (sendable, tables_sync) depth 9,
         (
-          search sendable,
+          search (sendable, g) depth 9,
           (
-            shared_layers_send,
+            search sendable,
             (
-              shared_term_send,
+              shared_layers_send,
               (
-                search sendable,
+                shared_term_send,
                 (
-                  search (sendable, s) depth 9,
-                  tt,
+                  search sendable,
+                  (
+                    search sendable,
+                    (
+                      search sendable,
+                      tt,
+                    ),
+                  ),
                 ),
               ),
             ),
           ),
         ),
       ),
-    )
+    ))
 
-pub machine_sync : (a : NamedLft) (J : RattleType) → IsSync J → IsSync (machine.the_row a J)
-machine_sync a J s =
-    declared_sync (machine.the_type a J) (
+pub machine_sync : (a : NamedLft) (J G : RattleType) (n : Naming.Ghosts J.Denot) → IsSync G
+    → IsSync (machine.the_row a J G n)
+machine_sync a J G n g =
+    view_sync _ _ _ _ _ (declared_sync (inside.the_type a J G n) (
       search (sendable, std_crossing.crosses) depth 9,
       (
         search (sendable, tables_sync) depth 9,
         (
-          search sendable,
+          search (sendable, g) depth 9,
           (
-            shared_layers_sync,
+            search sendable,
             (
-              shared_term_sync,
+              shared_layers_sync,
               (
-                search sendable,
+                shared_term_sync,
                 (
-                  search (sendable, s) depth 9,
-                  tt,
+                  search sendable,
+                  (
+                    search sendable,
+                    (
+                      search sendable,
+                      tt,
+                    ),
+                  ),
                 ),
               ),
             ),
           ),
         ),
       ),
-    )
+    ))

@@ -3,13 +3,18 @@ use Rattle.std.specs.Prelude.{◌≡◌, ℕ, ◌+◌, ◌<◌, ◌≤◌, List,
 use Rattle.fort_turn.specs.Book.{entries_by}
 use Rattle.fort_core.specs.declared.program.Program.{Program}
 use Rattle.fort_machine.specs.Journals.{MakesWithinBounds}
-use Rattle.fort_store_effects.specs.Levels.{effect_of}
+use Rattle.fort_store_effects.specs.Levels.{effect_of, levels_of, seen}
 use Rattle.fort_hall_law_books.specs.Books.{Origin}
 use Rattle.fort_hall_law_books.specs.Legs.{Legs}
 use Rattle.fort_hall_books.specs.Books.{picks_of}
 use Rattle.fort_hall_books.specs.declared.book.Entry.{Entry}
 use Rattle.fort_hall_program.specs.States.{pass_of}
+use Rattle.fort_hall_legs.specs.declared.legs.HallForm.{HallForm}
 use Rattle.fort_hall_legs.specs.declared.legs.HallLegs.{HallLegs}
+
+-- Where the form begins that is to go on: on the store that its layers show.
+abbrev pub form_origin : HallForm → Origin
+form_origin f = record { inner = f.inner; store = seen (levels_of f.view); first = f.first }
 
 -- The picks are those of some entries, one for each leg. Worker n has the pass n + 1; of each
 -- worker there are as many entries as is told, and there are no others.
