@@ -62,7 +62,7 @@ pub(crate) fn side_by_side<R: Threads + Wait + Sync, G: Gate + Sync>(
         base: pace.base(),
     };
     match legs_here(rt, gate, alloc, tables, &walking, crew)? {
-        None => Ok(as_before(tables.program, walking, pace.after(0))),
+        None => Ok(as_before(tables.program, walking, pace.after(0, 0))),
         Some(legs) => take_in(alloc, tables.program, walking, pace, legs),
     }
 }
@@ -197,7 +197,7 @@ fn take_in(
         picks,
         term,
     } = closed;
-    let pace = pace.after(done.cost());
+    let pace = pace.after(done.cost(), sum(&legs));
     let course = course.take(alloc, program, &place, &term, done, picks)?;
     let at = At::Form(term);
     Ok(Round {
@@ -211,4 +211,13 @@ fn take_in(
         pace,
         got_on: true,
     })
+}
+
+// How many legs the workers have together.
+fn sum(legs: &Vec<u64>) -> u64 {
+    let mut all: u64 = 0;
+    for count in legs.as_slice() {
+        all = all.saturating_add(*count);
+    }
+    all
 }

@@ -1,13 +1,22 @@
 //! When parts of a program go on side by side, and when attempts are left.
 use fort_walk_turns::Sweep;
 
-/// What a hall's legs cost together less than this was hardly worth while.
-const SHORT: u64 = 1_024;
+/// A hall whose legs cost less together was hardly worth while.
+const LITTLE: u64 = 1_024;
 
-/// How many turns pass behind a hall, and at most behind short ones.
+/// A hall of so many legs, each of which cost less than so much in the mean, was slower than one
+/// worker by itself.
+const MANY: u64 = 256;
+
+const SHORT: u64 = 128;
+
+/// How many turns pass behind a hall in which little was done, behind one of short legs, and at
+/// most. Each time they are twice as many.
 const PAUSE: u32 = 1_024;
 
-const LONGEST: u32 = 65_536;
+const REST: u32 = 32_768;
+
+const LONGEST: u32 = 524_288;
 
 /// How many halls there are in a run at most, and how many numbers for new locations each has of
 /// each worker's range of 2^50.
@@ -23,9 +32,10 @@ const UNDONE_BESIDES: u64 = 1_048_576;
 
 /// When the next hall comes, and when attempts are left.
 ///
-/// A hall comes where a sweep begins at the left end of the root's term: at the start of a run;
-/// behind a hall, which ends where none of its tasks can go on, at the next sweep, and behind a
-/// short one after some turns, twice as many each time.
+/// A hall comes where a sweep begins at the left end of the root's term: at the start of a run, and
+/// at the next sweep behind a hall that was worth while. Behind one in which little was done, since
+/// its tasks waited, say, or whose legs were short, as those of many small attempts are, some turns
+/// pass first, twice as many each time.
 ///
 /// An attempt whose threads all sleep is left, and begun anew later, since only others could wake
 /// them. None is left any more once a whole sweep of the root's machine has met nobody who goes on,
@@ -34,7 +44,7 @@ const UNDONE_BESIDES: u64 = 1_048_576;
 pub(crate) struct Pace {
     // How many turns pass before the next hall.
     rest: u32,
-    // How many pass behind a short one.
+    // How many passed behind the last one.
     pause: u32,
     // How many halls there were.
     halls: u64,
@@ -48,7 +58,7 @@ impl Pace {
     pub fn new() -> Pace {
         Pace {
             rest: 0,
-            pause: PAUSE,
+            pause: 0,
             halls: 0,
             patient: true,
             undone: 0,
@@ -89,8 +99,7 @@ impl Pace {
     /// Whether it is time for a hall where this sweep stands at the left end of the root's term.
     pub fn is_time(self, sweep: Sweep) -> bool {
         let begins = sweep.idle && sweep.taken == 0 && !sweep.stuck && !sweep.wakes;
-        let is_due = self.rest == 0 || self.pause == PAUSE;
-        begins && is_due && self.halls < HALLS
+        begins && self.rest == 0 && self.halls < HALLS
     }
 
     /// The first number of the next hall for new locations, in each worker's range.
@@ -106,15 +115,15 @@ impl Pace {
         }
     }
 
-    /// After a hall, with what its legs cost.
-    pub fn after(self, cost: u64) -> Pace {
-        let longer = self.pause.saturating_mul(2);
-        let pause = if cost >= SHORT {
-            PAUSE
-        } else if LONGEST < longer {
-            LONGEST
+    /// After a hall, with what its legs cost and how many they were.
+    pub fn after(self, cost: u64, legs: u64) -> Pace {
+        let are_short = legs >= MANY && cost < legs.saturating_mul(SHORT);
+        let pause = if are_short {
+            longer(self.pause.max(REST))
+        } else if cost < LITTLE {
+            longer(self.pause.max(PAUSE))
         } else {
-            longer
+            0
         };
         Pace {
             rest: pause,
@@ -123,4 +132,9 @@ impl Pace {
             ..self
         }
     }
+}
+
+// Twice as many turns, up to the most.
+fn longer(pause: u32) -> u32 {
+    pause.saturating_mul(2).min(LONGEST)
 }
