@@ -189,7 +189,7 @@ fn take_in(
     let State { place, at: _at } = state;
     let HallLegs {
         closed,
-        legs: _legs,
+        legs: counts,
     } = legs;
     let Closed {
         view: _view,
@@ -197,7 +197,7 @@ fn take_in(
         picks,
         term,
     } = closed;
-    let pace = pace.after(done.cost(), sum(&legs));
+    let pace = pace.after(done.cost(), sum(&counts));
     let course = course.take(alloc, program, &place, &term, done, picks)?;
     let at = At::Form(term);
     Ok(Round {
