@@ -8,16 +8,17 @@ use std::sync::Wait;
 use std::test::Fail;
 use std::thread::Threads;
 
-/// Two blocks side by side, at the root and inside an attempt.
+/// Two blocks side by side, at the root and inside an attempt, each far longer than the first legs
+/// of a hall.
 const BLOCKS: &str = "component T
 export Executable
 run(): () = do
   var x: ZZ32 := 0
   var y: ZZ32 := 0
   do
-    x := x + 1
+    while x < 10000 do x := x + 1 end
   also do
-    y := y + 2
+    while y < 20000 do y := y + 2 end
   end
   println(x + y)
 end
@@ -31,9 +32,9 @@ run(): () = do
   var y: ZZ32 := 0
   atomic do
     do
-      x := x + 1
+      while x < 10000 do x := x + 1 end
     also do
-      y := y + 2
+      while y < 20000 do y := y + 2 end
     end
   end
   println(x + y)
@@ -64,7 +65,7 @@ fn expect_meeting<R: Threads + Wait + Sync + Abort + AllocGlobal>(
     let finish = fortress(rt, alloc, &words, &mut shelf, &mut out, &mut notes, &gate);
     assert_eq!(rt; notes.bytes(), b"".as_slice());
     assert_eq!(rt; finish.status, 0);
-    assert_eq!(rt; out.bytes(), b"3\n".as_slice());
+    assert_eq!(rt; out.bytes(), b"30000\n".as_slice());
     assert!(rt; gate.have_met());
     Ok(())
 }
