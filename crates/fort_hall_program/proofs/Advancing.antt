@@ -1,5 +1,5 @@
 -- A leg of a task, or its form.
-use Rattle.std.proofs.Common.{◌≡◌, ◌≢◌, ℕ, [], refl}
+use Rattle.std.proofs.Common.{◌≢◌, ℕ, [], refl}
 use Rattle.fort_core.specs.declared.program.Program.{Program}
 use Rattle.fort_store_effects.specs.Levels.{levels_of, seen}
 use Rattle.fort_walk_stretch.specs.Goes.{Goes}

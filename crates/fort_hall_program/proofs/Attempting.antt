@@ -1,6 +1,8 @@
 -- An attempt is opened, and comes to its end.
-use Rattle.std.proofs.Common.{◌≡◌, ℕ, ◌-◌, ◌≤◌, Bool, true, false, List, [], ◌∷◌, ◌++◌, Some, refl, ap, sym, ◌∙◌, subst, arith}
-use Rattle.std.specs.Prelude.{IfSome}
+use Rattle.std.proofs.Common.{◌≡◌, ℕ, ◌-◌, Bool, true, false, List, [], ◌∷◌, ◌++◌, Option, Some, refl, ap, sym, ◌∙◌, subst, arith}
+use Rattle.std.specs.Prelude.{Result, Ok, Err, IfOk, IfSome}
+use Rattle.fort_base.specs.declared.refusal.Memory.{Memory}
+use Rattle.fort_core.specs.declared.path.Path.{Path}
 use Rattle.fort_core.specs.declared.pick.Pick.{Pick}
 use Rattle.fort_core.specs.declared.program.Program.{Program}
 use Rattle.fort_core.specs.declared.term.Term.{Term, Stepped}
@@ -9,6 +11,7 @@ use Rattle.fort_machine.specs.Effects.{Store, Effect, idle}
 use Rattle.fort_machine.specs.Ends.{has_stepped}
 use Rattle.fort_machine.specs.Frames.{Frame, plug, trodden}
 use Rattle.fort_machine.specs.Journals.{MakesWithinBounds}
+use Rattle.fort_machine.specs.Marked.{Marks}
 use Rattle.fort_machine.specs.Proper.{Reached, in_attempt}
 use Rattle.fort_machine.specs.Runs.{none, path_to}
 use Rattle.fort_machine.specs.Written.{WrittenProgram}
@@ -17,6 +20,7 @@ use Rattle.fort_machine_law_marks.specs.Marks.{LeavesPart}
 use Rattle.fort_machine_law_marks.proofs.Kept.{marks_stand}
 use Rattle.fort_store_effects.specs.Levels.{closing, effect_of, levels_of, seen}
 use Rattle.fort_store_effects.specs.declared.layer.Layer.{Layer}
+use Rattle.fort_store_effects.specs.declared.layers.Layers.{Layers}
 use Rattle.fort_walk_law_course.proofs.Bounds.{closing_bounded}
 use Rattle.fort_walk_legs.specs.Legs.{StandsInRun}
 use Rattle.fort_hall_law_books.specs.Books.{Origin, IsBook}
@@ -25,15 +29,15 @@ use Rattle.fort_hall_law_books.specs.Taken.{IsTried}
 use Rattle.fort_hall_law_books.proofs.Books.{finished_is_tried}
 use Rattle.fort_hall_law_books.proofs.Legs.{legs_run}
 use Rattle.fort_hall_books.specs.Books.{origin_of, IsClosed}
-use Rattle.fort_hall_books.specs.Legs.{attempt}
+use Rattle.fort_hall_books.specs.Legs.{Watches, attempt}
 use Rattle.fort_hall_books.specs.declared.book.Closed.{Closed}
-use Rattle.fort_hall_books.specs.declared.leg.Kind.TheVariants.{Attempt}
 use Rattle.fort_hall_forms.specs.Forms.{EndsAt, IsAtForm, IsFirstForm, way}
 use Rattle.fort_hall_forms.specs.declared.ended.Became.{Became}
 use Rattle.fort_hall_forms.specs.declared.form.AtForm.{AtForm}
-use Rattle.fort_hall_program.specs.States.{IsBookOf, IsGood, IsLegOfTask, IsNewBook, only, opened_at, with_form}
+use Rattle.fort_hall_program.specs.States.{HasGoneTo, IsBookOf, IsGood, IsLegOfTask, IsNewBook, attempt_leg, only, opened_at, with_form}
 use Rattle.fort_hall_program.specs.declared.book.TaskBook.{TaskBook}
 use Rattle.fort_hall_program.specs.declared.state.State.{State}
+use Rattle.fort_hall_program.specs.declared.state.TaskLeg.{TaskLeg}
 use Rattle.fort_hall_program.proofs.Stores.{new_kept}
 
 -- no machine of a written program comes to a mark as its whole term
@@ -85,57 +89,77 @@ opens p most st f x own good is unmarked new may =
       unmarked = unmarked;
     })
 
+-- the same of an answer
+pub opened : (p : Program) (most : ℕ) (st : State) (f : AtForm) (own : ℕ) (v : Layers) (t : Term)
+    (r : Result TaskBook Memory) → IsGood p most st → st.form ≡ Some f
+    → has_stepped f.body ≡ false → v ≡ st.view → t ≡ f.body → own ≡ st.left - 1
+    → IfOk r (IsNewBook true v t own) → IfOk r (IsBookOf p most)
+opened p most st f own v t (Ok x) good is unmarked view_is body_is may new =
+    opens p most st f x own good is unmarked
+    (subst (λ (w : Layers). IsNewBook true w f.body own x) view_is
+    (subst (λ (u : Term). IsNewBook true v u own x) body_is new)) may
+opened p most st f own v t (Err e) good is unmarked view_is body_is may new = tt
+
+-- what a closed book of an attempt came to
+pub gone_to : (p : Program) (most : ℕ) (st : State) (f : AtForm) (x : TaskBook) (c : Closed)
+    → IsBookOf p most x → origin_of x.book ≡ opened_at st f → IsClosed p x.book c
+    → HasGoneTo p st f c
+gone_to p most st f x c kept origin closed = record {
+  legs =
+      subst (λ (o : Origin). Legs p o.inner o.store o.first c.picks c.term (effect_of c.done))
+      (ap (λ v. record { inner = x.book.inner; store = seen (levels_of v); first = x.book.first })
+      closed.view ∙ origin) closed.legs;
+  bounded = closed.bounded;
+}
+
 -- an attempt that has completed or failed is a leg
-pub tried : (p : Program) (most : ℕ) (st : State) (f : AtForm) (x : TaskBook) (c : Closed)
-    (b : Became) (done : Layer) (picks : List Pick) (term : Term)
-    → IsGood p most (with_form st f) → IsBookOf p most x → origin_of x.book ≡ opened_at st f
-    → IsClosed p x.book c → EndsAt c.term (Some b)
-    → effect_of done ≡ closing b.closing (effect_of c.done)
-    → picks ≡ only f.place.path c.picks → term ≡ plug (trodden (way f)) b.term
-    → IsLegOfTask p (record {
-      task = st.task;
-      leg = record {
-        inner = st.inner;
-        path = st.path;
-        part = st.part;
-        kind = Attempt f.watched;
-        done = done;
-        picks = picks;
-        term = term;
-      };
-    })
-tried p most st f x c b done picks term good kept origin closed ends effect own made =
+pub tried : (p : Program) (most : ℕ) (st : State) (f : AtForm) (c : Closed) (b : Became)
+    (watched : Option Marks) (done : Layer) (path : Path) (picks : List Pick) (term : Term)
+    (x : TaskLeg) → IsGood p most (with_form st f) → HasGoneTo p st f c
+    → EndsAt c.term (Some b) → watched ≡ f.watched
+    → effect_of done ≡ closing b.closing (effect_of c.done) → path ≡ f.place.path
+    → picks ≡ only path c.picks → term ≡ plug (trodden (way f)) b.term
+    → x ≡ attempt_leg st watched done picks term → IsLegOfTask p x
+tried p most st f c b watched done path picks term x good gone ends same effect at_path own made
+    whole =
     let s = seen (levels_of st.view) in
     let found : IsFirstForm st.part s f = good.form in
     let at = found.stands in
     let d = effect_of c.done in
-    let legs : Legs p true s f.body c.picks c.term d =
-    subst (λ (o : Origin). Legs p o.inner o.store o.first c.picks c.term d)
-    (ap (λ v. record { inner = x.book.inner; store = seen (levels_of v); first = x.book.first })
-    closed.view ∙ origin) closed.legs in
     let book : IsBook p (opened_at st f) c.picks (goes c.term) d = record {
       reached = body_reached p most (with_form st f) f good at;
-      runs = legs_run p true s f.body c.term c.picks d legs;
-      bounded = closed.bounded;
+      runs = legs_run p true s f.body c.term c.picks d gone.legs;
+      bounded = gone.bounded;
     } in
-    let leg = finished_is_tried p (opened_at st f) c.picks (goes c.term) d (closing b.closing d)
+    let leg : IsTried p s (plug (way f) f.form) f.form (only (path_to (way f)) c.picks)
+    (plug (trodden (way f)) b.term) (closing b.closing d) =
+    finished_is_tried p (opened_at st f) c.picks (goes c.term) d (closing b.closing d)
     (way f) f.mode f.form f.body b.term book refl refl found.bare at.is_form at.reached
     (ends p f.mode f.body d) in
-    record {
+    let part : IsTried p s st.part f.form (only (path_to (way f)) c.picks)
+    (plug (trodden (way f)) b.term) (closing b.closing d) =
+    subst (λ t. IsTried p s t f.form (only (path_to (way f)) c.picks)
+    (plug (trodden (way f)) b.term) (closing b.closing d)) (sym at.is_term) leg in
+    let is_picks : picks ≡ only (path_to (way f)) c.picks =
+    own ∙ ap (λ q. only q c.picks) (at_path ∙ at.is_path) in
+    let with_picks : IsTried p s st.part f.form picks
+    (plug (trodden (way f)) b.term) (closing b.closing d) =
+    subst (λ ps. IsTried p s st.part f.form ps
+    (plug (trodden (way f)) b.term) (closing b.closing d)) (sym is_picks) part in
+    let with_term : IsTried p s st.part f.form picks term (closing b.closing d) =
+    subst (λ t. IsTried p s st.part f.form picks t (closing b.closing d)) (sym made)
+    with_picks in
+    let with_effect : IsTried p s st.part f.form picks term (effect_of done) =
+    subst (λ (e : Effect). IsTried p s st.part f.form picks term e) (sym effect) with_term in
+    let is_leg : IsLegOfTask p (attempt_leg st watched done picks term) = record {
       leg = record {
         store = s;
-        taken = attempt f.watched f.form refl
-            (subst (λ (e : Effect). IsTried p s st.part f.form picks term e) (sym effect)
-            (subst (λ t. IsTried p s st.part f.form picks t (closing b.closing d)) (sym made)
-            (subst (λ ps. IsTried p s st.part f.form ps
-            (plug (trodden (way f)) b.term) (closing b.closing d))
-            (sym (own ∙ ap (λ q. only q c.picks) at.is_path))
-            (subst (λ t. IsTried p s t f.form (only (path_to (way f)) c.picks)
-            (plug (trodden (way f)) b.term) (closing b.closing d)) (sym at.is_term) leg))))
-            at.watched;
+        taken = attempt watched f.form refl with_effect
+            (subst (λ w. Watches w f.form) (sym same) at.watched);
         unmarked = good.unmarked;
         bounded = subst MakesWithinBounds (sym effect)
-            (closing_bounded b.closing d closed.bounded);
+            (closing_bounded b.closing d gone.bounded);
       };
       is_open = good.is_open;
-    }
+    } in
+    subst (IsLegOfTask p) (sym whole) is_leg

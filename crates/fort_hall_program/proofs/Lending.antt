@@ -12,6 +12,7 @@ use Rattle.fort_hall_law_books.specs.Legs.{Legs}
 use Rattle.fort_hall_law_books.proofs.Course.{task_may_go}
 use Rattle.fort_hall_books.specs.Books.{did, picks_of, store_of}
 use Rattle.fort_hall_parts.specs.Parts.{IsPartAt}
+use Rattle.fort_hall_forms.specs.Forms.{IsFirstForm}
 use Rattle.fort_hall_program.specs.States.{IsBookOf, IsGood}
 use Rattle.fort_hall_program.specs.declared.book.TaskBook.{TaskBook}
 use Rattle.fort_hall_program.specs.declared.state.State.{State}
@@ -50,5 +51,5 @@ good_state p most x now view path t st one k is shown whole at_path inner same l
       is_open = found.is_open;
       alone = ap (λ v. v.attempts) here;
       within = subst (λ (c : ℕ). c ≤ most) (sym left) (omega (arith, k.within));
-      form = subst (λ o. IfSome o _) (sym form) tt;
+      form = subst (λ o. IfSome o (IsFirstForm st.part (seen (levels_of st.view)))) (sym form) tt;
     }

@@ -35,7 +35,7 @@ new_task_book inner view first most x v now new here same at = record {
   now = subst (λ o. IfSome o (λ l. levels_of l ≡ only_store (store_of x.book))) (sym here) (
       at ∙ ap (λ w. only_store (seen (levels_of w))) same
       ∙ ap only_store (sym (idle_new inner view first x.book new.effect new.origin))
-  );
+      );
 }
 
 -- a silent effect costs nothing, and a store alone has paid nothing

@@ -1,6 +1,6 @@
 -- A leg is submitted.
 use Rattle.std.proofs.Common.{◌≡◌, ℕ, ◌≤◌, List, map, Option, Some, None, refl, ap, sym, ◌∙◌, subst}
-use Rattle.std.specs.Prelude.{Result, Ok, IfOk, IfSome}
+use Rattle.std.specs.Prelude.{Result, Ok, Err, IfOk, IfSome}
 use Rattle.fort_base.specs.declared.refusal.Memory.{Memory}
 use Rattle.fort_core.specs.declared.program.Program.{Program}
 use Rattle.fort_core.specs.declared.term.Term.{Term}
@@ -19,11 +19,12 @@ use Rattle.fort_hall_law_books.proofs.Legs.{legs_run}
 use Rattle.fort_hall_books.specs.Answers.{Appends, HasAnswered, Stays, Suits}
 use Rattle.fort_hall_books.specs.Books.{did, origin_of, picks_of, store_of, IsKept, IsSame}
 use Rattle.fort_hall_books.specs.declared.book.Book.{Book}
+use Rattle.fort_hall_books.specs.declared.book.Entry.{Entry}
 use Rattle.fort_hall_books.specs.declared.leg.Answer.{Answer}
 use Rattle.fort_hall_books.specs.declared.leg.Answer.TheVariants.{Done, Stale}
 use Rattle.fort_hall_books.specs.declared.leg.Cause.{Cause}
 use Rattle.fort_hall_books.specs.declared.leg.Leg.{Leg}
-use Rattle.fort_hall_program.specs.States.{IsAt, IsBookOf, StandsIn, pass_of}
+use Rattle.fort_hall_program.specs.States.{HasAppended, IsAt, IsBookOf, StandsIn, pass_of}
 use Rattle.fort_hall_program.specs.declared.book.TaskBook.{TaskBook}
 use Rattle.fort_hall_program.proofs.Stores.{still_kept}
 
@@ -99,6 +100,7 @@ kept_on p most x y b leg pass whole d k kept same appends is here at = record {
         store_behind x.book b (effect_of leg.done) same.origin appends.effect
         (did_fits p most x k) appends.suits.fits
         ∙ ap (λ (e : Effect). afterwards e (store_of x.book)) (sym is)
+
     go : (o n : Option Layers) → IfSome o (λ l. levels_of l ≡ only_store (store_of x.book))
         → IsAt d o n → IfSome n (λ l. levels_of l ≡ only_store (store_of b))
     go o None h a = tt
@@ -133,6 +135,12 @@ one_more leg pass whole x b y a here = (
   refl,
   ap (λ (c : Book). c.entries) here ∙ a.entries,
 )
+
+-- no entry more, where memory was wanting
+pub no_more : (pass : ℕ) (old new : List Entry) (r : Result Answer Memory) (e : Memory)
+    → r ≡ Err e → new ≡ old → HasAppended pass old r new
+no_more pass old new r e is same =
+    subst (λ (z : Result Answer Memory). HasAppended pass old z new) (sym is) same
 
 -- what a book answered, by its answer
 pub has_done : (leg : Leg) (pass : ℕ) (whole : Term) (x y : Book) (a : Answer) (before : Term)

@@ -9,15 +9,21 @@ use Rattle.fort_machine.specs.Effects.{Effect, afterwards}
 use Rattle.fort_machine.specs.Ends.{has_stepped, open_yet, standing}
 use Rattle.fort_machine.specs.Frames.{Frame, plug, passed}
 use Rattle.fort_machine.specs.Proper.{Reached}
+use Rattle.fort_machine.specs.Journals.{MakesWithinBounds}
+use Rattle.fort_machine.specs.Marked.{Marks}
 use Rattle.fort_store_effects.specs.Again.{only_store}
-use Rattle.fort_store_effects.specs.Levels.{levels_of, seen}
+use Rattle.fort_store_effects.specs.Levels.{effect_of, levels_of, seen}
+use Rattle.fort_store_effects.specs.declared.layer.Layer.{Layer}
 use Rattle.fort_store_effects.specs.declared.layers.Layers.{Layers}
 use Rattle.fort_walk_legs.specs.Legs.{IsInReach}
 use Rattle.fort_hall_machine.specs.Words.{OneMore}
 use Rattle.fort_hall_law_books.specs.Books.{Origin}
+use Rattle.fort_hall_law_books.specs.Legs.{Legs}
 use Rattle.fort_hall_books.specs.Books.{origin_of, store_of, IsKept}
 use Rattle.fort_hall_books.specs.Legs.{IsLegOf}
+use Rattle.fort_hall_books.specs.declared.book.Closed.{Closed}
 use Rattle.fort_hall_books.specs.declared.book.Entry.{Entry}
+use Rattle.fort_hall_books.specs.declared.leg.Kind.TheVariants.{Attempt as Attempted}
 use Rattle.fort_hall_books.specs.declared.leg.Answer.{Answer}
 use Rattle.fort_hall_books.specs.declared.leg.Answer.TheVariants.{Done, Stale}
 use Rattle.fort_hall_forms.specs.Forms.{IsFirstForm}
@@ -83,6 +89,26 @@ form_of start x = form_at start x x.form
 -- A state that stands at a form.
 abbrev pub with_form : State → AtForm → State
 with_form x f = record x { form = Some f }
+
+-- What an attempt of a form of a state came to: legs from the form's body, on the state's store.
+pub record HasGoneTo (p : Program) (x : State) (f : AtForm) (c : Closed) : Type 0 where
+  pub legs : Legs p true (seen (levels_of x.view)) f.body c.picks c.term (effect_of c.done)
+  pub bounded : MakesWithinBounds (effect_of c.done)
+
+-- An attempt as the leg of a state's task.
+abbrev pub attempt_leg : State → Option Marks → Layer → List Pick → Term → TaskLeg
+attempt_leg x watched done picks term = record {
+  task = x.task;
+  leg = record {
+    inner = x.inner;
+    path = x.path;
+    part = x.part;
+    kind = Attempted watched;
+    done = done;
+    picks = picks;
+    term = term;
+  };
+}
 
 -- The pass that an entry names.
 abbrev pub pass_of : Entry → ℕ

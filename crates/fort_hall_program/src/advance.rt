@@ -21,6 +21,11 @@ use std::alloc::Global;
 // How many numbers for new locations a worker's range has.
 const RANGE: u64 = 1 << 50;
 
+// How many times as much a leg may cost which had no step only for want of that, and how often.
+const MORE: u64 = 16;
+
+const TRIES: u32 = 16;
+
 /// Where a leg of a state begins, made by this worker.
 pub(crate) fn point_of(state: &State, worker: u32) -> Point {
     let child = match state.path.0.as_slice().last() {
@@ -56,16 +61,16 @@ pub(crate) fn advance(
         (IsGood tables.now.program.now most) r.0) }
 {
     let span = span_of(room, base, state.left);
-    let short = Span {
-        cost: span.cost.min(state.slice),
-        ..span
-    };
-    let leg = stretch(alloc, tables, most, &state, short)?;
-    if leg.picks.is_empty() && !leg.left_out && short.cost < span.cost {
-        let longer = stretch(alloc, tables, most, &state, span)?;
-        return made(alloc, tables.program, most, state, longer, span, room.from);
+    let mut cost = span.cost.min(state.slice);
+    for _try in 0..TRIES {
+        let short = Span { cost, ..span };
+        let leg = stretch(alloc, tables, most, &state, short)?;
+        if !leg.picks.is_empty() || leg.left_out || cost == span.cost {
+            return made(alloc, tables.program, most, state, leg, short, room.from);
+        }
+        cost = cost.saturating_mul(MORE).min(span.cost);
     }
-    made(alloc, tables.program, most, state, leg, short, room.from)
+    Ok((at_form(alloc, tables.program, most, state)?, room.from))
 }
 
 // What a leg may take: the numbers of the worker's range from its base on, and what its book may
@@ -151,7 +156,7 @@ fn taken(program: &Program, most: u64, state: State, leg: Stretch, span: Span) -
 
 // The task at the first atomic form of its part that may be tried. None where its book can't afford
 // an attempt.
-#[tactic(auto, using(crate::proofs::Advancing::at_found_form, fort_hall_forms::proofs::Odd::part_of_run))]
+#[tactic(auto, using(crate::proofs::Advancing::at_found_form))]
 fn at_form(
     alloc: Global,
     program: &Program,

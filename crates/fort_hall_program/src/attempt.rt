@@ -4,14 +4,16 @@ ghost use Rattle.fort_core.specs.declared.term.Term.{Term as a_term, Stepped};
 ghost use Rattle.fort_machine.specs.Ends.{has_stepped};
 ghost use Rattle.fort_machine.specs.Written.{WrittenProgram};
 ghost use Rattle.fort_hall_books.specs.Books.{origin_of};
-ghost use Rattle.fort_hall_program.specs.States.{IsBookOf, IsGood, IsLegOfTask, only, opened_at, with_form};
+ghost use Rattle.fort_hall_forms.specs.Forms.{EndsAt};
+ghost use Rattle.fort_hall_program.specs.States.{HasGoneTo, IsBookOf, IsGood, IsLegOfTask, attempt_leg, only, opened_at, with_form};
 
 use crate::book::TaskBook;
 use crate::state::{State, TaskLeg};
-use fort_base::{List, Memory};
-use fort_core::{Path, Pick, Program, Term};
+use fort_base::{List, Loc, Memory, Shared};
+use fort_core::{Path, Pick, Program, Term, Value};
 use fort_hall_books::{Closed, Kind, Leg};
-use fort_hall_forms::{AtForm, after_form, ended_at};
+use fort_hall_forms::{AtForm, Became, after_form, ended_at};
+use fort_store_effects::Layer;
 use std::alloc::Global;
 use std::mem;
 
@@ -21,7 +23,6 @@ use std::mem;
 /// # Errors
 ///
 /// `Memory` where memory is wanting.
-#[tactic(auto, using(crate::proofs::Attempting::opens, crate::proofs::Attempting::never_marked))]
 pub(crate) fn begin(
     alloc: Global,
     program: &Program,
@@ -63,7 +64,7 @@ fn is_mark(term: &Term) -> bool
 /// # Errors
 ///
 /// `Memory` where memory is wanting.
-#[tactic(auto, using(crate::proofs::Attempting::tried))]
+#[tactic(auto, using(crate::proofs::Attempting::gone_to))]
 pub(crate) fn finish(
     alloc: Global,
     program: &Program,
@@ -77,37 +78,76 @@ pub(crate) fn finish(
     requires origin { origin_of book.book ≡ opened_at state form }
     ensures { IfOk result (λ found. IfSome found (IsLegOfTask program.now)) }
 {
-    let _most = most;
-    let _view = state.view;
     let closed = book.book.close(alloc, program)?;
+    match ended_at(&closed.term)? {
+        None => Ok(None),
+        Some(became) => tried(alloc, program, most, state, form, closed, became),
+    }
+}
+
+// The same of what the attempt came to, which has ended so.
+fn tried(
+    alloc: Global,
+    program: &Program,
+    most: u64,
+    state: State,
+    form: AtForm,
+    closed: Closed,
+    became: Became,
+) -> Result<Option<TaskLeg>, Memory>
+    requires good { IsGood program.now most (with_form state form) }
+    requires gone { HasGoneTo program.now state form closed }
+    requires ends { EndsAt closed.term (Some became) }
+    ensures { IfOk result (λ found. IfSome found (IsLegOfTask program.now)) }
+{
+    let _program = program;
+    let _most = most;
     let Closed {
         view: _below,
         done,
-        picks,
-        term: end,
+        picks: within,
+        term: _end,
     } = closed;
-    let Some(became) = ended_at(&end)? else {
-        return Ok(None);
-    };
+    let Became {
+        closing,
+        term: becomes,
+    } = became;
     if done.cost() == u64::MAX {
         return Ok(None);
     }
     let mut form = form;
     let watched = mem::replace(&mut form.watched, None);
-    let picks = one_attempt(alloc, form.place.path.copy(alloc)?, picks)?;
+    let path = form.place.path.copy(alloc)?;
+    let picks = one_attempt(alloc, path, within)?;
+    let done = done.closed(closing)?;
+    let term = after_form(alloc, form, becomes)?;
+    Ok(Some(leg_of(state, watched, done, picks, term)))
+}
+
+// An attempt as the leg of a state's task.
+fn leg_of(
+    state: State,
+    watched: Option<List<(Loc, Value)>>,
+    done: Layer,
+    picks: List<Pick>,
+    term: Shared<Term>,
+) -> TaskLeg
+    ensures { result ≡ attempt_leg state watched done picks term }
+{
+    let _view = state.view;
     let leg = Leg {
         inner: state.inner,
         path: state.path,
         part: state.part,
         kind: Kind::Attempt(watched),
-        done: done.closed(became.closing)?,
+        done,
         picks,
-        term: after_form(alloc, form, became.term)?,
+        term,
     };
-    Ok(Some(TaskLeg {
+    TaskLeg {
         task: state.task,
         leg,
-    }))
+    }
 }
 
 // An attempt as the only pick.

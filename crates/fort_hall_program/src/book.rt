@@ -29,7 +29,6 @@ pub struct TaskBook {
 impl TaskBook {
     // A book without a leg, below so many attempts, whose only task is the whole term; it has none
     // where that isn't open, and has ended so.
-    #[tactic(auto, using(crate::proofs::Stores::new_task_book))]
     pub(crate) fn new(
         alloc: Global,
         inner: bool,

@@ -196,7 +196,7 @@ impl Tasks {
     // A lent task comes back whose attempt came to no end: it is lent again once its book has some
     // legs more than when it was lent, each time twice as many.
     pub(crate) fn leave(&mut self, task: u64, legs: usize) {
-        let mut more = 1;
+        let mut more = 1usize;
         if let Some(it) = self.all.get_mut(task as usize) {
             for _doubling in 0..it.left.min(DOUBLINGS) {
                 more = more.saturating_mul(2);
@@ -342,7 +342,10 @@ impl Tasks {
 
     // Lets the last tasks go that have ended. Their numbers are given again.
     fn trim(&mut self) {
-        while self.last_has_ended() {
+        for _each in 0..self.all.len() {
+            if !self.last_has_ended() {
+                return;
+            }
             let _ = self.all.pop();
         }
     }
@@ -367,7 +370,7 @@ impl Tasks {
         let Some(it) = self.all.get(task as usize) else {
             return Ok(None);
         };
-        if it.path.0.len() + division.path.0.len() >= LONGEST {
+        if it.path.0.len().saturating_add(division.path.0.len()) >= LONGEST {
             return Ok(None);
         }
         for number in division.numbers.as_slice() {
