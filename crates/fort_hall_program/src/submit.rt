@@ -20,6 +20,11 @@ use fort_hall_machine::{After, Found, Submitted};
 use fort_hall_parts::{open_parts, put_in};
 use std::alloc::Global;
 
+/// A book of so many legs, each of which cost less than so much in the mean, lends no task more.
+const MANY: u64 = 256;
+
+const SHORT: u64 = 96;
+
 /// Appends a leg where it suits the book, as one entry that names the pass. What the worker goes on
 /// with is lent: the same task, or the first of those into which it is divided where others look
 /// for work (`wanted`), or the task that waited for this one. A leg of a task that was given up is
@@ -140,6 +145,9 @@ fn after(
     ensures same { book.new.book ≡ book.old.book }
     ensures good { IsLent (IsGood program.now most) result.next }
 {
+    if are_short(book) {
+        book.tasks.retire();
+    }
     let held = book.tasks.is_held();
     let woken = book.tasks.wake(book.book.len());
     let offer = turned(alloc, &mut book.tasks, task, &part, wanted);
@@ -151,6 +159,14 @@ fn after(
         first: offer.first,
         count: offer.count,
     }
+}
+
+// Whether the root's book has so many legs that are so short together that one worker by itself
+// would be faster.
+fn are_short(book: &TaskBook) -> bool {
+    let legs = book.book.len() as u64;
+    let least = legs.saturating_mul(SHORT);
+    book.depth == 0 && legs >= MANY && book.book.done().cost() < least
 }
 
 // Which task comes next, and which are new for others.
@@ -166,11 +182,13 @@ fn turned(alloc: Global, tasks: &mut Tasks, task: u64, part: &Shared<Term>, want
     match standing_of(part.get()) {
         Stand::Open => {
             tasks.accept(task, wanted);
-            if wanted == 0 {
+            let had_turn = tasks.had_turn(task);
+            if wanted == 0 && !had_turn {
                 return alone(Some(task));
             }
             match divided(alloc, tasks, task, part) {
                 Ok(Some(offer)) => offer,
+                _ if had_turn => alone(Some(tasks.behind(task))),
                 _ => alone(Some(task)),
             }
         }

@@ -15,10 +15,17 @@ const PATIENCE: u32 = 8;
 /// What a leg of a new task may cost, and a leg of any task at the least.
 const SHORTEST: u64 = 4_096;
 
-/// What a leg may cost at most where nobody looks for work, and where somebody does.
+/// What a leg may cost at most where nobody looks for work and no other task of its book can be
+/// lent, where somebody looks, and where another task waits.
 const ALONE: u64 = 1_048_576;
 
 const SOUGHT: u64 = 65_536;
+
+const BESIDE: u64 = 16_384;
+
+/// After so many legs in a row, or one that cost so much as one beside others may, a task has had
+/// its turn: it is divided, whoever looks for work, and others that can be lent come first.
+const TURN: u32 = 64;
 
 /// A task whose attempt came to no end waits for one leg more of its book, then for two, then for
 /// four; it doubles so often.
@@ -55,6 +62,8 @@ struct Task {
     lent_at: usize,
     /// What a leg of it may cost.
     slice: u64,
+    /// How many legs of it were appended since another task had its turn.
+    row: u32,
 }
 
 /// The tasks of a book, by number. Of those behind all others that have ended a number is given
@@ -67,6 +76,8 @@ pub(crate) struct Tasks {
     idle: u64,
     /// The task for which the others wait.
     first: Option<u64>,
+    /// Whether no task is lent any more.
+    retired: bool,
 }
 
 impl Tasks {
@@ -78,6 +89,7 @@ impl Tasks {
             lent: 0,
             idle: 0,
             first: None,
+            retired: false,
         };
         if is_open {
             tasks.add(Path(List::new(alloc)), None)?;
@@ -96,6 +108,7 @@ impl Tasks {
             left: 0,
             lent_at: 0,
             slice: SHORTEST,
+            row: 0,
         })?;
         Ok(())
     }
@@ -260,14 +273,40 @@ impl Tasks {
     // A leg of the task was appended while so many workers looked for work; it comes back, to be
     // lent again for a longer one.
     pub(crate) fn accept(&mut self, task: u64, wanted: u32) {
+        let longest = if self.free > 0 {
+            BESIDE
+        } else if wanted > 0 {
+            SOUGHT
+        } else {
+            ALONE
+        };
         self.stand(task, Standing::Free);
-        let longest = if wanted == 0 { ALONE } else { SOUGHT };
         if let Some(it) = self.all.get_mut(task as usize) {
             it.slice = it.slice.saturating_mul(2).min(longest);
+            it.row = it.row.saturating_add(1);
             it.refused = 0;
             it.left = 0;
         }
         self.release(task);
+    }
+
+    // Whether a task has had its turn.
+    pub(crate) fn had_turn(&self, task: u64) -> bool {
+        match self.all.get(task as usize) {
+            Some(it) => it.slice >= BESIDE || it.row >= TURN,
+            None => false,
+        }
+    }
+
+    // The task that comes next behind one that has had its turn: the next one that can be lent.
+    pub(crate) fn behind(&mut self, task: u64) -> u64 {
+        if let Some(it) = self.all.get_mut(task as usize) {
+            it.row = 0;
+        }
+        match self.next_free(task.saturating_add(1)) {
+            Some(next) => next,
+            None => task,
+        }
     }
 
     // The others wait for this task no more.
@@ -385,8 +424,23 @@ impl Tasks {
         Ok(Some(first))
     }
 
+    // No task is lent from now on; the book ends once those that are have come back.
+    pub(crate) fn retire(&mut self) {
+        self.retired = true;
+        for task in 0..self.all.len() {
+            if self.standing(task as u64) == Some(Standing::Free) {
+                self.stand(task as u64, Standing::Idle(usize::MAX));
+            }
+        }
+    }
+
     // The task stands so from now on.
     fn stand(&mut self, task: u64, standing: Standing) {
+        let standing = if self.retired && standing == Standing::Free {
+            Standing::Idle(usize::MAX)
+        } else {
+            standing
+        };
         let Some(it) = self.all.get_mut(task as usize) else {
             return;
         };
