@@ -145,9 +145,8 @@ fn after(
     ensures same { book.new.book ≡ book.old.book }
     ensures good { IsLent (IsGood program.now most) result.next }
 {
-    if are_short(book) {
-        book.tasks.retire();
-    }
+    let short = are_short(book);
+    book.tasks.retire_if(short);
     let held = book.tasks.is_held();
     let woken = book.tasks.wake(book.book.len());
     let offer = turned(alloc, &mut book.tasks, task, &part, wanted);

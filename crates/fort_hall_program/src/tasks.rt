@@ -424,8 +424,12 @@ impl Tasks {
         Ok(Some(first))
     }
 
-    // No task is lent from now on; the book ends once those that are have come back.
-    pub(crate) fn retire(&mut self) {
+    // Where its legs are short no task is lent from now on; the book ends once those that are lent
+    // have come back.
+    pub(crate) fn retire_if(&mut self, short: bool) {
+        if !short {
+            return;
+        }
         self.retired = true;
         for task in 0..self.all.len() {
             if self.standing(task as u64) == Some(Standing::Free) {

@@ -116,3 +116,12 @@ may_take p w x h next = record {
   some = next.some;
   bounded = next.bounded;
 }
+
+-- what is left of the fuel covers them
+pub is_covered : (p : Program) (k c : Course) (place : Place) (a : Term) → k ≡ c
+    → StandsAt p c place a → c.spent + (k.fuel - k.spent) ≤ c.fuel
+is_covered p k c place a same s =
+    let known = s.is_spent in
+    let within = s.course.comes.within_fuel in
+    subst (λ (x : Course). c.spent + (x.fuel - x.spent) ≤ c.fuel) (sym same)
+    (omega (arith, known, within))
