@@ -22,7 +22,10 @@ class Trial:
         self.file = self.folder / "T.fss"
         self.file.write_text(text)
         words = "record", self.file, "--workers", str(workers), "--fuel", str(fuel)
+        self.kept = self.folder / "run.record"
+        self.kept.unlink(missing_ok=True)
         self.text = self.said(*words)
+        self.kept.write_bytes(self.text)
         self.declarations = component(text)
         self.spawns = re.search(r"\bspawn\b", text)
         self.replayed(Replay(self.rewritten(), Record(self.text)))
