@@ -87,8 +87,8 @@ pub trait Machine {
         ensures same { (origin book.new ≡ origin book.old)
             × (history book.new ≡ history book.old) };
 
-    /// Takes back a lent task, and leaves it for good to others than the hall: its attempt can't
-    /// come to its end in the hall. The book lends it no more.
+    /// Takes back a lent task whose attempt came to no end in the hall. A book that lends such a
+    /// task again must see to it that this comes to an end.
     fn leave(&self, book: &mut Self::Book, task: u64)
         requires { keeps book.old }
         ensures keeps { keeps book.new }
