@@ -5,6 +5,7 @@
 mod advance;
 mod attempt;
 mod book;
+mod depth;
 mod lend;
 mod machine;
 mod state;

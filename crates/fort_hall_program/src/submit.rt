@@ -151,9 +151,10 @@ fn after(
     let woken = book.tasks.wake(book.book.len());
     let offer = turned(alloc, &mut book.tasks, task, &part, wanted);
     let freed = held && !book.tasks.is_held();
+    let passed_on = offer.count == 0 && offer.next != Some(task);
     let next = lend_on(alloc, program, most, book, offer.next);
     After {
-        woken: woken || freed || next.is_none(),
+        woken: woken || freed || passed_on || next.is_none(),
         next,
         first: offer.first,
         count: offer.count,
