@@ -23,7 +23,7 @@ use Rattle.fort_walk_turns.specs.declared.sweep.Sweep.{Sweep}
 use Rattle.fort_walk_turns.specs.Stops.{StopsShort, stuck, IsAtEnd}
 use Rattle.fort_walk_turns.specs.Idles.{Idles, AreAsleep, IsAtForm, IsAtEndOf}
 use Rattle.fort_walk_turns.proofs.Idle.{nobody_goes, open_no_end, value_stays}
-use Rattle.fort_walk_turns.proofs.Begins.{sweep_begins}
+use Rattle.fort_walk_turns.proofs.Begins.{not_waking, sweep_begins}
 use Rattle.fort_walk_turns.proofs.Giving.{come_reached}
 use Rattle.fort_walk_turns.proofs.Taking.{root_is}
 
@@ -118,3 +118,16 @@ again_walks p c w v place t h none vs vw root =
     ) vs
     (again_asleep p c w v t (rebuilt c.clock (frames place.stack) t) h none vw
     (ap (λ fs. rebuilt c.clock fs t) root))
+
+-- a whole term is gone into from its left end
+pub goes_in : (p : Program) (c : Course) (v : Sweep) (place : Place) (t : Term)
+    → HasCome p c (goes t) → v.stuck ≡ false → v.wakes ≡ false → frames place.stack ≡ []
+    → IsAtForm p c v place t (λ met. SweptTo met (record { place = place; «at» = at.Form t }))
+goes_in p c v place t h vs vw root =
+    sweep_begins p (record { course = c; state = record { place = place; «at» = at.Form t } }) v
+    (come_whole p c (record { place = place; «at» = at.Form t }) t h root refl) (
+      root,
+      t,
+      refl,
+    ) vs
+    (not_waking c v (rebuilt c.clock (frames place.stack) t) vw)

@@ -37,7 +37,7 @@ pub fn at_end(
         At::Value(value) => Ok((at_value(alloc, program, course, value)?, pace)),
         At::Throw(value) => Ok((at_throw(alloc, program, course, value)?, pace)),
         At::Left(term) => again(alloc, program, course, sweep, term, pace),
-        At::Form(_) => Err(Memory),
+        At::Form(term) => Ok((goes_in(alloc, program, course, term), pace)),
     }
 }
 
@@ -92,6 +92,21 @@ fn is_unit(value: &Value) -> bool
         Value::Tuple(parts) => parts.get().is_empty(),
         _ => false,
     }
+}
+
+// At a whole term that is still to be gone into: its threads have their turns from the left end on.
+fn goes_in(alloc: Global, program: &Program, course: Execution, term: Shared<Term>) -> Next
+    requires { HasCome program.now course (goes term) }
+    ensures { Follows program.now course.fuel result }
+{
+    let _program = program;
+    let place = Place::root(alloc);
+    let at = At::Form(term);
+    let state = State { place, at };
+    Next::Goes(Walking {
+        going: Going { course, state },
+        sweep: Sweep::new(false),
+    })
 }
 
 // Each thread was passed: nobody goes on; or an attempt is left whose threads all sleep; or there

@@ -18,3 +18,8 @@ at_throw-requires c =
 pub again-requires : goal.again-requires
 again-requires c =
     subst (λ a. IsAtEndOf c.args.program.now c.args.course c.args.sweep a) c.in-Left.is c.requires
+
+pub goes_in-requires : goal.goes_in-requires
+goes_in-requires c =
+    subst (λ a. HasCome c.args.program.now c.args.course (goes (term_at a))) c.in-Form.is
+    c.requires.come
