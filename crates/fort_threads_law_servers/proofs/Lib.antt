@@ -1,0 +1,9 @@
+pub mod Turns
+pub mod Put
+pub mod Server
+pub mod Life
+pub mod Lifetime
+pub mod Taking
+pub mod Parts
+pub mod Grown
+pub mod Rooted

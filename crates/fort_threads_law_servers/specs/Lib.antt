@@ -1,0 +1,7 @@
+pub mod Prelude
+pub mod Stages
+pub mod Servers
+pub mod Lifetimes
+pub mod Queue
+pub mod Trees
+pub mod Roots
