@@ -1,6 +1,5 @@
 -- A pick of the tree of servers.
-use Rattle.std.proofs.Common.{◌≡◌, ℕ, zero, suc, ◌+◌, Bool, true, false, List, [], ◌∷◌, refl, ap, sym, ◌∙◌, subst, ◌⊎◌, inl, inr, pos}
-use Rattle.fort_base.specs.declared.ids.SetId.{SetId}
+use Rattle.std.proofs.Common.{◌≡◌, ℕ, zero, suc, ◌+◌, Bool, true, false, [], ◌∷◌, refl, ap, ◌∙◌, subst, inl, inr, pos}
 use Rattle.fort_core.specs.declared.form.Order.TheVariants as order
 use Rattle.fort_core.specs.declared.form.Span.{Span}
 use Rattle.fort_core.specs.declared.form.Span.TheVariants as span
@@ -10,26 +9,26 @@ use Rattle.fort_core.specs.declared.term.Term.{Term, Call, Operator, For, ForHal
 use Rattle.fort_core.specs.declared.term.Term as term
 use Rattle.fort_core.specs.declared.term.Term.TheVariants.{outs-Value, outs-Throw, outs-Call, outs-Operator, outs-Let, outs-Then, outs-Typecase, outs-For, outs-ForHalves, outs-Atomic, outs-Asleep}
 use Rattle.fort_core.specs.declared.term.Term.TheOpen.{Term-F}
-use Rattle.fort_core.specs.declared.value.Value.{Value, Small}
+use Rattle.fort_core.specs.declared.value.Value.{Small}
 use Rattle.fort_core.specs.declared.value.Value.TheVariants.{outs-Range}
-use Rattle.fort_machine.specs.Acts.{Act, calls, becomes, unit}
-use Rattle.fort_machine.specs.Attempts.{Form, fresh, slept, goes}
+use Rattle.fort_machine.specs.Acts.{Act, becomes, unit}
+use Rattle.fort_machine.specs.Attempts.{fresh, slept, goes}
 use Rattle.fort_machine.specs.Effects.{Store, Effect, paid}
 use Rattle.fort_machine.specs.Ends.{Finished, is_mark, has_stepped, throw_of, stepped}
 use Rattle.fort_machine.specs.Ends as ends
 use Rattle.fort_machine.specs.Forms.{act_at, act}
-use Rattle.fort_machine.specs.Frames.{Frame, in_source, plug}
-use Rattle.fort_machine.specs.Generators.{Items, numbers_from, items_at, for_items, first_half, rest_half, spanned}
+use Rattle.fort_machine.specs.Frames.{in_source}
+use Rattle.fort_machine.specs.Generators.{numbers_from, items_at, for_items, first_half, rest_half, spanned}
 use Rattle.fort_machine.specs.Runs.{Runs}
 use Rattle.fort_machine.specs.Steps.{Does}
-use Rattle.fort_machine.specs.Substitution.{substituted}
 use Rattle.fort_threads_law_servers.specs.Prelude.{Names, number, HasPrelude}
-use Rattle.fort_threads_law_servers.specs.Stages.{End, at_value, at_throw, Stage, called, asking, trying, got, refused, looking, sent, reads, runs, caught, lost, keeps, has_kept, marks, has_marked, leaves, counts, done, term_at, Stands, Follows}
+use Rattle.fort_threads_law_servers.specs.Stages.{at_value, at_throw, Stage, called, asking, trying, got, refused, looking, sent, reads, runs, caught, lost, keeps, has_kept, marks, has_marked, leaves, counts, done, term_at, Stands, Follows}
 use Rattle.fort_threads_law_servers.specs.Servers.{Serves, rests, goes_on}
 use Rattle.fort_threads_law_servers.specs.Trees.{Tree, unread, undivided, server, halves, over, with_step, range, loop, tree_term, AllServe, Grows}
 use Rattle.fort_threads_law_servers.proofs.Turns.{pick_sole, ready_call, stepped_at, called_with, moves_to}
 use Rattle.fort_threads_law_servers.proofs.Parts.{OfTwo, closes, of_first, of_second, of_halves}
 use Rattle.fort_threads_law_servers.proofs.Put.{put_calls}
+use Rattle.fort_threads_law_servers.proofs.Operands.{operator_two}
 use Rattle.fort_threads_law_servers.proofs.Server.{after_value, row_done, each_pick_follows}
 
 -- ---- no server's term is a mark
@@ -110,12 +109,6 @@ loop_act p n items =
     (outs-Range (pos 0) 64)
     ∙ spanned_is items
     (λ k c. for_items order.Parallel (numbers_from (pos 0) 64) k c 2 range (Call n.serve []))
-
-operator_two : (p : Program) (set : SetId) (v w : Value)
-    → act p (Operator set (term.Value v ∷ term.Value w ∷ [])) ≡ calls set (v ∷ w ∷ [])
-operator_two p set v w =
-    ap (act_at p) (outs-Operator set (term.Value v ∷ term.Value w ∷ []))
-    ∙ after_value v _ ∙ after_value w _
 
 module _ (p : Program) (n : Names) (has : HasPrelude p n) (s : Store) where
   abbrev Grown : Pick → Tree → Term → Effect → Type 0

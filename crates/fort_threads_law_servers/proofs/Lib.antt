@@ -3,7 +3,9 @@ pub mod Put
 pub mod Server
 pub mod Life
 pub mod Lifetime
+pub mod Operands
 pub mod Taking
+pub mod Adding
 pub mod Parts
 pub mod Grown
 pub mod Rooted

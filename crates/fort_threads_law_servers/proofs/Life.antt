@@ -1,9 +1,7 @@
 -- What a server marks is the end of the thread whose function it has read.
-use Rattle.std.proofs.Common.{◌≡◌, ℕ, List, [], ◌∷◌, refl, ap, sym, ◌∙◌, subst}
+use Rattle.std.proofs.Common.{◌≡◌, ℕ, refl, ap, sym, ◌∙◌, subst}
 use Rattle.fort_core.specs.declared.pick.Pick.{Pick}
 use Rattle.fort_core.specs.declared.program.Program.{Program}
-use Rattle.fort_core.specs.declared.term.Term.{Term}
-use Rattle.fort_core.specs.declared.value.Value.{Value}
 use Rattle.fort_machine.specs.Effects.{Store, Effect}
 use Rattle.fort_threads_law_servers.specs.Prelude.{Names}
 use Rattle.fort_threads_law_servers.specs.Stages.{End, at_value, at_throw, end_term, Stage, called, asking, trying, got, refused, looking, sent, reads, runs, caught, lost, keeps, has_kept, marks, has_marked, leaves, counts, done, Follows}

@@ -1,5 +1,5 @@
 -- A server's picks are a life of one thread.
-use Rattle.std.proofs.Common.{◌≡◌, ℕ, List, [], ◌∷◌, ◌++◌, refl, ap, sym, ◌∙◌, subst}
+use Rattle.std.proofs.Common.{◌≡◌, ℕ, List, [], ◌++◌, refl, sym, subst}
 use Rattle.fort_core.specs.declared.pick.Pick.{Pick}
 use Rattle.fort_core.specs.declared.program.Program.{Program}
 use Rattle.fort_machine.specs.Effects.{Store, Effect}
@@ -7,7 +7,7 @@ use Rattle.fort_threads.specs.Lives.{not_begun, alive, has_ended, Lives}
 use Rattle.fort_threads.specs.Lives as lives
 use Rattle.fort_threads.specs.Machine.{Event}
 use Rattle.fort_threads_law_servers.specs.Prelude.{Names}
-use Rattle.fort_threads_law_servers.specs.Stages.{End, at_value, at_throw, Stage, called, asking, trying, got, refused, looking, sent, reads, runs, caught, lost, keeps, has_kept, marks, has_marked, leaves, counts, done, Follows}
+use Rattle.fort_threads_law_servers.specs.Stages.{at_value, at_throw, Stage, called, asking, trying, got, refused, looking, sent, reads, runs, caught, lost, keeps, has_kept, marks, has_marked, leaves, counts, done, Follows}
 use Rattle.fort_threads_law_servers.specs.Servers.{Serves, rests, goes_on}
 use Rattle.fort_threads_law_servers.specs.Lifetimes.{event_of, events_of, ServesOneLife}
 

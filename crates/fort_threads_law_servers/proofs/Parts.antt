@@ -1,6 +1,5 @@
 -- One pick of a form of two parts beside each other.
-use Rattle.std.proofs.Common.{◌≡◌, ℕ, Bool, true, false, ◌||◌, List, [], ◌∷◌, ◌++◌, refl, ap, sym, ◌∙◌, subst, ◌⊎◌, inl, inr}
-use Rattle.fort_base.specs.declared.ids.Loc.{Loc}
+use Rattle.std.proofs.Common.{◌≡◌, ℕ, Bool, true, false, List, [], ◌∷◌, ◌++◌, refl, ap, sym, ◌∙◌, subst, ◌⊎◌, inl, inr}
 use Rattle.fort_core.specs.declared.pick.Pick.{Pick, Step, Attempt}
 use Rattle.fort_core.specs.declared.program.Program.{Program}
 use Rattle.fort_core.specs.declared.term.Term.{Term, ForHalves, Also, out-Term}
@@ -9,7 +8,7 @@ use Rattle.fort_core.specs.declared.term.Term.TheVariants.{outs-ForHalves, outs-
 use Rattle.fort_core.specs.declared.term.Term.TheOpen.{Term-F}
 use Rattle.fort_core.specs.declared.value.Value.{Value}
 use Rattle.fort_core.specs.declared.value.Closure.{Closure}
-use Rattle.fort_machine.specs.Acts.{Act, stuck, becomes, unit, Together, at_values, leftmost, some_still, some_open, standing_together, by_together}
+use Rattle.fort_machine.specs.Acts.{becomes, unit, Together, at_values, leftmost, some_still, some_open, standing_together, by_together}
 use Rattle.fort_machine.specs.Attempts.{Ready, goes}
 use Rattle.fort_machine.specs.Effects.{Store, Effect, paid}
 use Rattle.fort_machine.specs.Ends.{open_yet, standing, throw_of, Finished, is_mark, has_stepped, stepped}

@@ -17,13 +17,13 @@ use Rattle.fort_core.specs.declared.term.Term.TheOpen.{Term-F}
 use Rattle.fort_core.specs.declared.value.Closure.{Closure}
 use Rattle.fort_core.specs.declared.value.Value.{Value, Small, Truth}
 use Rattle.fort_core.specs.declared.value.Value.TheVariants.{outs-Truth}
-use Rattle.fort_machine.specs.Acts.{Act, asks as asks_at, sets, makes, calls, becomes, unit}
+use Rattle.fort_machine.specs.Acts.{asks as asks_at, sets, makes, becomes, unit}
 use Rattle.fort_machine.specs.Attempts.{goes}
-use Rattle.fort_machine.specs.Effects.{Store, Effect, paid, reading, FitsAll, afterwards}
+use Rattle.fort_machine.specs.Effects.{Store, Effect, reading, FitsAll, afterwards}
 use Rattle.fort_machine.specs.Ends.{open_yet, standing_at, standing, throw_of, Finished, stepped}
 use Rattle.fort_machine.specs.Ends as ends
 use Rattle.fort_machine.specs.Forms.{act_at, act, choosing as chosen_by}
-use Rattle.fort_machine.specs.Frames.{Frame, in_then, in_let, in_test, plug, trodden}
+use Rattle.fort_machine.specs.Frames.{in_then, in_let, in_test, plug}
 use Rattle.fort_machine.specs.Journals.{opening_store}
 use Rattle.fort_machine.specs.RunLaws.{PickByPick, no_more, next as then_more, stopped, all_of}
 use Rattle.fort_machine.specs.Runs.{Runs, location}
@@ -35,10 +35,10 @@ use Rattle.fort_machine.proofs.Single.{reads_what_is_there}
 use Rattle.fort_machine.proofs.Standing.{decide}
 use Rattle.fort_machine.proofs.Substituted.{pairs}
 use Rattle.fort_threads_law_servers.specs.Prelude.{Names, object_of, number, HasPrelude}
-use Rattle.fort_threads_law_servers.specs.Stages.{Stage, sent, term_at, Stands}
+use Rattle.fort_threads_law_servers.specs.Stages.{Stage, sent, term_at}
 use Rattle.fort_threads_law_servers.specs.Servers.{Serves}
 use Rattle.fort_threads_law_servers.specs.Servers as servers
-use Rattle.fort_threads_law_servers.specs.Trees.{Tree, unread, with_step, tree_term, AllServe}
+use Rattle.fort_threads_law_servers.specs.Trees.{Tree, unread, with_step, tree_term}
 use Rattle.fort_threads_law_servers.specs.Roots.{Start, ending, last, blocks, making_first, opening, starting, testing, Starts, Root, first_call, main_call, tests, told, sets_started, has_started, sets_open, has_open, makes_first, made_first, all, all_over, asks, ended, root_term, Served, Leads, Course, rests, goes_on, EachRunIsServed}
 use Rattle.fort_threads_law_servers.proofs.Turns.{pick_at, run_of, pick_sole, pick_inside, ready_by, ready_call, stepped_at, does, called_with, moves_to, writes_to, calls_to}
 use Rattle.fort_threads_law_servers.proofs.Put.{put_then, put_call, put_calls, put_1}

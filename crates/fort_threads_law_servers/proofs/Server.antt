@@ -1,5 +1,5 @@
 -- A pick of a server, stage by stage.
-use Rattle.std.proofs.Common.{◌≡◌, ℕ, ◌+◌, Bool, true, false, ◌&&◌, List, [], ◌∷◌, ◌++◌, Some, None, if◌then◌else◌, refl, ap, sym, ◌∙◌, subst, ◌⊎◌, inl, inr, pos}
+use Rattle.std.proofs.Common.{◌≡◌, ℕ, ◌+◌, Bool, true, false, ◌&&◌, List, [], ◌∷◌, ◌++◌, None, if◌then◌else◌, refl, ap, sym, ◌∙◌, subst, ◌⊎◌, inl, inr, pos}
 use Rattle.std.specs.List.{list_any}
 use Rattle.fort_base.specs.declared.ids.NameId.{NameId}
 use Rattle.fort_base.specs.declared.ids.SetId.{SetId}
@@ -14,13 +14,13 @@ use Rattle.fort_core.specs.declared.term.Term as term
 use Rattle.fort_core.specs.declared.term.Term.TheVariants.{Variable, outs-Call, outs-Apply, outs-Let, outs-ReadField, outs-WriteField, outs-Then, outs-Atomic, outs-Asleep, outs-Typecase, outs-Try}
 use Rattle.fort_core.specs.declared.term.Term.TheOpen.{Term-F}
 use Rattle.fort_core.specs.declared.value.Value.{Value, Small, out-Value}
-use Rattle.fort_machine.specs.Acts.{Act, stuck, asks, sets, calls, becomes, unit, by_standing, after, with_first, at_values, by_together}
+use Rattle.fort_machine.specs.Acts.{Act, asks, sets, calls, becomes, unit, by_standing, after, with_first, at_values, by_together}
 use Rattle.fort_machine.specs.Attempts.{Form, fresh, slept, Ended, goes, Closes, completed, failed, gave_up, fell_asleep, Ready}
-use Rattle.fort_machine.specs.Effects.{Store, Effect, paid, reading, writing}
+use Rattle.fort_machine.specs.Effects.{Store, Effect, paid, reading}
 use Rattle.fort_machine.specs.Ends.{Standing, open_yet, standing_at, standing, throw_of, Finished, has_stepped, throws_by, is_thrown, is_still, stepped}
 use Rattle.fort_machine.specs.Ends as ends
 use Rattle.fort_machine.specs.Forms.{act_at, act, trying as trying_act, writing_at, reading_at, field_of, clause_for}
-use Rattle.fort_machine.specs.Frames.{Frame, in_then, in_let, in_try, in_function, in_argument, in_throw, in_stepped, on, plug, passes, passed, trodden}
+use Rattle.fort_machine.specs.Frames.{Frame, in_then, in_let, in_function, in_argument, in_throw, plug, passes, passed, trodden}
 use Rattle.fort_machine.specs.Runs.{Runs}
 use Rattle.fort_machine.specs.Steps.{Does, Local}
 use Rattle.fort_machine.specs.Substitution.{substituted}
@@ -30,11 +30,11 @@ use Rattle.fort_machine.proofs.Places.{on_layer, out_on, plug_open, ready_open}
 use Rattle.fort_machine.proofs.Ready.{form_ready}
 use Rattle.fort_machine.proofs.Runs.{plug_append}
 use Rattle.fort_threads.specs.Machine.{applied}
-use Rattle.fort_threads_law_servers.specs.Prelude.{Names, object_of, number, taking, choosing, serving, storing, fewer, counting, in_try_of, round, going, LeadsTo, HasPrelude}
-use Rattle.fort_threads_law_servers.specs.Stages.{End, at_value, at_throw, end_term, kept_value, mark_of, Stage, called, asking, trying, got, refused, looking, sent, reads, runs, caught, lost, keeps, has_kept, marks, has_marked, leaves, counts, done, round_end, marking, term_at, Stands, Attempted, Follows}
+use Rattle.fort_threads_law_servers.specs.Prelude.{Names, object_of, taking, choosing, serving, storing, fewer, counting, in_try_of, round, going, HasPrelude}
+use Rattle.fort_threads_law_servers.specs.Stages.{End, at_value, at_throw, kept_value, mark_of, Stage, called, asking, trying, got, refused, looking, sent, reads, runs, caught, lost, keeps, has_kept, marks, has_marked, leaves, counts, done, round_end, marking, term_at, Stands, Attempted, Follows}
 use Rattle.fort_threads_law_servers.specs.Servers.{EachPickFollows}
-use Rattle.fort_threads_law_servers.proofs.Turns.{AllSerial, sole, Taken, a_step, an_attempt, taken_ready, pick_at, pick_sole, pick_inside, does, ready_by, is_atomic, stuck_no_step, stepped_at, moves_to, writes_to, calls_to}
-use Rattle.fort_threads_law_servers.proofs.Put.{put_then, put_write, put_call, put_typecase, put_0, put_1, put_2, put_other, put_storing}
+use Rattle.fort_threads_law_servers.proofs.Turns.{AllSerial, sole, Taken, a_step, an_attempt, taken_ready, pick_at, pick_sole, pick_inside, does, ready_by, stuck_no_step, stepped_at, moves_to, writes_to, calls_to}
+use Rattle.fort_threads_law_servers.proofs.Put.{put_call, put_typecase, put_0, put_1, put_2, put_other, put_storing}
 use Rattle.fort_machine.proofs.Less.{substituted_value}
 
 -- ---- what the forms do
@@ -70,7 +70,7 @@ pub let_throw : (p : Program) (x : ℕ) (ty : Ty) (v : Value) (b : Term)
     → act p (Let ((x, ty) ∷ []) (throw_of v) b) ≡ becomes (throw_of v)
 let_throw p x ty v b = ap (act_at p) (outs-Let ((x, ty) ∷ []) (throw_of v) b) ∙ after_throw v _
 
-write_field : (p : Program) (o v : Value) (f : NameId) (l : ℕ)
+pub write_field : (p : Program) (o v : Value) (f : NameId) (l : ℕ)
     → writing_at (field_of p f (out-Value o)) v ≡ sets l v
     → act p (WriteField (term.Value o) f (term.Value v)) ≡ sets l v
 write_field p o v f l e =

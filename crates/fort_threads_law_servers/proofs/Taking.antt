@@ -1,8 +1,7 @@
--- A completed attempt of `take'`, pick by pick.
-use Rattle.std.proofs.Common.{◌≡◌, ℕ, ◌+◌, ◌==◌, Bool, true, false, List, [], ◌∷◌, Option, Some, None, if◌then◌else◌, pos, refl, ap, sym, ◌∙◌, subst, ◌⊎◌, inl, inr}
+-- A completed attempt of `take'`, and one of `wait`, pick by pick.
+use Rattle.std.proofs.Common.{◌≡◌, ℕ, ◌+◌, ◌==◌, Bool, true, false, List, [], ◌∷◌, Option, Some, None, if◌then◌else◌, pos, arith, refl, ap, sym, ◌∙◌, subst, ◌⊎◌, inl, inr}
 use Rattle.fort_base.specs.declared.ids.NameId.{NameId}
 use Rattle.fort_base.specs.declared.ids.SetId.{SetId}
-use Rattle.fort_base.specs.declared.ty.Ty.{Ty}
 use Rattle.fort_base.specs.declared.ty.Ty.TheVariants.{Any, Named}
 use Rattle.fort_core.specs.declared.form.Mode.TheVariants as mode
 use Rattle.fort_core.specs.declared.form.Slot.{Slot}
@@ -11,18 +10,19 @@ use Rattle.fort_core.specs.declared.pick.Pick.{Pick}
 use Rattle.fort_core.specs.declared.program.Program.{Program}
 use Rattle.fort_core.specs.declared.term.Term.{Term, Call, Operator, Let, Write, ReadField, Then, If, Typecase, out-Term}
 use Rattle.fort_core.specs.declared.term.Term as term
-use Rattle.fort_core.specs.declared.term.Term.TheVariants.{Variable, Read, outs-Value, outs-Asleep, outs-Let, outs-Read, outs-Write, outs-ReadField, outs-Then, outs-If, outs-Typecase, outs-Operator, rolls-Read, rolls-Write, rolls-ReadField, rolls-If, rolls-Operator}
+use Rattle.fort_core.specs.declared.term.Term.TheVariants.{Variable, Read, outs-Value, outs-Asleep, outs-Call, outs-Let, outs-Read, outs-Write, outs-ReadField, outs-Then, outs-If, outs-Typecase, outs-Operator, rolls-Read, rolls-Write, rolls-ReadField, rolls-If, rolls-Operator}
 use Rattle.fort_core.specs.declared.term.Term.TheOpen.{Term-F}
 use Rattle.fort_core.specs.declared.value.Closure.{Closure}
-use Rattle.fort_core.specs.declared.value.Value.{Value, Small}
-use Rattle.fort_machine.specs.Acts.{asks, becomes, unit}
+use Rattle.fort_core.specs.declared.value.Value.{Value, Small, Truth}
+use Rattle.fort_core.specs.declared.value.Value.TheVariants.{outs-Truth}
+use Rattle.fort_machine.specs.Acts.{asks, becomes, ends as ends_it, unit}
 use Rattle.fort_machine.specs.Attempts.{Ended, goes, Closes, completed, failed, gave_up, fell_asleep}
 use Rattle.fort_machine.specs.Cells.{untouched, found, left_at}
 use Rattle.fort_machine.specs.Effects.{Store, Effect, paid, reading, writing, completing, FitsAll, afterwards}
 use Rattle.fort_machine.specs.Ends.{open_yet, standing_at, standing, throw_of, Finished}
 use Rattle.fort_machine.specs.Ends as ends
-use Rattle.fort_machine.specs.Forms.{act_at, act, reading_at, clause_for}
-use Rattle.fort_machine.specs.Frames.{Frame, in_then, in_let, in_write, plug}
+use Rattle.fort_machine.specs.Forms.{act_at, act, reading_at, choosing as chosen_by}
+use Rattle.fort_machine.specs.Frames.{Frame, in_then, in_let, in_write, in_operand, in_test, plug}
 use Rattle.fort_machine.specs.RunLaws.{PickByPick, no_more, next as then_more, stopped, all_of}
 use Rattle.fort_machine.specs.Runs.{Runs, location}
 use Rattle.fort_machine.specs.Steps.{Does}
@@ -34,12 +34,13 @@ use Rattle.fort_machine.proofs.Places.{plug_open, ready_open}
 use Rattle.fort_machine.proofs.Single.{reads_what_is_there}
 use Rattle.fort_machine.proofs.Standing.{standing-Value, decide, not_finished, value_not_throw}
 use Rattle.fort_machine.proofs.Substituted.{pairs}
-use Rattle.fort_threads_law_servers.specs.Prelude.{Names, object_of, number, taking_else, taking_from, taking, HasPrelude}
+use Rattle.fort_threads_law_servers.specs.Prelude.{Names, object_of, number, taking_else, taking_from, taking, waiting, HasPrelude}
 use Rattle.fort_threads_law_servers.specs.Stages.{Attempted}
-use Rattle.fort_threads_law_servers.specs.Queue.{takes_thread, TakesTheFirst}
-use Rattle.fort_threads_law_servers.proofs.Turns.{AllSerial, pick_at, taken_ready, pick_sole, pick_inside, ready_by, is_atomic, stepped_at, does, moves_to, writes_to}
-use Rattle.fort_threads_law_servers.proofs.Put.{put_then, put_call, put_calls, put_typecase, put_0, put_1, put_other}
-use Rattle.fort_threads_law_servers.proofs.Server.{after_value, then_value, then_throw, let_value, typecase_value, clause_is}
+use Rattle.fort_threads_law_servers.specs.Queue.{takes_thread, TakesTheFirst, WaitsForTheMark}
+use Rattle.fort_threads_law_servers.proofs.Turns.{AllSerial, pick_at, taken_ready, pick_sole, pick_inside, ready_by, is_atomic, ready_call, stepped_at, does, called_with, moves_to, writes_to}
+use Rattle.fort_threads_law_servers.proofs.Put.{put_then, put_calls, put_typecase, put_0, put_1, put_other}
+use Rattle.fort_threads_law_servers.proofs.Operands.{operator_two}
+use Rattle.fort_threads_law_servers.proofs.Server.{after_value, calls_none, then_value, then_throw, let_value, typecase_value, clause_is}
 
 -- ---- values in the places of variables
 
@@ -116,7 +117,7 @@ put_from n v =
 
 -- ---- one pick more of an attempt that comes to a value
 
-record Onward (p : Program) (s : Store) (t : Term) (v : Value) (effects : List Effect) : Type 0 where
+pub record Onward (p : Program) (s : Store) (t : Term) (v : Value) (effects : List Effect) : Type 0 where
   pub pick : Pick
   pub rest : List Pick
   pub becomes : Term
@@ -126,7 +127,7 @@ record Onward (p : Program) (s : Store) (t : Term) (v : Value) (effects : List E
   pub more : PickByPick p true true (afterwards effect s) rest becomes (goes (term.Value v)) others
   pub are : effects ≡ effect ∷ others
 
-onward : {p : Program} {s : Store} {picks : List Pick} {t : Term} {effects : List Effect}
+pub onward : {p : Program} {s : Store} {picks : List Pick} {t : Term} {effects : List Effect}
     (v : Value) → standing t ≡ open_yet
     → PickByPick p true true s picks t (goes (term.Value v)) effects → Onward p s t v effects
 onward {t = t} v o (no_more a b c) =
@@ -144,7 +145,7 @@ onward v o (then_more {rest = rest} {u = u} {others = others} pick d a k more c)
     }
 onward v o (stopped pick d a k b c) = absurd cc
 
-moved : {p : Program} {s : Store} {picks : List Pick} {t u : Term} {v : Value}
+pub moved : {p : Program} {s : Store} {picks : List Pick} {t u : Term} {v : Value}
     {effects : List Effect}
     → t ≡ u → PickByPick p true true s picks t (goes (term.Value v)) effects
     → PickByPick p true true s picks u (goes (term.Value v)) effects
@@ -167,7 +168,7 @@ same_value x y e =
 same_end : (x y : Term) → goes x ≡ goes y → x ≡ y
 same_end x y e = cc
 
-at_end : {p : Program} {s : Store} {picks : List Pick} {effects : List Effect} (w v : Value)
+pub at_end : {p : Program} {s : Store} {picks : List Pick} {effects : List Effect} (w v : Value)
     → PickByPick p true true s picks (term.Value w) (goes (term.Value v)) effects
     → (v ≡ w) × (effects ≡ [])
 at_end w v (no_more a b c) = (same_value v w (same_end _ _ b), c)
@@ -175,7 +176,7 @@ at_end w v (then_more pick d a k more c) =
     absurd (finished_stays (ends.Finished.value w refl) k)
 at_end w v (stopped pick d a k b c) = absurd cc
 
-no_throw : {p : Program} {s : Store} {picks : List Pick} {effects : List Effect} (w v : Value)
+pub no_throw : {p : Program} {s : Store} {picks : List Pick} {effects : List Effect} (w v : Value)
     → PickByPick p true true s picks (throw_of w) (goes (term.Value v)) effects → ⊥
 no_throw w v (no_more a b c) = value_not_throw v w (same_end _ _ b)
 no_throw w v (then_more pick d a k more c) = finished_stays (ends.Finished.throw w refl) k
@@ -215,14 +216,36 @@ rest_is {p = p} {s = s} t w v e (then_more {u = u} pick d a k more c) =
     (subst (λ y. Runs p true true s (pick ∷ []) y (goes u) d) e k) more
 rest_is t w v e (stopped pick d a k b c) = absurd cc
 
+-- the picks of an attempt that came to a value
+pub came_to : (p : Program) (s : Store) (body : Term) (v : Value) (d : Effect)
+    → (a : Attempted p s body (term.Value v) d)
+    → (effects : List Effect)
+    × PickByPick p true true s a.within body (goes (term.Value v)) effects
+    × (d ≡ completing (all_of effects))
+came_to p s body v d a = go a.ended a.effect a.inside a.closes
+  where
+    go : (r : Ended) (e : Effect) → Runs p true true s a.within body r e
+        → Closes p mode.Atomic body r e (term.Value v) d
+        → (effects : List Effect)
+        × PickByPick p true true s a.within body (goes (term.Value v)) effects
+        × (d ≡ completing (all_of effects))
+    go r e k (completed w b c f) =
+        let k2 = subst (λ x. Runs p true true s a.within body x e) (b ∙ ap goes (sym c)) k in
+        let i = picks_add_up p true true s a.within body (goes (term.Value v)) e k2 in
+        (i.0, i.1, f ∙ ap completing i.2)
+    go r e k (failed w b c f) = absurd (value_not_throw v w c)
+    go r e k (gave_up w b c f g i) = let z : mode.Atomic ≡ mode.Try = c in absurd cc
+    go r e k (fell_asleep marks b c f g i j) =
+        let z = sym (outs-Value v) ∙ ap out-Term i ∙ outs-Asleep marks body in absurd cc
+
 -- a read under frames
-record Reads (s : Store) (fs : List Frame) (l : ℕ) (u : Term) (d : Effect) : Type 0 where
+pub record Reads (s : Store) (fs : List Frame) (l : ℕ) (u : Term) (d : Effect) : Type 0 where
   pub value : Value
   pub becomes : u ≡ plug fs (term.Value value)
   pub effect : d ≡ reading l value
   pub is_there : s l ≡ Some value
 
-reads_at : {p : Program} {s : Store} {pick : Pick} {u : Term} {d : Effect} (fs : List Frame)
+pub reads_at : {p : Program} {s : Store} {pick : Pick} {u : Term} {d : Effect} (fs : List Frame)
     (a : Term) (y : Term-F Term Value Closure) → AllSerial fs → out-Term a ≡ y
     → is_atomic y ≡ false → (l : ℕ) → act p a ≡ asks l (λ v. term.Value v)
     → Runs p true true s (pick ∷ []) (plug fs a) (goes u) d → Reads s fs l u d
@@ -371,33 +394,91 @@ module _ (p : Program) (n : Names) (has : HasPrelude p n) where
       → (s n.queue ≡ Some v)
       × ((l : ℕ) × (w : Value) × (v ≡ object_of n l) × (s (l + 3) ≡ Some w)
       × (d ≡ completing (all_of (takes_thread n l w))))
-  took s v d a h = go a.ended a.effect a.inside a.closes
-    where
-      go : (r : Ended) (e : Effect) → Runs p true true s a.within (taking n) r e
-          → Closes p mode.Atomic (taking n) r e (term.Value v) d
-          → (s n.queue ≡ Some v)
-          × ((l : ℕ) × (w : Value) × (v ≡ object_of n l) × (s (l + 3) ≡ Some w)
-          × (d ≡ completing (all_of (takes_thread n l w))))
-      go r e k (completed w b c f) =
-          let k2 = subst (λ x. Runs p true true s a.within (taking n) x e)
-          (b ∙ ap goes (sym c)) k in
-          let i = picks_add_up p true true s a.within (taking n) (goes (term.Value v)) e k2 in
-          let t = takes v h i.1 in
-          let all : i.0 ≡ takes_thread n t.place t.popped.behind =
-          t.are ∙ (λ j. reading n.queue (t.is_object j) ∷ paid 1 ∷ t.popped.are j) in (
-            t.was_first,
-            (
-              t.place,
-              t.popped.behind,
-              t.is_object,
-              t.popped.is_behind,
-              f ∙ ap completing (i.2 ∙ ap all_of all),
-            ),
-          )
-      go r e k (failed w b c f) = absurd (value_not_throw v w c)
-      go r e k (gave_up w b c f g i) = let z : mode.Atomic ≡ mode.Try = c in absurd cc
-      go r e k (fell_asleep marks b c f g i j) =
-          let z = sym (outs-Value v) ∙ ap out-Term i ∙ outs-Asleep marks (taking n) in absurd cc
+  took s v d a h =
+      let i = came_to p s (taking n) v d a in
+      let t = takes v h i.1 in
+      let all : i.0 ≡ takes_thread n t.place t.popped.behind =
+      t.are ∙ (λ j. reading n.queue (t.is_object j) ∷ paid 1 ∷ t.popped.are j) in (
+        t.was_first,
+        (
+          t.place,
+          t.popped.behind,
+          t.is_object,
+          t.popped.is_behind,
+          i.2 ∙ ap (λ es. completing (all_of es)) all,
+        ),
+      )
 
 pub takes_the_first : TakesTheFirst
 takes_the_first p n has s v d a h = took p n has s v d a h
+
+-- ---- `wait`
+
+module _ (p : Program) (n : Names) (has : HasPrelude p n) where
+  -- no attempt goes on behind `abort()`
+  never_goes_on : {s : Store} {pick : Pick} {u : Term} {d : Effect}
+      → Runs p true true s (pick ∷ []) (Call n.abort []) (goes u) d → ⊥
+  never_goes_on {d = d} k =
+      let q = calls_none p n.abort in
+      let i = pick_sole [] (Call n.abort []) tt (ready_call p (Call n.abort []) n.abort [] q) k in
+      let j = stepped_at (Term-F.Call n.abort []) (outs-Call _ _) refl i.2 in
+      let c = called_with p true j.0 (Call n.abort []) i.0 d n.abort [] q j.1 in
+      let w : Does p true j.0 ends_it i.0 d =
+      subst (λ x. Does p true j.0 x i.0 d) (has.aborts c.declaration c.declared c.dispatches)
+      c.does in
+      let z : true ≡ false = w.1 in cc
+
+  abbrev compared : Term → Term
+  compared a = Operator n.equal (a ∷ number 0 ∷ [])
+
+  abbrev chosen : Term → Term
+  chosen a = If a (Call n.abort []) (term.Value unit)
+
+  open_if : (a : Term) → standing (chosen a) ≡ open_yet
+  open_if a = ap standing_at (outs-If a (Call n.abort []) (term.Value unit))
+
+  -- where the mark is 0, the attempt comes to no value
+  no_value : {s : Store} {picks : List Pick} {effects : List Effect} (v : Value)
+      → PickByPick p true true s picks (chosen (compared (number 0))) (goes (term.Value v)) effects
+      → ⊥
+  no_value v k =
+      let a = onward v (open_if _) k in
+      let q = operator_two p n.equal (Small (pos 0)) (Small (pos 0)) in
+      let i = pick_sole (in_test (Call n.abort []) (term.Value unit) ∷ []) (compared (number 0))
+      (tt, tt) (ready_call p (compared (number 0)) n.equal _ q) a.run in
+      let j = stepped_at (Term-F.Operator n.equal (number 0 ∷ number 0 ∷ [])) (outs-Operator _ _)
+      refl i.2 in
+      let c = called_with p true j.0 (compared (number 0)) i.0 a.effect n.equal _ q j.1 in
+      let w : Does p true j.0 (becomes (term.Value (Truth true))) i.0 a.effect =
+      subst (λ x. Does p true j.0 x i.0 a.effect)
+      (has.equals 0 0 (omega arith) (omega arith) c.declaration c.declared c.dispatches) c.does in
+      let b = onward v (open_if _) (moved (i.1 ∙ ap chosen w.1) a.more) in
+      let f = moves_to [] (chosen (term.Value (Truth true)))
+      (Term-F.If (term.Value (Truth true)) (Call n.abort []) (term.Value unit)) tt (outs-If _ _ _)
+      refl (Call n.abort [])
+      (ap (act_at p) (outs-If _ _ _) ∙ after_value (Truth true) _
+      ∙ ap (λ x. chosen_by x (Call n.abort []) (term.Value unit)) (outs-Truth true)) b.run in
+      let g = onward v (ap standing_at (outs-Call n.abort [])) (moved f.0 b.more) in
+      never_goes_on g.run
+
+  waited : (s : Store) (l : ℕ) (v : Value) (d : Effect)
+      → Attempted p s (waiting n l) (term.Value v) d
+      → (mark : Value) × (s (l + 1) ≡ Some mark) × (mark ≡ Small (pos 0) → ⊥)
+  waited s l v d a =
+      let w = came_to p s (waiting n l) v d a in
+      let b = onward v (open_if _) w.1 in
+      let c = reads_at
+      (in_test (Call n.abort []) (term.Value unit) ∷ in_operand n.equal [] (number 0 ∷ []) ∷ [])
+      (ReadField (term.Value (object_of n l)) n.state)
+      (Term-F.ReadField (term.Value (object_of n l)) n.state) (tt, (tt, tt)) (outs-ReadField _ _)
+      refl (l + 1)
+      (ap (act_at p) (outs-ReadField (term.Value (object_of n l)) n.state)
+      ∙ after_value (object_of n l) _ ∙ ap reading_at (has.has_state l)) b.run in (
+        c.value,
+        c.is_there,
+        (λ e. no_value v
+            (moved (c.becomes ∙ ap (λ x. chosen (compared (term.Value x))) e) b.more)),
+      )
+
+pub waits_for_the_mark : WaitsForTheMark
+waits_for_the_mark p n has s l v d a = waited p n has s l v d a

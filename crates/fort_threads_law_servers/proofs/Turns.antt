@@ -1,38 +1,35 @@
 -- One pick of a term, and where it stands: under frames of forms that go from left to right.
-use Rattle.std.proofs.Common.{◌≡◌, ℕ, Bool, true, false, ◌||◌, List, [], ◌∷◌, ◌++◌, Some, refl, ap, sym, ◌∙◌, subst, ◌⊎◌, inl, inr, arith}
-use Rattle.std.specs.Prelude.{slice_get, Contains}
-use Rattle.std.specs.List.{slice_index_or}
-use Rattle.std.proofs.Common.{zero, suc, ◌<◌}
+use Rattle.std.proofs.Common.{◌≡◌, ℕ, Bool, true, false, List, [], ◌∷◌, ◌++◌, map, refl, ap, sym, ◌∙◌, subst, ◌⊎◌, inl, inr}
 use Rattle.fort_base.specs.declared.ids.DeclId.{DeclId}
+use Rattle.fort_base.specs.declared.ids.NameId.{NameId}
 use Rattle.fort_base.specs.declared.ids.SetId.{SetId}
 use Rattle.fort_base.specs.declared.ty.Ty.{Ty}
 use Rattle.fort_core.specs.declared.form.Mode.{Mode}
 use Rattle.fort_core.specs.declared.pick.Pick.{Pick, Step, Attempt}
 use Rattle.fort_core.specs.declared.program.CoreDecl.{CoreDecl}
-use Rattle.fort_core.specs.declared.program.CoreSet.{CoreSet}
 use Rattle.fort_core.specs.declared.program.Program.{Program}
 use Rattle.fort_core.specs.declared.term.Term.{Term, Atomic, Asleep, out-Term}
 use Rattle.fort_core.specs.declared.term.Term as term
-use Rattle.fort_core.specs.declared.term.Term.TheVariants.{outs-Atomic, outs-Asleep, outs-Then, outs-Let, outs-Try, outs-Write, outs-If, outs-For}
+use Rattle.fort_core.specs.declared.term.Term.TheVariants.{outs-Atomic, outs-Asleep, outs-Then, outs-Let, outs-Try, outs-Write, outs-WriteField, outs-Operator, outs-If, outs-For}
 use Rattle.fort_core.specs.declared.term.Term.TheOpen.{Term-F}
 use Rattle.fort_core.specs.declared.value.Closure.{Closure}
 use Rattle.fort_core.specs.declared.value.Value.{Value}
 use Rattle.fort_machine.specs.Acts.{Act, stuck, turns, enters, asks, sets, makes, calls}
 use Rattle.fort_machine.specs.Acts as acts
-use Rattle.fort_machine.specs.Attempts.{Ready, Form, fresh, slept, Ended, goes, aborts, Closes}
+use Rattle.fort_machine.specs.Attempts.{Ready, Form, fresh, slept, Ended, goes, Closes}
 use Rattle.fort_machine.specs.Calls.{Dispatches, by_body}
 use Rattle.fort_machine.specs.Effects.{Store, Effect, idle, paid, writing, both, FitsAll}
 use Rattle.fort_machine.specs.Ends.{open_yet, standing, Finished}
+use Rattle.fort_machine.specs.Ends as ends
 use Rattle.fort_machine.specs.Forms.{act}
-use Rattle.fort_machine.specs.Frames.{Frame, in_then, in_let, in_try, in_write, in_test, in_source, in_throw, on, plug, part_number, road, passes, passed, trodden}
+use Rattle.fort_machine.specs.Frames.{Frame, in_then, in_let, in_try, in_write, in_field_target, in_field_value, in_operand, in_test, in_source, in_throw, on, plug, road, passes, passed, trodden}
 use Rattle.fort_machine.specs.Marked.{Bare}
 use Rattle.fort_machine.specs.Runs.{Runs, none, step, stop, attempt, path_to, location}
-use Rattle.fort_machine.specs.Steps.{Acts, by_itself, by_call, Does, Local, steps}
-use Rattle.fort_machine.proofs.Standing.{not_finished, or_false}
+use Rattle.fort_machine.specs.Steps.{by_itself, by_call, Does, Local, steps}
+use Rattle.fort_machine.proofs.Standing.{standing-Value, not_finished, or_false}
 use Rattle.fort_machine.proofs.Places.{on_layer, out_on, plug_open, ready_open}
 use Rattle.fort_machine.proofs.Ready.{acts_ready, local_ready, form_ready}
 use Rattle.fort_machine.proofs.WholeEffects.{both_idle}
-use Rattle.fort_threads.specs.Known.{IsBody}
 use Rattle.fort_threads_law_servers.specs.Prelude.{LeadsTo}
 
 -- ---- frames of forms that go from left to right
@@ -42,6 +39,8 @@ IsSerial (in_then rest) = Unit {0}
 IsSerial (in_let xs rest) = Unit {0}
 IsSerial (in_try x clauses last) = Unit {0}
 IsSerial (in_write place) = Unit {0}
+IsSerial (in_field_value o f) = Unit {0}
+IsSerial (in_operand set [] behind) = Unit {0}
 IsSerial (in_test one two) = Unit {0}
 IsSerial (in_source o s x body) = Unit {0}
 IsSerial _ = ⊥
@@ -55,6 +54,9 @@ never_passes (in_then rest) t h = refl
 never_passes (in_let xs rest) t h = refl
 never_passes (in_try x clauses last) t h = refl
 never_passes (in_write place) t h = refl
+never_passes (in_field_value o f) t h = refl
+never_passes (in_operand set [] behind) t h = refl
+never_passes (in_operand set (v ∷ before) behind) t h = absurd h
 never_passes (in_test one two) t h = refl
 never_passes (in_source o s x body) t h = refl
 never_passes _ t h = absurd h
@@ -70,6 +72,32 @@ peel_let : (xs : List (ℕ × Ty)) (rest x : Term) (g : Frame) (y : Term)
 peel_let xs rest x in_throw y e = absurd cc
 peel_let xs rest x (in_let zs r) y e = (cc, cc)
 peel_let xs rest x _ y e = absurd cc
+
+never_open : (v : Value) → standing (term.Value v) ≡ open_yet → ⊥
+never_open v e =
+    let z : ends.Standing.at_value v ≡ open_yet = sym (standing-Value v) ∙ e in cc
+
+same_value : (v w : Value) → term.Value v ≡ term.Value w → v ≡ w
+same_value v w e =
+    let z : ends.Standing.at_value v ≡ ends.Standing.at_value w =
+    sym (standing-Value v) ∙ ap standing e ∙ standing-Value w in cc
+
+peel_value : {w a : Value} {f b : NameId} {x y : Term} → term.Value w ≡ term.Value a → f ≡ b
+    → x ≡ y → (in_field_value a b ≡ in_field_value w f) × (x ≡ y)
+peel_value {w = w} {a = a} c d e = (λ i. in_field_value (sym (same_value w a c) i) (sym d i), e)
+
+peel_operand : (set : SetId) (behind : List Term) (x : Term) (g : Frame) (y : Term)
+    → standing x ≡ open_yet → Term-F.Operator set (x ∷ behind) ≡ on_layer g y
+    → (g ≡ in_operand set [] behind) × (x ≡ y)
+peel_operand set behind x in_throw y o e = absurd cc
+peel_operand set behind x (in_operand s [] b) y o e =
+    let q : x ∷ behind ≡ y ∷ b = cc in
+    let r : behind ≡ b = cc in
+    let z : set ≡ s = cc in (cc, cc)
+peel_operand set behind x (in_operand s (v ∷ before) b) y o e =
+    let q : x ∷ behind ≡ term.Value v ∷ (map term.Value before ++ y ∷ b) = cc in
+    let z : x ≡ term.Value v = cc in absurd (never_open v (ap standing (sym z) ∙ o))
+peel_operand set behind x _ y o e = absurd cc
 
 peel : (f g : Frame) (x y : Term) → IsSerial f → standing x ≡ open_yet → standing y ≡ open_yet
     → on f x ≡ on g y → (g ≡ f) × (x ≡ y)
@@ -91,6 +119,22 @@ peel (in_write place) g x y h o q e = go g (sym (outs-Write place x) ∙ ap out-
     go in_throw z = absurd cc
     go (in_write a) z = (cc, cc)
     go _ z = absurd cc
+peel (in_field_value w f) g x y h o q e =
+    go g (sym (outs-WriteField (term.Value w) f x) ∙ ap out-Term e ∙ out_on g y q)
+  where
+    go : (k : Frame) → Term-F.WriteField (term.Value w) f x ≡ on_layer k y
+        → (k ≡ in_field_value w f) × (x ≡ y)
+    go in_throw z = absurd cc
+    go (in_field_target a b) z =
+        let c : term.Value w ≡ y = cc in absurd (never_open w (ap standing c ∙ q))
+    go (in_field_value a b) z =
+        let c : term.Value w ≡ term.Value a = cc in
+        let d : f ≡ b = cc in
+        let r : x ≡ y = cc in peel_value c d r
+    go _ z = absurd cc
+peel (in_operand set [] behind) g x y h o q e =
+    peel_operand set behind x g y o (sym (outs-Operator set (x ∷ behind)) ∙ ap out-Term e ∙ out_on g y q)
+peel (in_operand set (v ∷ before) behind) g x y h o q e = absurd h
 peel (in_test one two) g x y h o q e =
     go g (sym (outs-If x one two) ∙ ap out-Term e ∙ out_on g y q)
   where
@@ -159,6 +203,11 @@ trodden_serial (in_then rest ∷ fs) gs h = ap (λ x. in_then rest ∷ x) (trodd
 trodden_serial (in_let xs rest ∷ fs) gs h = ap (λ x. in_let xs rest ∷ x) (trodden_serial fs gs h.1)
 trodden_serial (in_try v cs l ∷ fs) gs h = ap (λ x. in_try v cs l ∷ x) (trodden_serial fs gs h.1)
 trodden_serial (in_write a ∷ fs) gs h = ap (λ x. in_write a ∷ x) (trodden_serial fs gs h.1)
+trodden_serial (in_operand s [] b ∷ fs) gs h =
+    ap (λ x. in_operand s [] b ∷ x) (trodden_serial fs gs h.1)
+trodden_serial (in_operand s (v ∷ c) b ∷ fs) gs h = absurd h.0
+trodden_serial (in_field_value o f ∷ fs) gs h =
+    ap (λ x. in_field_value o f ∷ x) (trodden_serial fs gs h.1)
 trodden_serial (in_test a b ∷ fs) gs h = ap (λ x. in_test a b ∷ x) (trodden_serial fs gs h.1)
 trodden_serial (in_source o s v b ∷ fs) gs h =
     ap (λ x. in_source o s v b ∷ x) (trodden_serial fs gs h.1)
@@ -170,6 +219,9 @@ road_serial (in_then rest ∷ fs) gs h = road_serial fs gs h.1
 road_serial (in_let xs rest ∷ fs) gs h = road_serial fs gs h.1
 road_serial (in_try v cs l ∷ fs) gs h = road_serial fs gs h.1
 road_serial (in_write a ∷ fs) gs h = road_serial fs gs h.1
+road_serial (in_operand s [] b ∷ fs) gs h = road_serial fs gs h.1
+road_serial (in_operand s (v ∷ c) b ∷ fs) gs h = absurd h.0
+road_serial (in_field_value o f ∷ fs) gs h = road_serial fs gs h.1
 road_serial (in_test a b ∷ fs) gs h = road_serial fs gs h.1
 road_serial (in_source o s v b ∷ fs) gs h = road_serial fs gs h.1
 road_serial (_ ∷ fs) gs h = absurd h.0
@@ -371,48 +423,6 @@ stepped_at {a = a} y e n (an_attempt m body within ended c q form bare k close) 
 
 -- ---- calls
 
-one_member : (d e : DeclId) (k : ℕ) → k < 1 → slice_index_or (d ∷ []) k e ≡ e → e ≡ d
-one_member d e zero h q = sym q
-one_member d e (suc k) h q = absurd (omega arith)
-
-one_decl : (p : Program) (set : SetId) (vs : List Value) (a : Term) (d : DeclId) (decl : CoreDecl)
-    (l : LeadsTo p set vs a) → Dispatches p set vs d decl → by_body p decl.body vs ≡ enters l.is_body.text a
-one_decl p set vs a d decl l h =
-    let ap1 = h.most_specific.applicable in
-    let z : Some (record { decls = l.declaration ∷ [] }) ≡ Some ap1.members =
-    sym l.is_set ∙ ap1.is_set in
-    let w : ap1.members.decls ≡ l.declaration ∷ [] =
-    ap (λ (m : CoreSet). m.decls) (sym (some_set _ _ z)) in
-    let i = subst (λ ds. Contains ds d) w ap1.is_member in
-    let same : d ≡ l.declaration = one_member l.declaration d i.0 i.1 i.2 in
-    let q : Some decl ≡ Some l.is_body.declared =
-    sym ap1.is_decl ∙ ap (λ (c : DeclId). slice_get p.decls c.0) same ∙ l.is_body.is_declared in
-    ap (λ (c : CoreDecl). by_body p c.body vs) (some_decl _ _ q) ∙ l.is_body.is_body
-  where
-    some_set : (x y : CoreSet) → Some x ≡ Some y → x ≡ y
-    some_set x y e = cc
-
-    some_decl : (x y : CoreDecl) → Some x ≡ Some y → x ≡ y
-    some_decl x y e = cc
-
-pub called_to : (p : Program) (inner : Bool) (loc : ℕ) (a b t : Term) (d : Effect) (set : SetId)
-    (vs : List Value) → act p a ≡ calls set vs → LeadsTo p set vs t → Local p inner loc a b d
-    → (b ≡ t) × (d ≡ paid 1)
-called_to p inner loc a b t d set vs e l (steps y (by_itself q) k) =
-    absurd (subst (λ z. Does p inner loc z b d) (sym q ∙ e) k)
-called_to p inner loc a b t d set vs e l
-    (steps y (by_call {set = set'} {values = vs'} {d = c} {decl = decl} q r w) k) =
-    let z : calls set' vs' ≡ calls set vs = sym q ∙ e in
-    let e1 : set' ≡ set = cc in
-    let e2 : vs' ≡ vs = cc in
-    let r2 : Dispatches p set vs c decl =
-    subst (λ x. Dispatches p x vs c decl) e1 (subst (λ x. Dispatches p set' x c decl) e2 r) in
-    let h : enters l.is_body.text t ≡ y =
-    sym (one_decl p set vs t c decl l r2) ∙ ap (by_body p decl.body) (sym e2) ∙ w in
-    let k2 : Does p inner loc (enters l.is_body.text t) b d =
-    subst (λ x. Does p inner loc x b d) (sym h) k in
-    (k2.2, k2.3)
-
 -- A call that has a step runs some declaration.
 pub record CalledWith (p : Program) (inner : Bool) (loc : ℕ) (b : Term) (d : Effect) (set : SetId)
     (vs : List Value) : Type 0 where
@@ -438,6 +448,15 @@ called_with p inner loc a b d set vs e
           (subst (λ x. Dispatches p set' x c decl) e2 r);
       does = subst (λ x. Does p inner loc x b d) (sym w ∙ ap (by_body p decl.body) e2) k;
     }
+
+pub called_to : (p : Program) (inner : Bool) (loc : ℕ) (a b t : Term) (d : Effect) (set : SetId)
+    (vs : List Value) → act p a ≡ calls set vs → LeadsTo p set vs t → Local p inner loc a b d
+    → (b ≡ t) × (d ≡ paid 1)
+called_to p inner loc a b t d set vs e l k =
+    let c = called_with p inner loc a b d set vs e k in
+    let w = l c.declaration c.declared c.dispatches in
+    let z : Does p inner loc (enters w.0 t) b d =
+    subst (λ x. Does p inner loc x b d) w.1 c.does in (z.2, z.3)
 
 -- ---- a pick of a form under such frames, by what the form does
 

@@ -1,7 +1,7 @@
 -- Chapter "Threads that are spawned" of docs/LANGUAGE.md: the bodies of the prelude as terms, and
 -- what it is that a program has them. The numbers of their declarations, fields and locations are
 -- left open, so that no component has to be translated.
-use Rattle.std.specs.Prelude.{◌≡◌, ℕ, ◌+◌, true, List, [], ◌∷◌, Some, None, slice_get, pos}
+use Rattle.std.specs.Prelude.{◌≡◌, ℕ, ◌+◌, ◌==◌, ◌≤◌, true, false, List, [], ◌∷◌, Some, None, pos}
 use Rattle.fort_base.specs.declared.ids.DeclId.{DeclId}
 use Rattle.fort_base.specs.declared.ids.NameId.{NameId}
 use Rattle.fort_base.specs.declared.ids.SetId.{SetId}
@@ -12,27 +12,29 @@ use Rattle.fort_core.specs.declared.form.Mode.TheVariants as mode
 use Rattle.fort_core.specs.declared.form.Slot.TheVariants as slot
 use Rattle.fort_core.specs.declared.program.CoreDecl.{CoreDecl}
 use Rattle.fort_core.specs.declared.program.Program.{Program}
-use Rattle.fort_core.specs.declared.term.Term.{Term, Call, Operator, Apply, Let, Write, ReadField, WriteField, Then, If, Atomic, Typecase}
+use Rattle.fort_core.specs.declared.term.Term.{Term, Throw, Call, Operator, Apply, Let, Write, ReadField, WriteField, Then, If, Atomic, Typecase}
 use Rattle.fort_core.specs.declared.term.Term as term
 use Rattle.fort_core.specs.declared.term.Term.TheVariants.{Variable, Read}
-use Rattle.fort_core.specs.declared.value.Value.{Value, Small, Range, Object, out-Value}
-use Rattle.fort_machine.specs.Acts.{becomes, unit}
+use Rattle.fort_core.specs.declared.value.Value.{Value, Small, Truth, Range, Object, out-Value}
+use Rattle.fort_machine.specs.Acts.{enters, becomes, ends, unit}
 use Rattle.fort_machine.specs.Calls.{Dispatches, by_body}
 use Rattle.fort_machine.specs.Forms.{field_of}
 use Rattle.fort_machine.specs.Frames.{Frame, in_then, in_try, in_let, plug}
 use Rattle.fort_machine.specs.Runs.{location}
 use Rattle.fort_machine.specs.Types.{has_type}
-use Rattle.fort_threads.specs.Known.{IsBody}
 
 -- The numbers that a program has for what the prelude declares and calls: the sets of `serve'`,
--- `take'` and `go'`, and those of `abort`, `-`, `>` and `#`; the fields of `Thread'`; the locations
--- of `queue'` and `open'`; the types `Thread'` and `Exception`.
+-- `take'` and `go'`, and those of `abort`, `+`, `-`, `=`, `>` and `#`; the fields of `Thread'`; the
+-- locations of `queue'`, `open'` and `count'`; the types `Thread'` and `Exception`; and the object
+-- `TooManyThreads`.
 pub record Names : Type 0 where
   pub serve : SetId
   pub take : SetId
   pub go : SetId
   pub abort : SetId
+  pub plus : SetId
   pub minus : SetId
+  pub equal : SetId
   pub greater : SetId
   pub hash : SetId
   pub body : NameId
@@ -41,8 +43,10 @@ pub record Names : Type 0 where
   pub next : NameId
   pub queue : ℕ
   pub unended : ℕ
+  pub count : ℕ
   pub thread : TypeId
   pub exception : Ty
+  pub too_many : Value
 
 -- The object of a thread, by its location.
 abbrev pub object_of : Names → ℕ → Value
@@ -78,6 +82,36 @@ taking n =
     Let ((0, Any) ∷ []) (Read (slot.Location (location n.queue)))
     (Then (taking_from n (Variable 0)) (Variable 0))
 
+-- `x += 1` of a variable at the top, by its location.
+abbrev pub raising : Names → ℕ → Term
+raising n x =
+    Write (slot.Location (location x))
+    (Operator n.plus (Read (slot.Location (location x)) ∷ number 1 ∷ []))
+
+-- The body of the `atomic` in `spawn'`, for the object at a location: `if count' = 64 then throw
+-- TooManyThreads end; count' += 1; open' += 1; t'.next' := queue'; queue' := t'`.
+abbrev pub refusing : Names → Term → Term
+refusing n a = If a (Throw (term.Value n.too_many)) (term.Value unit)
+
+abbrev pub linking : Names → ℕ → Term
+linking n l =
+    Then
+    (WriteField (term.Value (object_of n l)) n.next (Read (slot.Location (location n.queue))))
+    (Write (slot.Location (location n.queue)) (term.Value (object_of n l)))
+
+abbrev pub adding : Names → ℕ → Term
+adding n l =
+    Then
+    (refusing n (Operator n.equal (Read (slot.Location (location n.count)) ∷ number 64 ∷ [])))
+    (Then (raising n n.count) (Then (raising n n.unended) (linking n l)))
+
+-- `if t'.state' = 0 then abort() end`, the body of the `atomic` in `wait`, for the object at a
+-- location.
+abbrev pub waiting : Names → ℕ → Term
+waiting n l =
+    If (Operator n.equal (ReadField (term.Value (object_of n l)) n.state ∷ number 0 ∷ []))
+    (Call n.abort []) (term.Value unit)
+
 -- `t'.value' := x; t'.state' := k`, for the thread whose object is at a location.
 abbrev pub storing : Names → ℕ → Term → ℕ → Term
 storing n l x k =
@@ -108,16 +142,17 @@ abbrev pub going : Names → ℕ → Term
 going n l =
     plug (round n l) (Apply (ReadField (term.Value (object_of n l)) n.body) (term.Value unit))
 
--- A call of a set with these values leads to this term: the set has one declaration, of which it
--- is the body.
-pub record LeadsTo (p : Program) (set : SetId) (values : List Value) (a : Term) : Type 0 where
-  pub declaration : DeclId
-  pub is_set : slice_get p.sets set.0 ≡ Some (record { decls = declaration ∷ [] })
-  pub is_body : IsBody p declaration values a
+-- A call of a set with these values leads to this term: it is the body of the declaration that the
+-- call runs.
+abbrev pub LeadsTo : Program → SetId → List Value → Term → Type 0
+LeadsTo p set values a =
+    (c : DeclId) (declared : CoreDecl) → Dispatches p set values c declared
+    → (text : Term) × (by_body p declared.body values ≡ enters text a)
 
 -- A program has the prelude by these numbers: its calls lead to these bodies; the fields of a
--- thread's object stand behind one another, its function first; nothing else is a `Thread'`; and
--- `0#64` is that range.
+-- thread's object stand behind one another, its function first; nothing else is a `Thread'`; `0#64`
+-- is that range, small numbers are added and compared as such, and `abort()` ends its machine; and
+-- `count'` isn't at the location of `open'`.
 pub record HasPrelude (p : Program) (n : Names) : Type 0 where
   pub serves : LeadsTo p n.serve [] (serving n (Call n.take []))
   pub takes : LeadsTo p n.take [] (Atomic mode.Atomic (taking n))
@@ -132,3 +167,14 @@ pub record HasPrelude (p : Program) (n : Names) : Type 0 where
       → Dispatches p n.hash (Small (pos 0) ∷ Small (pos 64) ∷ []) c declared
       → by_body p declared.body (Small (pos 0) ∷ Small (pos 64) ∷ [])
       ≡ becomes (term.Value (Range (pos 0) 64))
+  pub equals : (a b : ℕ) → a ≤ 64 → b ≤ 64 → (c : DeclId) (declared : CoreDecl)
+      → Dispatches p n.equal (Small (pos a) ∷ Small (pos b) ∷ []) c declared
+      → by_body p declared.body (Small (pos a) ∷ Small (pos b) ∷ [])
+      ≡ becomes (term.Value (Truth (a == b)))
+  pub adds_one : (a : ℕ) → a ≤ 65 → (c : DeclId) (declared : CoreDecl)
+      → Dispatches p n.plus (Small (pos a) ∷ Small (pos 1) ∷ []) c declared
+      → by_body p declared.body (Small (pos a) ∷ Small (pos 1) ∷ [])
+      ≡ becomes (term.Value (Small (pos (a + 1))))
+  pub apart : (n.count == n.unended) ≡ false
+  pub aborts : (c : DeclId) (declared : CoreDecl) → Dispatches p n.abort [] c declared
+      → by_body p declared.body [] ≡ ends

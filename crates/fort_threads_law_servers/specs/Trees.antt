@@ -1,6 +1,6 @@
 -- Chapter "The machine with threads": the servers of the prelude's `for`, as they stand in the
 -- halves into which it is divided.
-use Rattle.std.specs.Prelude.{◌≡◌, ℕ, Bool, true, false, List, [], ◌∷◌, pos, ◌⊎◌}
+use Rattle.std.specs.Prelude.{◌≡◌, Bool, true, false, [], ◌∷◌, pos, ◌⊎◌}
 use Rattle.fort_core.specs.declared.form.Order.TheVariants as order
 use Rattle.fort_core.specs.declared.form.Span.{Span}
 use Rattle.fort_core.specs.declared.form.Span.TheVariants as span

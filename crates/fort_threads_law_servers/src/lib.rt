@@ -9,7 +9,7 @@
 #![tactic(auto)]
 
 ghost use Rattle.fort_threads_law_servers.specs.Lifetimes.{ServesOneLife};
-ghost use Rattle.fort_threads_law_servers.specs.Queue.{TakesTheFirst};
+ghost use Rattle.fort_threads_law_servers.specs.Queue.{AddsAThread, TakesTheFirst, WaitsForTheMark};
 ghost use Rattle.fort_threads_law_servers.specs.Roots.{EachRunIsServed};
 ghost use Rattle.fort_threads_law_servers.specs.Servers.{EachPickFollows, MarksAnEnd, MarksItsThread};
 
@@ -41,10 +41,21 @@ pub fn serves_one_life()
     ensures { ServesOneLife }
 {}
 
+/// An attempt of `spawn'` completes only where fewer than 64 threads stand, and adds its thread
+/// before the first one of the queue: one more stands, and one more has not ended.
+pub fn adds_a_thread()
+    ensures { AddsAThread }
+{}
+
 /// An attempt of `take'` that completed at a thread took the first one of the queue, and left there
 /// what stood behind it.
 pub fn takes_the_first()
     ensures { TakesTheFirst }
+{}
+
+/// An attempt of `wait` completes only where the thread's mark isn't 0.
+pub fn waits_for_the_mark()
+    ensures { WaitsForTheMark }
 {}
 
 /// Each run of a program with the prelude is `main'` round `go'`, which runs the component's own
