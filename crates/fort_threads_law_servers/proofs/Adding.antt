@@ -253,7 +253,8 @@ module _ (p : Program) (n : Names) (has : HasPrelude p n) where
 
   -- the object is put before the first one
   linked : {s : Store} {picks : List Pick} {effects : List Effect} {v : Value} (l : ℕ)
-      → PickByPick p true true s picks (linking n l) (goes (term.Value v)) effects
+      → PickByPick p true true s picks (linking n (term.Value (object_of n l)))
+      (goes (term.Value v)) effects
       → (v ≡ unit) × ((w : Value) × (effects
       ≡ reading n.queue w ∷ writing (l + 3) w ∷ paid 1 ∷ writing n.queue (object_of n l) ∷ []))
   linked {v = v} l k =
@@ -290,11 +291,11 @@ module _ (p : Program) (n : Names) (has : HasPrelude p n) where
       × ((w : Value) × (effects ≡ adds_thread n l k o w))
   added s k o l v effects picks a h b g q =
       let s1 = afterwards (reading n.count (Small (pos k))) s in
-      let c = checked k (Then (raising n n.count) (Then (raising n n.unended) (linking n l))) h a q
+      let c = checked k (Then (raising n n.count) (Then (raising n n.unended) (linking n (term.Value (object_of n l))))) h a q
       in
-      let d = raised n.count k (Then (raising n n.unended) (linking n l)) (omega arith)
+      let d = raised n.count k (Then (raising n n.unended) (linking n (term.Value (object_of n l)))) (omega arith)
       (read_keeps n.count n.count (Small (pos k)) s ∙ a) c.more in
-      let e = raised n.unended o (linking n l) g
+      let e = raised n.unended o (linking n (term.Value (object_of n l))) g
       (write_keeps n.count n.unended (Small (pos (k + 1)))
       (afterwards (reading n.count (Small (pos k))) s1) has.apart
       ∙ read_keeps n.count n.unended (Small (pos k)) s1

@@ -6,6 +6,7 @@ pub mod Lifetime
 pub mod Operands
 pub mod Taking
 pub mod Adding
+pub mod Calling
 pub mod Parts
 pub mod Grown
 pub mod Rooted

@@ -3,12 +3,15 @@ use Rattle.std.proofs.Common.{◌≡◌, ℕ, [], ◌∷◌, ap, ◌∙◌}
 use Rattle.fort_base.specs.declared.ids.NameId.{NameId}
 use Rattle.fort_base.specs.declared.ids.SetId.{SetId}
 use Rattle.fort_base.specs.declared.ty.Ty.{Ty}
-use Rattle.fort_core.specs.declared.term.Term.{Term, Call, WriteField, Then, Typecase}
+use Rattle.fort_core.specs.declared.form.Mode.{Mode}
+use Rattle.fort_core.specs.declared.form.Slot.TheVariants as slot
+use Rattle.fort_core.specs.declared.term.Term.{Term, Throw, Call, Operator, Write, ReadField, WriteField, Then, If, Atomic, Typecase}
 use Rattle.fort_core.specs.declared.term.Term as term
-use Rattle.fort_core.specs.declared.term.Term.TheVariants.{Variable, outs-Variable, outs-Call, outs-WriteField, outs-Then, outs-Typecase, rolls-Call, rolls-WriteField, rolls-Then, rolls-Typecase}
+use Rattle.fort_core.specs.declared.term.Term.TheVariants.{Variable, Read, outs-Throw, outs-Atomic, outs-Read, outs-Write, outs-ReadField, outs-If, outs-Operator, rolls-Throw, rolls-Atomic, rolls-Read, rolls-Write, rolls-ReadField, rolls-If, rolls-Operator, outs-Variable, outs-Call, outs-WriteField, outs-Then, outs-Typecase, rolls-Call, rolls-WriteField, rolls-Then, rolls-Typecase}
 use Rattle.fort_core.specs.declared.term.Term.TheOpen.{Term-F}
 use Rattle.fort_core.specs.declared.value.Closure.{Closure}
 use Rattle.fort_core.specs.declared.value.Value.{Value}
+use Rattle.fort_machine.specs.Runs.{location}
 use Rattle.fort_machine.specs.Substitution.{substituted, with_value}
 use Rattle.fort_machine.proofs.Less.{substituted_out, substituted_value, values_by, closures_by}
 use Rattle.fort_machine.proofs.Substituted.{pairs}
@@ -47,6 +50,50 @@ module _ (x : ℕ) (v : Value) where
       substituted_out x v (Typecase y a ((b, ty) ∷ []) c)
       ∙ ap put_at (outs-Typecase y a ((b, ty) ∷ []) c)
       ∙ rolls-Typecase y (substituted x v a) ((substituted x v b, ty) ∷ []) (substituted x v c)
+
+  pub put_read : (l : ℕ)
+      → substituted x v (Read (slot.Location (location l))) ≡ Read (slot.Location (location l))
+  put_read l =
+      substituted_out x v (Read (slot.Location (location l)))
+      ∙ ap put_at (outs-Read (slot.Location (location l))) ∙ rolls-Read (slot.Location (location l))
+
+  pub put_write_top : (l : ℕ) (a : Term)
+      → substituted x v (Write (slot.Location (location l)) a)
+      ≡ Write (slot.Location (location l)) (substituted x v a)
+  put_write_top l a =
+      substituted_out x v (Write (slot.Location (location l)) a)
+      ∙ ap put_at (outs-Write (slot.Location (location l)) a)
+      ∙ rolls-Write (slot.Location (location l)) (substituted x v a)
+
+  pub put_read_field : (a : Term) (f : NameId)
+      → substituted x v (ReadField a f) ≡ ReadField (substituted x v a) f
+  put_read_field a f =
+      substituted_out x v (ReadField a f) ∙ ap put_at (outs-ReadField a f)
+      ∙ rolls-ReadField (substituted x v a) f
+
+  pub put_if : (a b c : Term)
+      → substituted x v (If a b c)
+      ≡ If (substituted x v a) (substituted x v b) (substituted x v c)
+  put_if a b c =
+      substituted_out x v (If a b c) ∙ ap put_at (outs-If a b c)
+      ∙ rolls-If (substituted x v a) (substituted x v b) (substituted x v c)
+
+  pub put_operator : (set : SetId) (a b : Term)
+      → substituted x v (Operator set (a ∷ b ∷ []))
+      ≡ Operator set (substituted x v a ∷ substituted x v b ∷ [])
+  put_operator set a b =
+      substituted_out x v (Operator set (a ∷ b ∷ [])) ∙ ap put_at (outs-Operator set (a ∷ b ∷ []))
+      ∙ rolls-Operator set (substituted x v a ∷ substituted x v b ∷ [])
+
+  pub put_throw : (a : Term) → substituted x v (Throw a) ≡ Throw (substituted x v a)
+  put_throw a =
+      substituted_out x v (Throw a) ∙ ap put_at (outs-Throw a) ∙ rolls-Throw (substituted x v a)
+
+  pub put_atomic : (m : Mode) (a : Term)
+      → substituted x v (Atomic m a) ≡ Atomic m (substituted x v a)
+  put_atomic m a =
+      substituted_out x v (Atomic m a) ∙ ap put_at (outs-Atomic m a)
+      ∙ rolls-Atomic m (substituted x v a)
 
 pub put_0 : (v : Value) → substituted 0 v (Variable 0) ≡ term.Value v
 put_0 v = substituted_out 0 v (Variable 0) ∙ ap (put_at 0 v) (outs-Variable 0)

@@ -12,7 +12,7 @@ use Rattle.fort_core.specs.declared.pick.Pick.{Pick}
 use Rattle.fort_core.specs.declared.program.Program.{Program}
 use Rattle.fort_core.specs.declared.term.Term.{Term, Call, Operator, Apply, Let, Write, Then, If, For, Also, out-Term}
 use Rattle.fort_core.specs.declared.term.Term as term
-use Rattle.fort_core.specs.declared.term.Term.TheVariants.{Variable, Read, outs-Call, outs-Let, outs-Read, outs-Write, outs-Then, outs-If, outs-Also, outs-Operator, outs-For, rolls-Operator, rolls-Let, rolls-For, rolls-Also}
+use Rattle.fort_core.specs.declared.term.Term.TheVariants.{Variable, Read, outs-Call, outs-Let, outs-Read, outs-Write, outs-Then, outs-If, outs-Also, outs-For, rolls-Let, rolls-For, rolls-Also}
 use Rattle.fort_core.specs.declared.term.Term.TheOpen.{Term-F}
 use Rattle.fort_core.specs.declared.value.Closure.{Closure}
 use Rattle.fort_core.specs.declared.value.Value.{Value, Small, Truth}
@@ -34,6 +34,7 @@ use Rattle.fort_machine.proofs.Picks.{picks_add_up}
 use Rattle.fort_machine.proofs.Single.{reads_what_is_there}
 use Rattle.fort_machine.proofs.Standing.{decide}
 use Rattle.fort_machine.proofs.Substituted.{pairs}
+use Rattle.fort_threads.specs.Moves.{opening_fields}
 use Rattle.fort_threads_law_servers.specs.Prelude.{Names, object_of, number, HasPrelude}
 use Rattle.fort_threads_law_servers.specs.Stages.{Stage, sent, term_at}
 use Rattle.fort_threads_law_servers.specs.Servers.{Serves}
@@ -41,7 +42,7 @@ use Rattle.fort_threads_law_servers.specs.Servers as servers
 use Rattle.fort_threads_law_servers.specs.Trees.{Tree, unread, with_step, tree_term}
 use Rattle.fort_threads_law_servers.specs.Roots.{Start, ending, last, blocks, making_first, opening, starting, testing, Starts, Root, first_call, main_call, tests, told, sets_started, has_started, sets_open, has_open, makes_first, made_first, all, all_over, asks, ended, root_term, Served, Leads, Course, rests, goes_on, EachRunIsServed}
 use Rattle.fort_threads_law_servers.proofs.Turns.{pick_at, run_of, pick_sole, pick_inside, ready_by, ready_call, stepped_at, does, called_with, moves_to, writes_to, calls_to}
-use Rattle.fort_threads_law_servers.proofs.Put.{put_then, put_call, put_calls, put_1}
+use Rattle.fort_threads_law_servers.proofs.Put.{put_then, put_call, put_calls, put_operator, put_1}
 use Rattle.fort_threads_law_servers.proofs.Server.{after_value, calls_none, calls_one, then_value, then_throw, let_value, let_throw, row_done, each_pick_follows}
 use Rattle.fort_threads_law_servers.proofs.Parts.{OfTwo, closes, of_first, of_second, both_blocks, of_blocks}
 use Rattle.fort_threads_law_servers.proofs.Grown.{stage_unmarked, tree_unmarked, further, tree_pick}
@@ -57,13 +58,6 @@ module _ (x : ℕ) (v : Value) where
   put_also a b =
       substituted_out x v (Also (a ∷ b ∷ [])) ∙ ap put_in (outs-Also (a ∷ b ∷ []))
       ∙ rolls-Also (substituted x v a ∷ substituted x v b ∷ [])
-
-  put_operator : (set : SetId) (a b : Term)
-      → substituted x v (Operator set (a ∷ b ∷ []))
-      ≡ Operator set (substituted x v a ∷ substituted x v b ∷ [])
-  put_operator set a b =
-      substituted_out x v (Operator set (a ∷ b ∷ [])) ∙ ap put_in (outs-Operator set (a ∷ b ∷ []))
-      ∙ rolls-Operator set (substituted x v a ∷ substituted x v b ∷ [])
 
   put_let : (ys : List (ℕ × Ty)) (a b : Term)
       → substituted x v (Let ys a b) ≡ Let ys (substituted x v a) (substituted x v b)
@@ -92,21 +86,21 @@ put_loop n v =
     (substituted_value 1 v (Small (pos 0)) j ∷ substituted_value 1 v (Small (pos 64)) j ∷ []))) i)
     (put_calls 1 v n.serve i))
 
-put_last : (n : Names) (m : Start) (v : Value)
-    → substituted 1 v (last n m (Variable 1)) ≡ last n m (term.Value v)
-put_last n m v =
-    put_let 1 v ((3, Any) ∷ []) (Call m.val (Variable 1 ∷ [])) (term.Value unit)
-    ∙ (λ i. Let ((3, Any) ∷ []) (put_object m.val v i) (substituted_value 1 v unit i))
+put_last : (n : Names) (v : Value)
+    → substituted 1 v (last n (Variable 1)) ≡ last n (term.Value v)
+put_last n v =
+    put_let 1 v ((3, Any) ∷ []) (Call n.val (Variable 1 ∷ [])) (term.Value unit)
+    ∙ (λ i. Let ((3, Any) ∷ []) (put_object n.val v i) (substituted_value 1 v unit i))
 
-put_blocks : (n : Names) (m : Start) (v : Value)
-    → substituted 1 v (blocks n m (Variable 1)) ≡ blocks n m (term.Value v)
-put_blocks n m v =
+put_blocks : (n : Names) (v : Value)
+    → substituted 1 v (blocks n (Variable 1)) ≡ blocks n (term.Value v)
+put_blocks n v =
     put_then 1 v (Also (Call n.go (Variable 1 ∷ []) ∷ tree_term n unread ∷ []))
-    (last n m (Variable 1))
+    (last n (Variable 1))
     ∙ (λ i. Then
     ((put_also 1 v (Call n.go (Variable 1 ∷ [])) (tree_term n unread)
     ∙ (λ j. Also (put_object n.go v j ∷ put_loop n v j ∷ []))) i)
-    (put_last n m v i))
+    (put_last n v i))
 
 -- ---- what the forms do
 
@@ -215,7 +209,7 @@ module _ (p : Program) (n : Names) (m : Start) (has : HasPrelude p n) (starts : 
       (sets_open, tt, i.0, i.1)
 
   abbrev first_made : Term
-  first_made = making_first n m (Call m.make (term.Value m.own ∷ []))
+  first_made = making_first n (Call n.make (term.Value m.own ∷ []))
 
   from_sets_open : (u : Term) (d : Effect) → Pick_of (root_term n m sets_open) u d
       → Led sets_open u d
@@ -237,26 +231,26 @@ module _ (p : Program) (n : Names) (m : Start) (has : HasPrelude p n) (starts : 
   from_makes : (u : Term) (d : Effect) → Pick_of (root_term n m makes_first) u d
       → Led makes_first u d
   from_makes u d k =
-      let c : Term = Call m.make (term.Value m.own ∷ []) in
-      let q = calls_one p m.make m.own in
-      let i = pick_sole (in_let ((1, Named n.thread) ∷ []) (blocks n m (Variable 1)) ∷ []) c
-      (tt, tt) (ready_call p c m.make _ q) k in
-      let j = stepped_at (Term-F.Call m.make (term.Value m.own ∷ [])) (outs-Call _ _) refl i.2 in
-      let a = called_with p false j.0 c i.0 d m.make _ q j.1 in
-      let f = starts.makes_objects a.declaration a.declared a.dispatches in
-      let w : Does p false j.0 (makes f.0 (λ l. term.Value (object_of n l)) 1) i.0 d =
-      subst (λ x. Does p false j.0 x i.0 d) f.1 a.does in
-      (made_first j.0, tt, i.1 ∙ ap (making_first n m) w.0, (f.0, w.1))
+      let c : Term = Call n.make (term.Value m.own ∷ []) in
+      let q = calls_one p n.make m.own in
+      let i = pick_sole (in_let ((1, Named n.thread) ∷ []) (blocks n (Variable 1)) ∷ []) c
+      (tt, tt) (ready_call p c n.make _ q) k in
+      let j = stepped_at (Term-F.Call n.make (term.Value m.own ∷ [])) (outs-Call _ _) refl i.2 in
+      let a = called_with p false j.0 c i.0 d n.make _ q j.1 in
+      let w : Does p false j.0 (makes (opening_fields m.own) (λ l. term.Value (object_of n l)) 1) i.0 d =
+      subst (λ x. Does p false j.0 x i.0 d)
+      (has.makes_threads m.own a.declaration a.declared a.dispatches) a.does in
+      (made_first j.0, tt, i.1 ∙ ap (making_first n) w.0, w.1)
 
   from_made : (l : ℕ) (u : Term) (d : Effect) → Pick_of (root_term n m (made_first l)) u d
       → Led (made_first l) u d
   from_made l u d k =
       let o = object_of n l in
-      let i = moves_to [] (making_first n m (term.Value o))
-      (Term-F.Let ((1, Named n.thread) ∷ []) (term.Value o) (blocks n m (Variable 1))) tt
-      (outs-Let _ _ _) refl (blocks n m (term.Value o))
-      (let_value p 1 (Named n.thread) o (blocks n m (Variable 1))
-      ∙ ap becomes (put_blocks n m o)) k in (
+      let i = moves_to [] (making_first n (term.Value o))
+      (Term-F.Let ((1, Named n.thread) ∷ []) (term.Value o) (blocks n (Variable 1))) tt
+      (outs-Let _ _ _) refl (blocks n (term.Value o))
+      (let_value p 1 (Named n.thread) o (blocks n (Variable 1))
+      ∙ ap becomes (put_blocks n o)) k in (
         all l false (sent l) false unread,
         (tt, servers.Serves.rests refl, tt),
         i.0,
@@ -275,7 +269,7 @@ module _ (p : Program) (n : Names) (m : Start) (has : HasPrelude p n) (starts : 
       (of_blocks x y a b (stage_unmarked n stage h.0) (tree_unmarked p n tree h.2) i.2)
     where
       rest : Term
-      rest = last n m (term.Value (object_of n l))
+      rest = last n (term.Value (object_of n l))
 
       go : (v : Term) → u ≡ Then v rest
           → OfTwo p s pick both_blocks (term_at n stage) (tree_term n tree) a b v d
@@ -303,14 +297,14 @@ module _ (p : Program) (n : Names) (m : Start) (has : HasPrelude p n) (starts : 
   from_over l t u d h k = go h
     where
       rest : Term
-      rest = last n m (term.Value (object_of n l))
+      rest = last n (term.Value (object_of n l))
 
       go : Finished t → Led (all_over l t) u d
       go (ends.Finished.value v e) =
           let i = moves_to [] (Then (term.Value v) rest) (Term-F.Then (term.Value v) rest) tt
           (outs-Then _ _) refl rest (then_value p v rest)
           (subst (λ x. Pick_of (Then x rest) u d) e k) in
-          (asks (Call m.val (term.Value (object_of n l) ∷ [])), tt, i.0, (refl, i.1))
+          (asks (Call n.val (term.Value (object_of n l) ∷ [])), tt, i.0, (refl, i.1))
       go (ends.Finished.throw v e) =
           let i = moves_to [] (Then (throw_of v) rest) (Term-F.Then (throw_of v) rest) tt
           (outs-Then _ _) refl (throw_of v) (then_throw p v rest)

@@ -100,7 +100,7 @@ pub clause_is : (p : Program) (v : Value) (c : Term) (ty : Ty) (other : Term) (f
     → has_type p v ty ≡ true → clause_for p v ((c, ty) ∷ []) other f ≡ f c
 clause_is p v c ty other f e = ap (λ b. if b then f c else other) e
 
-clause_none : (p : Program) (v : Value) (c : Term) (ty : Ty) (other : Term) (f : Term → Term)
+pub clause_none : (p : Program) (v : Value) (c : Term) (ty : Ty) (other : Term) (f : Term → Term)
     → has_type p v ty ≡ false → clause_for p v ((c, ty) ∷ []) other f ≡ other
 clause_none p v c ty other f e = ap (λ b. if b then f c else other) e
 
@@ -127,7 +127,7 @@ no_step p loc a b d m body (fresh e) l =
 no_step p loc a b d m body (slept ms n e) l =
     stuck_no_step p loc a b d (ap (act_at p) (ap out-Term e ∙ outs-Asleep ms body)) l
 
-attempted : (p : Program) (s : Store) (pick : Pick) (fs : List Frame) (a b : Term) (d : Effect)
+pub attempted : (p : Program) (s : Store) (pick : Pick) (fs : List Frame) (a b : Term) (d : Effect)
     (body : Term) → Form a mode.Atomic body → Taken p false s pick fs a b d
     → Attempted p s body b d
 attempted p s pick fs a b d body form (a_step loc q l f) =
@@ -143,11 +143,11 @@ attempted p s pick fs a b d body form (an_attempt m other within ended e q form'
           (subst (λ x. Closes p m x ended e b d) z.1 close);
     }
 
-abbrev Closed : Term → Term → Type 0
+abbrev pub Closed : Term → Term → Type 0
 Closed body b = ((v : Value) × (b ≡ term.Value v))
     ⊎ (((v : Value) × (b ≡ throw_of v)) ⊎ Form b mode.Atomic body)
 
-closes_as : (p : Program) (body b : Term) (r : Ended) (e d : Effect)
+pub closes_as : (p : Program) (body b : Term) (r : Ended) (e d : Effect)
     → Closes p mode.Atomic body r e b d → Closed body b
 closes_as p body b r e d (completed v a c w) = inl (v, c)
 closes_as p body b r e d (failed v a c w) = inr (inl (v, c))

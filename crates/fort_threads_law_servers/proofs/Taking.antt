@@ -1,7 +1,5 @@
 -- A completed attempt of `take'`, and one of `wait`, pick by pick.
 use Rattle.std.proofs.Common.{◌≡◌, ℕ, ◌+◌, ◌==◌, Bool, true, false, List, [], ◌∷◌, Option, Some, None, if◌then◌else◌, pos, arith, refl, ap, sym, ◌∙◌, subst, ◌⊎◌, inl, inr}
-use Rattle.fort_base.specs.declared.ids.NameId.{NameId}
-use Rattle.fort_base.specs.declared.ids.SetId.{SetId}
 use Rattle.fort_base.specs.declared.ty.Ty.TheVariants.{Any, Named}
 use Rattle.fort_core.specs.declared.form.Mode.TheVariants as mode
 use Rattle.fort_core.specs.declared.form.Slot.{Slot}
@@ -10,7 +8,7 @@ use Rattle.fort_core.specs.declared.pick.Pick.{Pick}
 use Rattle.fort_core.specs.declared.program.Program.{Program}
 use Rattle.fort_core.specs.declared.term.Term.{Term, Call, Operator, Let, Write, ReadField, Then, If, Typecase, out-Term}
 use Rattle.fort_core.specs.declared.term.Term as term
-use Rattle.fort_core.specs.declared.term.Term.TheVariants.{Variable, Read, outs-Value, outs-Asleep, outs-Call, outs-Let, outs-Read, outs-Write, outs-ReadField, outs-Then, outs-If, outs-Typecase, outs-Operator, rolls-Read, rolls-Write, rolls-ReadField, rolls-If, rolls-Operator}
+use Rattle.fort_core.specs.declared.term.Term.TheVariants.{Variable, Read, outs-Value, outs-Asleep, outs-Call, outs-Let, outs-Read, outs-Write, outs-ReadField, outs-Then, outs-If, outs-Typecase, outs-Operator}
 use Rattle.fort_core.specs.declared.term.Term.TheOpen.{Term-F}
 use Rattle.fort_core.specs.declared.value.Closure.{Closure}
 use Rattle.fort_core.specs.declared.value.Value.{Value, Small, Truth}
@@ -26,61 +24,22 @@ use Rattle.fort_machine.specs.Frames.{Frame, in_then, in_let, in_write, in_opera
 use Rattle.fort_machine.specs.RunLaws.{PickByPick, no_more, next as then_more, stopped, all_of}
 use Rattle.fort_machine.specs.Runs.{Runs, location}
 use Rattle.fort_machine.specs.Steps.{Does}
-use Rattle.fort_machine.specs.Substitution.{substituted, with_value}
+use Rattle.fort_machine.specs.Substitution.{substituted}
 use Rattle.fort_machine.specs.Types.{has_type}
-use Rattle.fort_machine.proofs.Less.{substituted_out, substituted_value, values_by, closures_by}
+use Rattle.fort_machine.proofs.Less.{substituted_value}
 use Rattle.fort_machine.proofs.Picks.{picks_add_up}
 use Rattle.fort_machine.proofs.Places.{plug_open, ready_open}
 use Rattle.fort_machine.proofs.Single.{reads_what_is_there}
 use Rattle.fort_machine.proofs.Standing.{standing-Value, decide, not_finished, value_not_throw}
-use Rattle.fort_machine.proofs.Substituted.{pairs}
 use Rattle.fort_threads_law_servers.specs.Prelude.{Names, object_of, number, taking_else, taking_from, taking, waiting, HasPrelude}
 use Rattle.fort_threads_law_servers.specs.Stages.{Attempted}
 use Rattle.fort_threads_law_servers.specs.Queue.{takes_thread, TakesTheFirst, WaitsForTheMark}
 use Rattle.fort_threads_law_servers.proofs.Turns.{AllSerial, pick_at, taken_ready, pick_sole, pick_inside, ready_by, is_atomic, ready_call, stepped_at, does, called_with, moves_to, writes_to}
-use Rattle.fort_threads_law_servers.proofs.Put.{put_then, put_calls, put_typecase, put_0, put_1, put_other}
+use Rattle.fort_threads_law_servers.proofs.Put.{put_read, put_write_top, put_read_field, put_if, put_operator, put_then, put_calls, put_typecase, put_0, put_1, put_other}
 use Rattle.fort_threads_law_servers.proofs.Operands.{operator_two}
 use Rattle.fort_threads_law_servers.proofs.Server.{after_value, calls_none, then_value, then_throw, let_value, typecase_value, clause_is}
 
 -- ---- values in the places of variables
-
-module _ (x : ℕ) (v : Value) where
-  abbrev put_in : Term-F Term Value Closure → Term
-  put_in y = with_value x v (pairs (substituted x v) (values_by x v) (closures_by x v) y)
-
-  put_read : (l : ℕ)
-      → substituted x v (Read (slot.Location (location l))) ≡ Read (slot.Location (location l))
-  put_read l =
-      substituted_out x v (Read (slot.Location (location l)))
-      ∙ ap put_in (outs-Read (slot.Location (location l))) ∙ rolls-Read (slot.Location (location l))
-
-  put_write_top : (l : ℕ) (a : Term)
-      → substituted x v (Write (slot.Location (location l)) a)
-      ≡ Write (slot.Location (location l)) (substituted x v a)
-  put_write_top l a =
-      substituted_out x v (Write (slot.Location (location l)) a)
-      ∙ ap put_in (outs-Write (slot.Location (location l)) a)
-      ∙ rolls-Write (slot.Location (location l)) (substituted x v a)
-
-  put_read_field : (a : Term) (f : NameId)
-      → substituted x v (ReadField a f) ≡ ReadField (substituted x v a) f
-  put_read_field a f =
-      substituted_out x v (ReadField a f) ∙ ap put_in (outs-ReadField a f)
-      ∙ rolls-ReadField (substituted x v a) f
-
-  put_if : (a b c : Term)
-      → substituted x v (If a b c)
-      ≡ If (substituted x v a) (substituted x v b) (substituted x v c)
-  put_if a b c =
-      substituted_out x v (If a b c) ∙ ap put_in (outs-If a b c)
-      ∙ rolls-If (substituted x v a) (substituted x v b) (substituted x v c)
-
-  put_operator : (set : SetId) (a b : Term)
-      → substituted x v (Operator set (a ∷ b ∷ []))
-      ≡ Operator set (substituted x v a ∷ substituted x v b ∷ [])
-  put_operator set a b =
-      substituted_out x v (Operator set (a ∷ b ∷ [])) ∙ ap put_in (outs-Operator set (a ∷ b ∷ []))
-      ∙ rolls-Operator set (substituted x v a ∷ substituted x v b ∷ [])
 
 -- the write of `x'.next'` to `queue'`, of a variable or a value
 abbrev pops : Names → Term → Term
@@ -245,15 +204,15 @@ pub record Reads (s : Store) (fs : List Frame) (l : ℕ) (u : Term) (d : Effect)
   pub effect : d ≡ reading l value
   pub is_there : s l ≡ Some value
 
-pub reads_at : {p : Program} {s : Store} {pick : Pick} {u : Term} {d : Effect} (fs : List Frame)
+pub reads_at : {p : Program} {inner strict : Bool} {s : Store} {pick : Pick} {u : Term} {d : Effect} (fs : List Frame)
     (a : Term) (y : Term-F Term Value Closure) → AllSerial fs → out-Term a ≡ y
     → is_atomic y ≡ false → (l : ℕ) → act p a ≡ asks l (λ v. term.Value v)
-    → Runs p true true s (pick ∷ []) (plug fs a) (goes u) d → Reads s fs l u d
-reads_at {p = p} {s = s} {d = d} fs a y h e n l q k =
+    → Runs p inner strict s (pick ∷ []) (plug fs a) (goes u) d → Reads s fs l u d
+reads_at {p = p} {inner = inner} {s = s} {d = d} fs a y h e n l q k =
     let i = pick_sole fs a h (ready_by p a _ q tt) k in
     let j = stepped_at y e n i.2 in
-    let w : Does p true j.0 (asks l (λ v. term.Value v)) i.0 d =
-    does p true j.0 a i.0 d (asks l (λ v. term.Value v)) q tt j.1 in
+    let w : Does p inner j.0 (asks l (λ v. term.Value v)) i.0 d =
+    does p inner j.0 a i.0 d (asks l (λ v. term.Value v)) q tt j.1 in
     record {
       value = w.0;
       becomes = i.1 ∙ ap (plug fs) w.2;

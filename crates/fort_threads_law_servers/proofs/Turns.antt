@@ -10,7 +10,7 @@ use Rattle.fort_core.specs.declared.program.CoreDecl.{CoreDecl}
 use Rattle.fort_core.specs.declared.program.Program.{Program}
 use Rattle.fort_core.specs.declared.term.Term.{Term, Atomic, Asleep, out-Term}
 use Rattle.fort_core.specs.declared.term.Term as term
-use Rattle.fort_core.specs.declared.term.Term.TheVariants.{outs-Atomic, outs-Asleep, outs-Then, outs-Let, outs-Try, outs-Write, outs-WriteField, outs-Operator, outs-If, outs-For}
+use Rattle.fort_core.specs.declared.term.Term.TheVariants.{outs-Atomic, outs-Asleep, outs-Then, outs-Let, outs-Try, outs-Write, outs-WriteField, outs-Operator, outs-Typecase, outs-If, outs-For}
 use Rattle.fort_core.specs.declared.term.Term.TheOpen.{Term-F}
 use Rattle.fort_core.specs.declared.value.Closure.{Closure}
 use Rattle.fort_core.specs.declared.value.Value.{Value}
@@ -22,7 +22,7 @@ use Rattle.fort_machine.specs.Effects.{Store, Effect, idle, paid, writing, both,
 use Rattle.fort_machine.specs.Ends.{open_yet, standing, Finished}
 use Rattle.fort_machine.specs.Ends as ends
 use Rattle.fort_machine.specs.Forms.{act}
-use Rattle.fort_machine.specs.Frames.{Frame, in_then, in_let, in_try, in_write, in_field_target, in_field_value, in_operand, in_test, in_source, in_throw, on, plug, road, passes, passed, trodden}
+use Rattle.fort_machine.specs.Frames.{Frame, in_then, in_let, in_try, in_write, in_field_target, in_field_value, in_operand, in_subject, in_test, in_source, in_throw, on, plug, road, passes, passed, trodden}
 use Rattle.fort_machine.specs.Marked.{Bare}
 use Rattle.fort_machine.specs.Runs.{Runs, none, step, stop, attempt, path_to, location}
 use Rattle.fort_machine.specs.Steps.{by_itself, by_call, Does, Local, steps}
@@ -39,6 +39,7 @@ IsSerial (in_then rest) = Unit {0}
 IsSerial (in_let xs rest) = Unit {0}
 IsSerial (in_try x clauses last) = Unit {0}
 IsSerial (in_write place) = Unit {0}
+IsSerial (in_subject x clauses other) = Unit {0}
 IsSerial (in_field_value o f) = Unit {0}
 IsSerial (in_operand set [] behind) = Unit {0}
 IsSerial (in_test one two) = Unit {0}
@@ -54,6 +55,7 @@ never_passes (in_then rest) t h = refl
 never_passes (in_let xs rest) t h = refl
 never_passes (in_try x clauses last) t h = refl
 never_passes (in_write place) t h = refl
+never_passes (in_subject x clauses other) t h = refl
 never_passes (in_field_value o f) t h = refl
 never_passes (in_operand set [] behind) t h = refl
 never_passes (in_operand set (v ∷ before) behind) t h = absurd h
@@ -135,6 +137,14 @@ peel (in_field_value w f) g x y h o q e =
 peel (in_operand set [] behind) g x y h o q e =
     peel_operand set behind x g y o (sym (outs-Operator set (x ∷ behind)) ∙ ap out-Term e ∙ out_on g y q)
 peel (in_operand set (v ∷ before) behind) g x y h o q e = absurd h
+peel (in_subject v cs other) g x y h o q e =
+    go g (sym (outs-Typecase v x cs other) ∙ ap out-Term e ∙ out_on g y q)
+  where
+    go : (k : Frame) → Term-F.Typecase v x cs other ≡ on_layer k y
+        → (k ≡ in_subject v cs other) × (x ≡ y)
+    go in_throw z = absurd cc
+    go (in_subject a b c) z = (cc, cc)
+    go _ z = absurd cc
 peel (in_test one two) g x y h o q e =
     go g (sym (outs-If x one two) ∙ ap out-Term e ∙ out_on g y q)
   where
@@ -208,6 +218,8 @@ trodden_serial (in_operand s [] b ∷ fs) gs h =
 trodden_serial (in_operand s (v ∷ c) b ∷ fs) gs h = absurd h.0
 trodden_serial (in_field_value o f ∷ fs) gs h =
     ap (λ x. in_field_value o f ∷ x) (trodden_serial fs gs h.1)
+trodden_serial (in_subject v c b ∷ fs) gs h =
+    ap (λ x. in_subject v c b ∷ x) (trodden_serial fs gs h.1)
 trodden_serial (in_test a b ∷ fs) gs h = ap (λ x. in_test a b ∷ x) (trodden_serial fs gs h.1)
 trodden_serial (in_source o s v b ∷ fs) gs h =
     ap (λ x. in_source o s v b ∷ x) (trodden_serial fs gs h.1)
@@ -222,6 +234,7 @@ road_serial (in_write a ∷ fs) gs h = road_serial fs gs h.1
 road_serial (in_operand s [] b ∷ fs) gs h = road_serial fs gs h.1
 road_serial (in_operand s (v ∷ c) b ∷ fs) gs h = absurd h.0
 road_serial (in_field_value o f ∷ fs) gs h = road_serial fs gs h.1
+road_serial (in_subject v c b ∷ fs) gs h = road_serial fs gs h.1
 road_serial (in_test a b ∷ fs) gs h = road_serial fs gs h.1
 road_serial (in_source o s v b ∷ fs) gs h = road_serial fs gs h.1
 road_serial (_ ∷ fs) gs h = absurd h.0

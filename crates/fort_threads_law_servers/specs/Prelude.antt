@@ -1,7 +1,7 @@
 -- Chapter "Threads that are spawned" of docs/LANGUAGE.md: the bodies of the prelude as terms, and
 -- what it is that a program has them. The numbers of their declarations, fields and locations are
 -- left open, so that no component has to be translated.
-use Rattle.std.specs.Prelude.{◌≡◌, ℕ, ◌+◌, ◌==◌, ◌≤◌, true, false, List, [], ◌∷◌, Some, None, pos}
+use Rattle.std.specs.Prelude.{◌≡◌, ℕ, ◌+◌, ◌==◌, ◌≤◌, true, false, not, List, [], ◌∷◌, Some, None, pos}
 use Rattle.fort_base.specs.declared.ids.DeclId.{DeclId}
 use Rattle.fort_base.specs.declared.ids.NameId.{NameId}
 use Rattle.fort_base.specs.declared.ids.SetId.{SetId}
@@ -16,25 +16,30 @@ use Rattle.fort_core.specs.declared.term.Term.{Term, Throw, Call, Operator, Appl
 use Rattle.fort_core.specs.declared.term.Term as term
 use Rattle.fort_core.specs.declared.term.Term.TheVariants.{Variable, Read}
 use Rattle.fort_core.specs.declared.value.Value.{Value, Small, Truth, Range, Object, out-Value}
-use Rattle.fort_machine.specs.Acts.{enters, becomes, ends, unit}
+use Rattle.fort_machine.specs.Acts.{enters, makes, becomes, ends, unit}
 use Rattle.fort_machine.specs.Calls.{Dispatches, by_body}
 use Rattle.fort_machine.specs.Forms.{field_of}
 use Rattle.fort_machine.specs.Frames.{Frame, in_then, in_try, in_let, plug}
 use Rattle.fort_machine.specs.Runs.{location}
 use Rattle.fort_machine.specs.Types.{has_type}
+use Rattle.fort_threads.specs.Moves.{opening_fields}
 
 -- The numbers that a program has for what the prelude declares and calls: the sets of `serve'`,
--- `take'` and `go'`, and those of `abort`, `+`, `-`, `=`, `>` and `#`; the fields of `Thread'`; the
--- locations of `queue'`, `open'` and `count'`; the types `Thread'` and `Exception`; and the object
--- `TooManyThreads`.
+-- `take'` and `go'`, of `Thread'` as what makes objects, of `wait` and `val`, and those of `abort`,
+-- `+`, `-`, `=`, `=/=`, `>` and `#`; the fields of `Thread'`; the locations of `queue'`, `open'` and
+-- `count'`; the types `Thread'` and `Exception`; and the object `TooManyThreads`.
 pub record Names : Type 0 where
   pub serve : SetId
   pub take : SetId
   pub go : SetId
+  pub make : SetId
+  pub wait : SetId
+  pub val : SetId
   pub abort : SetId
   pub plus : SetId
   pub minus : SetId
   pub equal : SetId
+  pub differs : SetId
   pub greater : SetId
   pub hash : SetId
   pub body : NameId
@@ -88,22 +93,24 @@ raising n x =
     Write (slot.Location (location x))
     (Operator n.plus (Read (slot.Location (location x)) ∷ number 1 ∷ []))
 
--- The body of the `atomic` in `spawn'`, for the object at a location: `if count' = 64 then throw
+-- The body of the `atomic` in `spawn'`, for an object or that at a location: `if count' = 64 then throw
 -- TooManyThreads end; count' += 1; open' += 1; t'.next' := queue'; queue' := t'`.
 abbrev pub refusing : Names → Term → Term
 refusing n a = If a (Throw (term.Value n.too_many)) (term.Value unit)
 
-abbrev pub linking : Names → ℕ → Term
-linking n l =
-    Then
-    (WriteField (term.Value (object_of n l)) n.next (Read (slot.Location (location n.queue))))
-    (Write (slot.Location (location n.queue)) (term.Value (object_of n l)))
+abbrev pub linking : Names → Term → Term
+linking n o =
+    Then (WriteField o n.next (Read (slot.Location (location n.queue))))
+    (Write (slot.Location (location n.queue)) o)
 
-abbrev pub adding : Names → ℕ → Term
-adding n l =
+abbrev pub adding_it : Names → Term → Term
+adding_it n o =
     Then
     (refusing n (Operator n.equal (Read (slot.Location (location n.count)) ∷ number 64 ∷ [])))
-    (Then (raising n n.count) (Then (raising n n.unended) (linking n l)))
+    (Then (raising n n.count) (Then (raising n n.unended) (linking n o)))
+
+abbrev pub adding : Names → ℕ → Term
+adding n l = adding_it n (term.Value (object_of n l))
 
 -- `if t'.state' = 0 then abort() end`, the body of the `atomic` in `wait`, for the object at a
 -- location.
@@ -149,14 +156,19 @@ LeadsTo p set values a =
     (c : DeclId) (declared : CoreDecl) → Dispatches p set values c declared
     → (text : Term) × (by_body p declared.body values ≡ enters text a)
 
--- A program has the prelude by these numbers: its calls lead to these bodies; the fields of a
--- thread's object stand behind one another, its function first; nothing else is a `Thread'`; `0#64`
--- is that range, small numbers are added and compared as such, and `abort()` ends its machine; and
--- `count'` isn't at the location of `open'`.
+-- A program has the prelude by these numbers: its calls lead to these bodies; an object of `Thread'`
+-- is made with its function, 0, `()` and `()`, its fields stand behind one another, and nothing else
+-- is a `Thread'`; `0#64` is that range, small numbers are added and compared as such, and `abort()`
+-- ends its machine; and `count'` isn't at the location of `open'`.
 pub record HasPrelude (p : Program) (n : Names) : Type 0 where
   pub serves : LeadsTo p n.serve [] (serving n (Call n.take []))
   pub takes : LeadsTo p n.take [] (Atomic mode.Atomic (taking n))
   pub goes : (l : ℕ) → LeadsTo p n.go (object_of n l ∷ []) (going n l)
+  pub waits : (l : ℕ) → LeadsTo p n.wait (object_of n l ∷ []) (Atomic mode.Atomic (waiting n l))
+  pub makes_threads : (f : Value) (c : DeclId) (declared : CoreDecl)
+      → Dispatches p n.make (f ∷ []) c declared
+      → by_body p declared.body (f ∷ [])
+      ≡ makes (opening_fields f) (λ l. term.Value (object_of n l)) 1
   pub has_body : (l : ℕ) → field_of p n.body (out-Value (object_of n l)) ≡ Some l
   pub has_state : (l : ℕ) → field_of p n.state (out-Value (object_of n l)) ≡ Some (l + 1)
   pub has_value : (l : ℕ) → field_of p n.value (out-Value (object_of n l)) ≡ Some (l + 2)
@@ -171,6 +183,10 @@ pub record HasPrelude (p : Program) (n : Names) : Type 0 where
       → Dispatches p n.equal (Small (pos a) ∷ Small (pos b) ∷ []) c declared
       → by_body p declared.body (Small (pos a) ∷ Small (pos b) ∷ [])
       ≡ becomes (term.Value (Truth (a == b)))
+  pub tells_apart : (a : ℕ) → a ≤ 64 → (c : DeclId) (declared : CoreDecl)
+      → Dispatches p n.differs (Small (pos a) ∷ Small (pos 0) ∷ []) c declared
+      → by_body p declared.body (Small (pos a) ∷ Small (pos 0) ∷ [])
+      ≡ becomes (term.Value (Truth (not (a == 0))))
   pub adds_one : (a : ℕ) → a ≤ 65 → (c : DeclId) (declared : CoreDecl)
       → Dispatches p n.plus (Small (pos a) ∷ Small (pos 1) ∷ []) c declared
       → by_body p declared.body (Small (pos a) ∷ Small (pos 1) ∷ [])

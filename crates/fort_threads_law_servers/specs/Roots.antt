@@ -1,39 +1,33 @@
 -- Chapter "The machine with threads": the root's term of a component with spawned threads: `main'`
 -- round `go'`, which runs the component's own `run`, and round the servers.
 use Rattle.std.specs.Prelude.{◌≡◌, ℕ, Bool, true, false, List, [], ◌∷◌, Some, pos, ◌⊎◌}
-use Rattle.fort_base.specs.declared.ids.DeclId.{DeclId}
 use Rattle.fort_base.specs.declared.ids.SetId.{SetId}
 use Rattle.fort_base.specs.declared.ty.Ty.TheVariants.{Any, Named}
 use Rattle.fort_core.specs.declared.form.Slot.TheVariants as slot
 use Rattle.fort_core.specs.declared.pick.Pick.{Pick}
-use Rattle.fort_core.specs.declared.program.CoreDecl.{CoreDecl}
 use Rattle.fort_core.specs.declared.program.Program.{Program}
 use Rattle.fort_core.specs.declared.term.Term.{Term, Call, Apply, Let, Write, Then, If, Also}
 use Rattle.fort_core.specs.declared.term.Term as term
 use Rattle.fort_core.specs.declared.term.Term.TheVariants.{Variable, Read}
 use Rattle.fort_core.specs.declared.value.Value.{Value, Small, Truth}
-use Rattle.fort_machine.specs.Acts.{makes, unit}
+use Rattle.fort_machine.specs.Acts.{unit}
 use Rattle.fort_machine.specs.Attempts.{goes}
-use Rattle.fort_machine.specs.Calls.{Dispatches, by_body}
 use Rattle.fort_machine.specs.Effects.{Store, Effect, idle, paid, reading, writing, making, both, afterwards}
 use Rattle.fort_machine.specs.Ends.{Finished}
 use Rattle.fort_machine.specs.Journals.{opening_store, IsRun}
 use Rattle.fort_machine.specs.Runs.{Runs, location}
-use Rattle.fort_machine.specs.Steps.{or_unit}
 use Rattle.fort_machine.specs.Threads.{under}
+use Rattle.fort_threads.specs.Moves.{opening_fields}
 use Rattle.fort_threads_law_servers.specs.Prelude.{Names, object_of, number, LeadsTo, HasPrelude}
 use Rattle.fort_threads_law_servers.specs.Stages.{Stage, sent, term_at, Stands, Follows}
 use Rattle.fort_threads_law_servers.specs.Servers.{Serves}
 use Rattle.fort_threads_law_servers.specs.Trees.{Tree, unread, with_step, tree_term, AllServe, Grows}
 
--- The numbers that a program has for what its start needs: the sets of `run`, of `main'`, of
--- objects of `Thread'` and of `val`, the location of `started'`, and the function `fn () =>
--- run'()`.
+-- The numbers that a program has for what its start needs: the sets of `run` and of `main'`, the
+-- location of `started'`, and the function `fn () => run'()`.
 pub record Start : Type 0 where
   pub run : SetId
   pub main : SetId
-  pub make : SetId
-  pub val : SetId
   pub started : ℕ
   pub own : Value
 
@@ -42,22 +36,22 @@ abbrev pub ending : Term → Term
 ending a = Let ((3, Any) ∷ []) a (term.Value unit)
 
 -- Behind the blocks beside each other: `r': Any = x.val()`.
-abbrev pub last : Names → Start → Term → Term
-last n m x = ending (Call m.val (x ∷ []))
+abbrev pub last : Names → Term → Term
+last n x = ending (Call n.val (x ∷ []))
 
 -- `do go'(x) also do for .. end end`, and what is behind it.
-abbrev pub blocks : Names → Start → Term → Term
-blocks n m x = Then (Also (Call n.go (x ∷ []) ∷ tree_term n unread ∷ [])) (last n m x)
+abbrev pub blocks : Names → Term → Term
+blocks n x = Then (Also (Call n.go (x ∷ []) ∷ tree_term n unread ∷ [])) (last n x)
 
 -- `m': Thread' = a`, and what is behind it.
-abbrev pub making_first : Names → Start → Term → Term
-making_first n m a = Let ((1, Named n.thread) ∷ []) a (blocks n m (Variable 1))
+abbrev pub making_first : Names → Term → Term
+making_first n a = Let ((1, Named n.thread) ∷ []) a (blocks n (Variable 1))
 
 -- `open' := 1`, before it `started' := true`, and that in the `else` of `if a then b'()`.
 abbrev pub opening : Names → Start → Term
 opening n m =
     Then (Write (slot.Location (location n.unended)) (number 1))
-    (making_first n m (Call m.make (term.Value m.own ∷ [])))
+    (making_first n (Call n.make (term.Value m.own ∷ [])))
 
 abbrev pub starting : Names → Start → Term
 starting n m =
@@ -67,17 +61,13 @@ abbrev pub testing : Names → Start → Term → Term
 testing n m a = If a (Apply (term.Value m.own) (term.Value unit)) (starting n m)
 
 -- A program starts with the prelude: its first term is the call of `run`, which leads to that of
--- `main'`; a run begins before `started'`; and `Thread'` makes objects of its own.
+-- `main'`; and a run begins before `started'`.
 pub record Starts (p : Program) (n : Names) (m : Start) : Type 0 where
   pub is_first : p.first ≡ Call m.run []
   pub runs_main : LeadsTo p m.run [] (Call m.main (term.Value m.own ∷ []))
   pub is_main : LeadsTo p m.main (m.own ∷ [])
       (testing n m (Read (slot.Location (location m.started))))
   pub not_started : opening_store p m.started ≡ Some (Truth false)
-  pub makes_objects : (c : DeclId) (declared : CoreDecl)
-      → Dispatches p m.make (m.own ∷ []) c declared
-      → (fields : List Value) × (by_body p declared.body (m.own ∷ [])
-      ≡ makes fields (λ l. term.Value (object_of n l)) 1)
 
 -- How far the root's term is: the calls of `run` and of `main'`; the test of `started'`; both
 -- assignments; the first object; all that goes on beside one another, `go'` and the servers, each
@@ -108,13 +98,13 @@ root_term n m sets_started = starting n m
 root_term n m has_started = Then (term.Value unit) (opening n m)
 root_term n m sets_open = opening n m
 root_term n m has_open =
-    Then (term.Value unit) (making_first n m (Call m.make (term.Value m.own ∷ [])))
-root_term n m makes_first = making_first n m (Call m.make (term.Value m.own ∷ []))
-root_term n m (made_first l) = making_first n m (term.Value (object_of n l))
+    Then (term.Value unit) (making_first n (Call n.make (term.Value m.own ∷ [])))
+root_term n m makes_first = making_first n (Call n.make (term.Value m.own ∷ []))
+root_term n m (made_first l) = making_first n (term.Value (object_of n l))
 root_term n m (all l a stage b tree) =
     Then (Also (with_step a (term_at n stage) ∷ with_step b (tree_term n tree) ∷ []))
-    (last n m (term.Value (object_of n l)))
-root_term n m (all_over l t) = Then t (last n m (term.Value (object_of n l)))
+    (last n (term.Value (object_of n l)))
+root_term n m (all_over l t) = Then t (last n (term.Value (object_of n l)))
 root_term n m (asks t) = ending t
 root_term n m (ended t) = t
 
@@ -138,8 +128,7 @@ Leads p n m s pick d sets_started has_started = d ≡ writing m.started (Truth t
 Leads p n m s pick d has_started sets_open = d ≡ paid 1
 Leads p n m s pick d sets_open has_open = d ≡ writing n.unended (Small (pos 1))
 Leads p n m s pick d has_open makes_first = d ≡ paid 1
-Leads p n m s pick d makes_first (made_first l) =
-    (fields : List Value) × (d ≡ making l (or_unit fields) 1)
+Leads p n m s pick d makes_first (made_first l) = d ≡ making l (opening_fields m.own) 1
 Leads p n m s pick d (made_first l) (all k a stage b tree) =
     (k ≡ l) × (a ≡ false) × (stage ≡ sent l) × (b ≡ false) × (tree ≡ unread) × (d ≡ paid 1)
 Leads p n m s pick d (all l a stage b tree) (all k a' next b' grown) =
@@ -150,7 +139,7 @@ Leads p n m s pick d (all l a stage b tree) (all k a' next b' grown) =
     × (next ≡ stage) × (b' ≡ true)))
 Leads p n m s pick d (all l a stage b tree) (all_over k t) = (k ≡ l) × (d ≡ paid 1)
 Leads p n m s pick d (all_over l t) (asks u) =
-    (u ≡ Call m.val (term.Value (object_of n l) ∷ [])) × (d ≡ paid 1)
+    (u ≡ Call n.val (term.Value (object_of n l) ∷ [])) × (d ≡ paid 1)
 Leads p n m s pick d (all_over l t) (ended u) = (u ≡ t) × (d ≡ paid 1)
 Leads p n m s pick d (asks t) (asks u) = Runs p false false s (pick ∷ []) t (goes u) d
 Leads p n m s pick d (asks t) (ended u) = Finished t × (d ≡ paid 1)

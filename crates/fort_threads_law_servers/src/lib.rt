@@ -8,6 +8,7 @@
 //! Nothing is computed here. Each function names a law by its clause and does nothing.
 #![tactic(auto)]
 
+ghost use Rattle.fort_threads_law_servers.specs.Calls.{EachCallFollows};
 ghost use Rattle.fort_threads_law_servers.specs.Lifetimes.{ServesOneLife};
 ghost use Rattle.fort_threads_law_servers.specs.Queue.{AddsAThread, TakesTheFirst, WaitsForTheMark};
 ghost use Rattle.fort_threads_law_servers.specs.Roots.{EachRunIsServed};
@@ -56,6 +57,12 @@ pub fn takes_the_first()
 /// An attempt of `wait` completes only where the thread's mark isn't 0.
 pub fn waits_for_the_mark()
     ensures { WaitsForTheMark }
+{}
+
+/// Each pick of the body of `spawn'`, `wait`, `val` or `ready`, on whatever store it comes to in
+/// which marks are small, leads from its place to one that follows.
+pub fn each_call_follows()
+    ensures { EachCallFollows }
 {}
 
 /// Each run of a program with the prelude is `main'` round `go'`, which runs the component's own
