@@ -1,5 +1,5 @@
 -- A pick of the tree of servers.
-use Rattle.std.proofs.Common.{◌≡◌, ℕ, zero, suc, ◌+◌, Bool, true, false, [], ◌∷◌, refl, ap, ◌∙◌, subst, inl, inr, pos}
+use Rattle.std.proofs.Common.{◌≡◌, ℕ, zero, suc, ◌+◌, ◌≤◌, arith, Bool, true, false, [], ◌∷◌, refl, ap, ◌∙◌, subst, inl, inr, pos, sym, div-add-mod'}
 use Rattle.fort_core.specs.declared.form.Order.TheVariants as order
 use Rattle.fort_core.specs.declared.form.Span.{Span}
 use Rattle.fort_core.specs.declared.form.Span.TheVariants as span
@@ -24,7 +24,7 @@ use Rattle.fort_machine.specs.Steps.{Does}
 use Rattle.fort_threads_law_servers.specs.Prelude.{Names, number, HasPrelude}
 use Rattle.fort_threads_law_servers.specs.Stages.{at_value, at_throw, Stage, called, asking, trying, got, refused, looking, sent, reads, runs, caught, lost, keeps, has_kept, marks, has_marked, leaves, counts, done, term_at, Stands, Follows}
 use Rattle.fort_threads_law_servers.specs.Servers.{Serves, rests, goes_on}
-use Rattle.fort_threads_law_servers.specs.Trees.{Tree, unread, undivided, server, halves, over, with_step, range, loop, tree_term, AllServe, Grows}
+use Rattle.fort_threads_law_servers.specs.Trees.{count_of, Tree, unread, undivided, server, halves, over, with_step, range, loop, tree_term, AllServe, Grows}
 use Rattle.fort_threads_law_servers.proofs.Turns.{pick_sole, ready_call, stepped_at, called_with, moves_to}
 use Rattle.fort_threads_law_servers.proofs.Parts.{OfTwo, closes, of_first, of_second, of_halves}
 use Rattle.fort_threads_law_servers.proofs.Put.{put_calls}
@@ -86,9 +86,8 @@ abbrev first_of : Span → ℕ
 first_of (span.Part k c) = k
 first_of span.Whole = 0
 
-abbrev count_of : Span → ℕ
-count_of (span.Part k c) = c
-count_of span.Whole = 64
+halves_le : (c : ℕ) → first_half c + rest_half c ≤ c
+halves_le c = omega (arith, div-add-mod' (c + 1) 2, div-add-mod' c 2)
 
 spanned_is : (items : Span) (f : ℕ → ℕ → Act)
     → spanned items (numbers_from (pos 0) 64) f ≡ f (first_of items) (count_of items)
@@ -141,14 +140,19 @@ module _ (p : Program) (n : Names) (has : HasPrelude p n) (s : Store) where
           (Term-F.For order.Parallel items 2 (term.Value range) (Call n.serve [])) tt
           (outs-For _ _ _ _ _) refl t (loop_act p n items ∙ e) k
 
+      fits : (c : ℕ) → count_of items ≡ suc (suc c)
+          → first_half (suc (suc c)) + rest_half (suc (suc c)) ≤ count_of items
+      fits c e = subst (λ x. first_half (suc (suc c)) + rest_half (suc (suc c)) ≤ x) (sym e)
+          (halves_le (suc (suc c)))
+
       go : (c : ℕ) → count_of items ≡ c → Grown pick (undivided items) u d
       go zero e =
           let i = to (term.Value unit) (ap (by_count n items) e) in
-          (over (term.Value unit), ends.Finished.value unit refl, i.0, (refl, i.1))
+          (over (term.Value unit), ends.Finished.value unit refl, i.0, (e, refl, i.1))
       go (suc zero) e =
           let i = to (Call n.serve [])
           (ap (by_count n items) e ∙ ap becomes (put_calls 2 _ n.serve)) in
-          (server called, (tt, rests refl), i.0, (refl, i.1))
+          (server called, (tt, rests refl), i.0, (e, refl, i.1))
       go (suc (suc c)) e =
           let h = first_half (suc (suc c)) in
           let one = span.Part (first_of items) h in
@@ -158,7 +162,7 @@ module _ (p : Program) (n : Names) (has : HasPrelude p n) (s : Store) where
             halves false (undivided one) false (undivided two),
             (tt, tt),
             i.0,
-            (one, two, refl, refl, refl, refl, i.1),
+            (one, two, fits c e, refl, refl, refl, refl, i.1),
           )
 
   halved : (a b : Tree) (m q : Bool) (pick : Pick) (u : Term) (d : Effect)

@@ -10,3 +10,4 @@ pub mod Calling
 pub mod Parts
 pub mod Grown
 pub mod Rooted
+pub mod Few

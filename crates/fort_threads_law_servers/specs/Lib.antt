@@ -6,3 +6,4 @@ pub mod Queue
 pub mod Calls
 pub mod Trees
 pub mod Roots
+pub mod Few

@@ -1,6 +1,6 @@
 -- Chapter "The machine with threads": the servers of the prelude's `for`, as they stand in the
 -- halves into which it is divided.
-use Rattle.std.specs.Prelude.{◌≡◌, Bool, true, false, [], ◌∷◌, pos, ◌⊎◌}
+use Rattle.std.specs.Prelude.{◌≡◌, ℕ, ◌+◌, ◌≤◌, Bool, true, false, [], ◌∷◌, pos, ◌⊎◌}
 use Rattle.fort_core.specs.declared.form.Order.TheVariants as order
 use Rattle.fort_core.specs.declared.form.Span.{Span}
 use Rattle.fort_core.specs.declared.form.Span.TheVariants as span
@@ -54,15 +54,22 @@ AllServe p n (halves m a k b) = AllServe p n a × AllServe p n b
 AllServe p n (over t) = Finished t
 AllServe p n _ = Unit {0}
 
+-- How many items are left.
+abbrev pub count_of : Span → ℕ
+count_of (span.Part k c) = c
+count_of span.Whole = 64
+
 -- A pick of a tree leads to a tree and does this: the range is computed; what is not divided has no
 -- item, one, or more, and is divided; one server of all goes on, by a pick that has the part's
 -- number before its own; both halves are over.
 abbrev pub Grows : Program → Names → Store → Pick → Effect → Tree → Tree → Type 0
 Grows p n s pick d unread (undivided items) = (items ≡ span.Whole) × (d ≡ paid 1)
-Grows p n s pick d (undivided items) (over t) = (t ≡ term.Value unit) × (d ≡ paid 1)
-Grows p n s pick d (undivided items) (server stage) = (stage ≡ called) × (d ≡ paid 1)
+Grows p n s pick d (undivided items) (over t) =
+    (count_of items ≡ 0) × (t ≡ term.Value unit) × (d ≡ paid 1)
+Grows p n s pick d (undivided items) (server stage) =
+    (count_of items ≡ 1) × (stage ≡ called) × (d ≡ paid 1)
 Grows p n s pick d (undivided items) (halves m a k b) =
-    (some : Span) × (others : Span) × (m ≡ false) × (a ≡ undivided some) × (k ≡ false)
+    (some : Span) × (others : Span) × (count_of some + count_of others ≤ count_of items) × (m ≡ false) × (a ≡ undivided some) × (k ≡ false)
     × (b ≡ undivided others) × (d ≡ paid 1)
 Grows p n s pick d (server stage) (server next) = Follows p n s pick d stage next
 Grows p n s pick d (halves m a k b) (halves m' a' k' b') =

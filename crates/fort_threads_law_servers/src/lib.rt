@@ -9,6 +9,7 @@
 #![tactic(auto)]
 
 ghost use Rattle.fort_threads_law_servers.specs.Calls.{EachCallFollows};
+ghost use Rattle.fort_threads_law_servers.specs.Few.{FewServers};
 ghost use Rattle.fort_threads_law_servers.specs.Lifetimes.{ServesOneLife};
 ghost use Rattle.fort_threads_law_servers.specs.Queue.{AddsAThread, TakesTheFirst, WaitsForTheMark};
 ghost use Rattle.fort_threads_law_servers.specs.Roots.{EachRunIsServed};
@@ -70,4 +71,10 @@ pub fn each_call_follows()
 /// to its stage from its call on, stage by stage.
 pub fn each_run_is_served()
     ensures { EachRunIsServed }
+{}
+
+/// At each time of such a run at most 64 servers stand beside `go'`, those among them that are yet
+/// to be called.
+pub fn few_servers()
+    ensures { FewServers }
 {}
