@@ -1,0 +1,13 @@
+pub mod Turns
+pub mod Put
+pub mod Server
+pub mod Life
+pub mod Lifetime
+pub mod Operands
+pub mod Taking
+pub mod Adding
+pub mod Calling
+pub mod Parts
+pub mod Grown
+pub mod Rooted
+pub mod Few
