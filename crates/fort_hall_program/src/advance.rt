@@ -7,6 +7,7 @@ ghost use Rattle.fort_walk_stretch.specs.Goes.{Goes};
 ghost use Rattle.fort_hall_machine.specs.Words.{IsMade};
 ghost use Rattle.fort_hall_program.specs.States.{IsGood, IsLegOfTask};
 
+use crate::depth::is_deep;
 use crate::state::{State, TaskLeg};
 use fort_base::Memory;
 use fort_core::Program;
@@ -40,8 +41,8 @@ pub(crate) fn point_of(state: &State, worker: u32) -> Point {
 }
 
 /// Steps of the task's threads, as far as there is room for them; or the task at an atomic form of
-/// which an attempt is to be opened, where no thread has a step; or nothing. With the number behind
-/// the last one that was used for a new location.
+/// which an attempt is to be opened, where no thread has a step; or nothing, of a part that is too
+/// deep too. With the number behind the last one that was used for a new location.
 ///
 /// # Errors
 ///
@@ -60,6 +61,9 @@ pub(crate) fn advance(
     ensures { IfOk result (λ r. IsMade (IsLegOfTask tables.now.program.now)
         (IsGood tables.now.program.now most) r.0) }
 {
+    if is_deep(alloc, &state.part)? {
+        return Ok((Made::Nothing, room.from));
+    }
     let span = span_of(room, base, state.left);
     let mut cost = span.cost.min(state.slice);
     for _try in 0..TRIES {

@@ -5,7 +5,6 @@ ghost use Rattle.fort_hall_machine.specs.Words.{IsFound, IsLent};
 ghost use Rattle.fort_hall_program.specs.States.{IsBookOf, IsGood};
 
 use crate::book::TaskBook;
-use crate::depth::is_deep;
 use crate::state::State;
 use fort_base::{Memory, Shared};
 use fort_core::Program;
@@ -40,42 +39,13 @@ pub(crate) fn lend(
         return Ok(Found::Nothing);
     }
     match state_of(alloc, program, most, book, task) {
-        Ok(Some(state)) => Ok(unless_deep(alloc, program, most, book, state)?),
+        Ok(Some(state)) => Ok(Found::Runs(state)),
         Ok(None) => {
             let _ = book.tasks.cut(task);
             Ok(Found::Nothing)
         }
         Err(wanting) => {
             book.tasks.give_back(task);
-            Err(wanting)
-        }
-    }
-}
-
-// The state of a task that was lent; a task whose part is too deep for a hall is left to others.
-fn unless_deep(
-    alloc: Global,
-    program: &Program,
-    most: u64,
-    book: &mut TaskBook,
-    state: State,
-) -> Result<Found<State>, Memory>
-    requires keeps { IsBookOf program.now most book.old }
-    requires good { IsGood program.now most state }
-    ensures keeps { IsBookOf program.now most book.new }
-    ensures same { book.new.book ≡ book.old.book }
-    ensures good { IfOk result (IsFound (IsGood program.now most)) }
-{
-    let _program = program;
-    let _most = most;
-    match is_deep(alloc, &state.part) {
-        Ok(false) => Ok(Found::Runs(state)),
-        Ok(true) => {
-            book.tasks.put_off(state.task);
-            Ok(Found::Nothing)
-        }
-        Err(wanting) => {
-            book.tasks.give_back(state.task);
             Err(wanting)
         }
     }

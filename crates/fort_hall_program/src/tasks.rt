@@ -200,12 +200,6 @@ impl Tasks {
         self.stand(task, Standing::Free);
     }
 
-    // A lent task comes back, and is lent no more.
-    pub(crate) fn put_off(&mut self, task: u64) {
-        self.stand(task, Standing::Idle(usize::MAX));
-        self.release(task);
-    }
-
     // A lent task comes back that couldn't go on: it is lent again once its book, which has so many
     // legs, has one more than when it was lent.
     pub(crate) fn rest(&mut self, task: u64, legs: usize) {
