@@ -1,5 +1,5 @@
 -- A pick of the tree of servers.
-use Rattle.std.proofs.Common.{◌≡◌, ℕ, zero, suc, ◌+◌, ◌≤◌, arith, Bool, true, false, [], ◌∷◌, refl, ap, ◌∙◌, subst, inl, inr, pos, sym, div-add-mod'}
+use Rattle.std.proofs.Common.{◌≡◌, ℕ, zero, suc, ◌+◌, ◌<◌, arith, Bool, true, false, [], ◌∷◌, refl, ap, ◌∙◌, subst, inl, inr, pos, sym, div-add-mod', mod-lt}
 use Rattle.fort_core.specs.declared.form.Order.TheVariants as order
 use Rattle.fort_core.specs.declared.form.Span.{Span}
 use Rattle.fort_core.specs.declared.form.Span.TheVariants as span
@@ -26,7 +26,7 @@ use Rattle.fort_threads_law_servers.specs.Stages.{at_value, at_throw, Stage, cal
 use Rattle.fort_threads_law_servers.specs.Servers.{Serves, rests, goes_on}
 use Rattle.fort_threads_law_servers.specs.Trees.{count_of, Tree, unread, undivided, server, halves, over, with_step, range, loop, tree_term, AllServe, Grows}
 use Rattle.fort_threads_law_servers.proofs.Turns.{pick_sole, ready_call, stepped_at, called_with, moves_to}
-use Rattle.fort_threads_law_servers.proofs.Parts.{OfTwo, closes, of_first, of_second, of_halves}
+use Rattle.fort_threads_law_servers.proofs.Parts.{OfTwo, closes, of_first, of_second, over_finished, of_halves}
 use Rattle.fort_threads_law_servers.proofs.Put.{put_calls}
 use Rattle.fort_threads_law_servers.proofs.Operands.{operator_two}
 use Rattle.fort_threads_law_servers.proofs.Server.{after_value, row_done, each_pick_follows}
@@ -82,23 +82,25 @@ further next s pick d (goes_on other r q e w rest) h =
 
 -- ---- what a `for` does that isn't divided
 
-abbrev first_of : Span → ℕ
+abbrev pub first_of : Span → ℕ
 first_of (span.Part k c) = k
 first_of span.Whole = 0
 
-halves_le : (c : ℕ) → first_half c + rest_half c ≤ c
-halves_le c = omega (arith, div-add-mod' (c + 1) 2, div-add-mod' c 2)
+halves_are : (c : ℕ) → first_half c + rest_half c ≡ c
+halves_are c =
+    let some : 0 < 2 = omega arith in
+    omega (arith, div-add-mod' (c + 1) 2, div-add-mod' c 2, mod-lt (c + 1) some, mod-lt c some)
 
 spanned_is : (items : Span) (f : ℕ → ℕ → Act)
     → spanned items (numbers_from (pos 0) 64) f ≡ f (first_of items) (count_of items)
 spanned_is (span.Part k c) f = refl
 spanned_is span.Whole f = refl
 
-abbrev by_count : Names → Span → ℕ → Act
+abbrev pub by_count : Names → Span → ℕ → Act
 by_count n items c =
     for_items order.Parallel (numbers_from (pos 0) 64) (first_of items) c 2 range (Call n.serve [])
 
-loop_act : (p : Program) (n : Names) (items : Span)
+pub loop_act : (p : Program) (n : Names) (items : Span)
     → act p (loop n items (term.Value range)) ≡ by_count n items (count_of items)
 loop_act p n items =
     ap (act_at p) (outs-For order.Parallel items 2 (term.Value range) (Call n.serve []))
@@ -141,9 +143,8 @@ module _ (p : Program) (n : Names) (has : HasPrelude p n) (s : Store) where
           (outs-For _ _ _ _ _) refl t (loop_act p n items ∙ e) k
 
       fits : (c : ℕ) → count_of items ≡ suc (suc c)
-          → first_half (suc (suc c)) + rest_half (suc (suc c)) ≤ count_of items
-      fits c e = subst (λ x. first_half (suc (suc c)) + rest_half (suc (suc c)) ≤ x) (sym e)
-          (halves_le (suc (suc c)))
+          → first_half (suc (suc c)) + rest_half (suc (suc c)) ≡ count_of items
+      fits c e = halves_are (suc (suc c)) ∙ sym e
 
       go : (c : ℕ) → count_of items ≡ c → Grown pick (undivided items) u d
       go zero e =
@@ -173,7 +174,8 @@ module _ (p : Program) (n : Names) (has : HasPrelude p n) (s : Store) where
       → Grown o b z d)
       → OfTwo p s pick ForHalves (tree_term n a) (tree_term n b) m q u d
       → Grown pick (halves m a q b) u d
-  halved a b m q pick u d h one two (closes f e) = (over u, f, refl, (f, e))
+  halved a b m q pick u d h one two (closes f e) =
+      (over u, over_finished _ _ u f, refl, (f, e))
   halved a b m q pick u d h one two (of_first o z e r w) =
       let i = one o z r in (
         halves true i.0 q b,

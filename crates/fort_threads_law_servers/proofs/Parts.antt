@@ -8,10 +8,10 @@ use Rattle.fort_core.specs.declared.term.Term.TheVariants.{outs-ForHalves, outs-
 use Rattle.fort_core.specs.declared.term.Term.TheOpen.{Term-F}
 use Rattle.fort_core.specs.declared.value.Value.{Value}
 use Rattle.fort_core.specs.declared.value.Closure.{Closure}
-use Rattle.fort_machine.specs.Acts.{becomes, unit, Together, at_values, leftmost, some_still, some_open, standing_together, by_together}
+use Rattle.fort_machine.specs.Acts.{becomes, unit, Together, with_first, at_values, leftmost, some_still, some_open, standing_together, by_together}
 use Rattle.fort_machine.specs.Attempts.{Ready, goes}
 use Rattle.fort_machine.specs.Effects.{Store, Effect, paid}
-use Rattle.fort_machine.specs.Ends.{open_yet, standing, throw_of, Finished, is_mark, has_stepped, stepped}
+use Rattle.fort_machine.specs.Ends.{Standing, open_yet, standing, throw_of, Finished, is_mark, has_stepped, stepped}
 use Rattle.fort_machine.specs.Ends as ends
 use Rattle.fort_machine.specs.Forms.{act_at, act}
 use Rattle.fort_machine.specs.Frames.{Frame, in_block, in_first_half, in_second_half, in_stepped, in_throw, on, plug, part_number, road, passes, passed, with_mark, trodden}
@@ -21,7 +21,8 @@ use Rattle.fort_machine.specs.Threads.{under}
 use Rattle.fort_machine.proofs.Standing.{stepped_open, stepped_finished, decide, not_finished, or_false}
 use Rattle.fort_machine.proofs.Places.{on_layer, out_on, plug_open, ready_open}
 use Rattle.fort_machine.proofs.Runs.{under-Step, under-Attempt}
-use Rattle.fort_threads_law_servers.specs.Trees.{with_step}
+use Rattle.fort_machine.proofs.Resting.{is_value, is_throw}
+use Rattle.fort_threads_law_servers.specs.Trees.{with_step, IsOver, are_values, first_threw, second_threw}
 use Rattle.fort_threads_law_servers.proofs.Turns.{Taken, a_step, an_attempt, taken_ready, pick_at, run_of, is_atomic, stepped_at, does, stuck_no_step}
 
 -- ---- a part with its mark, or without
@@ -123,7 +124,7 @@ lower {g = g} {hs = hs} {gs = gs} k e r (an_attempt m body within ended c q form
 -- A pick of a form of two parts: the form is over, or one part takes it.
 pub data OfTwo (p : Program) (s : Store) (pick : Pick) (node : Term → Term → Term) (x y : Term)
     (m k : Bool) (u : Term) (d : Effect) : Type 0 where
-  closes : Finished u → d ≡ paid 1 → OfTwo p s pick node x y m k u d
+  closes : IsOver (with_step m x) (with_step k y) u → d ≡ paid 1 → OfTwo p s pick node x y m k u d
   of_first : (q : Pick) (z : Term) → pick ≡ under (0 ∷ []) q
       → Runs p false false s (q ∷ []) x (goes z) d
       → u ≡ node (stepped z) (with_step k y) → OfTwo p s pick node x y m k u d
@@ -137,19 +138,70 @@ pub data Left (node : Term → Term → Term) (one two : Term → Frame) (v w : 
   first : g ≡ one w → v ≡ z → Left node one two v w g z
   second : g ≡ two v → w ≡ z → Left node one two v w g z
 
-closing : (p : Program) (loc : ℕ) (a b : Term) (d : Effect) (g : Together)
+-- how two parts stand, of which all are values, or the leftmost throw is known
+abbrev both_stand : Standing → Bool → Standing → Bool → Together
+both_stand a m b k = with_first a m (with_first b k (at_values []))
+
+abbrev AtValue : Standing → Type 0
+AtValue a = (x : Value) × (a ≡ ends.at_value x)
+
+abbrev AtThrow : Standing → Type 0
+AtThrow a = (x : Value) × (a ≡ ends.at_throw x)
+
+two_values : (a : Standing) (m : Bool) (b : Standing) (k : Bool) (vs : List Value)
+    → both_stand a m b k ≡ at_values vs → AtValue a × AtValue b
+two_values (ends.at_value x) m (ends.at_value y) k vs e = ((x, refl), (y, refl))
+two_values (ends.at_value x) m (ends.at_throw y) k vs e = absurd cc
+two_values (ends.at_value x) m open_yet true vs e = absurd cc
+two_values (ends.at_value x) m open_yet false vs e = absurd cc
+two_values (ends.at_throw x) m (ends.at_value y) k vs e = absurd cc
+two_values (ends.at_throw x) m (ends.at_throw y) k vs e = absurd cc
+two_values (ends.at_throw x) m open_yet true vs e = absurd cc
+two_values (ends.at_throw x) m open_yet false vs e = absurd cc
+two_values open_yet true b k vs e = absurd cc
+two_values open_yet false (ends.at_value y) k vs e = absurd cc
+two_values open_yet false (ends.at_throw y) k vs e = absurd cc
+two_values open_yet false open_yet true vs e = absurd cc
+two_values open_yet false open_yet false vs e = absurd cc
+
+one_throws : (a : Standing) (m : Bool) (b : Standing) (k : Bool) (z : Value)
+    → both_stand a m b k ≡ leftmost z → AtThrow a ⊎ AtThrow b
+one_throws (ends.at_throw x) m b k z e = inl (x, refl)
+one_throws (ends.at_value x) m (ends.at_throw y) k z e = inr (y, refl)
+one_throws (ends.at_value x) m (ends.at_value y) k z e = absurd cc
+one_throws (ends.at_value x) m open_yet true z e = absurd cc
+one_throws (ends.at_value x) m open_yet false z e = absurd cc
+one_throws open_yet true b k z e = absurd cc
+one_throws open_yet false (ends.at_throw y) k z e = inr (y, refl)
+one_throws open_yet false (ends.at_value y) k z e = absurd cc
+one_throws open_yet false open_yet true z e = absurd cc
+one_throws open_yet false open_yet false z e = absurd cc
+
+closing : (p : Program) (loc : ℕ) (v w a b : Term) (d : Effect) (g : Together)
+    → standing_together (v ∷ w ∷ []) ≡ g
     → act p a ≡ by_together g (λ vs. becomes (term.Value unit)) → Local p false loc a b d
-    → Finished b × (d ≡ paid 1)
-closing p loc a b d (at_values vs) e l =
-    let w : Does p false loc (becomes (term.Value unit)) b d =
+    → IsOver v w b × (d ≡ paid 1)
+closing p loc v w a b d (at_values vs) h e l =
+    let z : Does p false loc (becomes (term.Value unit)) b d =
     does p false loc a b d (becomes (term.Value unit)) e tt l in
-    (ends.Finished.value unit w.1, w.2)
-closing p loc a b d (leftmost v) e l =
-    let w : Does p false loc (becomes (throw_of v)) b d =
-    does p false loc a b d (becomes (throw_of v)) e tt l in
-    (ends.Finished.throw v w.1, w.2)
-closing p loc a b d some_still e l = absurd (stuck_no_step p loc a b d e l)
-closing p loc a b d some_open e l = absurd (stuck_no_step p loc a b d e l)
+    let q = two_values (standing v) (has_stepped v) (standing w) (has_stepped w) vs h in
+    (are_values q.0.0 q.1.0 (is_value v q.0.0 q.0.1) (is_value w q.1.0 q.1.1) z.1, z.2)
+closing p loc v w a b d (leftmost x) h e l =
+    let z : Does p false loc (becomes (throw_of x)) b d =
+    does p false loc a b d (becomes (throw_of x)) e tt l in
+    (go z.1 (one_throws (standing v) (has_stepped v) (standing w) (has_stepped w) x h), z.2)
+  where
+    go : b ≡ throw_of x → AtThrow (standing v) ⊎ AtThrow (standing w) → IsOver v w b
+    go q (inl i) = first_threw i.0 x (is_throw v i.0 i.1) q
+    go q (inr i) = second_threw i.0 x (is_throw w i.0 i.1) q
+closing p loc v w a b d some_still h e l = absurd (stuck_no_step p loc a b d e l)
+closing p loc v w a b d some_open h e l = absurd (stuck_no_step p loc a b d e l)
+
+-- what is over is finished
+pub over_finished : (v w t : Term) → IsOver v w t → Finished t
+over_finished v w t (are_values x y a b c) = ends.Finished.value unit c
+over_finished v w t (first_threw x y a c) = ends.Finished.throw y c
+over_finished v w t (second_threw x y a c) = ends.Finished.throw y c
 
 module _ (node : Term → Term → Term) (one two : Term → Frame)
     (layer : Term → Term → Term-F Term Value Closure)
@@ -206,9 +258,9 @@ module _ (node : Term → Term → Term) (one two : Term → Frame)
           → OfTwo p s pick node x y m k u d
       go [] b c q n t e =
           let j = stepped_at (layer v w) (ap out-Term (sym q) ∙ out v w) (no_atom v w) t in
-          let r = closing p j.0 b c d (standing_together (v ∷ w ∷ []))
+          let r = closing p j.0 v w b c d (standing_together (v ∷ w ∷ [])) refl
           (ap (act p) (sym q) ∙ closed p v w) j.1 in
-          closes (subst Finished (sym e) r.0) r.1
+          closes (subst (IsOver v w) (sym e) r.0) r.1
       go (g ∷ hs) b c q n t e =
           below g hs b c n t e
           (left v w g (plug hs b)

@@ -44,7 +44,7 @@ use Rattle.fort_threads_law_servers.specs.Roots.{Start, ending, last, blocks, ma
 use Rattle.fort_threads_law_servers.proofs.Turns.{pick_at, run_of, pick_sole, pick_inside, ready_by, ready_call, stepped_at, does, called_with, moves_to, writes_to, calls_to}
 use Rattle.fort_threads_law_servers.proofs.Put.{put_then, put_call, put_calls, put_operator, put_1}
 use Rattle.fort_threads_law_servers.proofs.Server.{after_value, calls_none, calls_one, then_value, then_throw, let_value, let_throw, row_done, each_pick_follows}
-use Rattle.fort_threads_law_servers.proofs.Parts.{OfTwo, closes, of_first, of_second, both_blocks, of_blocks}
+use Rattle.fort_threads_law_servers.proofs.Parts.{OfTwo, closes, of_first, of_second, over_finished, both_blocks, of_blocks}
 use Rattle.fort_threads_law_servers.proofs.Grown.{stage_unmarked, tree_unmarked, further, tree_pick}
 
 -- ---- the first object in the place of its variable
@@ -119,7 +119,7 @@ if_false p a b =
     ∙ ap (λ x. chosen_by x a b) (outs-Truth false)
 
 -- one pick, where the rule on sleeping forms is left aside
-loosened : {p : Program} {s : Store} {pick : Pick} {t u : Term} {d : Effect}
+pub loosened : {p : Program} {s : Store} {pick : Pick} {t u : Term} {d : Effect}
     → Runs p false true s (pick ∷ []) t (goes u) d → Runs p false false s (pick ∷ []) t (goes u) d
 loosened {p = p} {s = s} {pick = pick} {t = t} {u = u} {d = d} k =
     let i = pick_at k in
@@ -128,7 +128,7 @@ loosened {p = p} {s = s} {pick = pick} {t = t} {u = u} {d = d} k =
     (sym i.becomes) (run_of i.frames i.reached i.taken))
 
 -- until it is told, nothing has started
-abbrev Early : Start → Store → Root → Type 0
+abbrev pub Early : Start → Store → Root → Type 0
 Early m s first_call = s m.started ≡ Some (Truth false)
 Early m s main_call = s m.started ≡ Some (Truth false)
 Early m s tests = s m.started ≡ Some (Truth false)
@@ -274,7 +274,7 @@ module _ (p : Program) (n : Names) (m : Start) (has : HasPrelude p n) (starts : 
       go : (v : Term) → u ≡ Then v rest
           → OfTwo p s pick both_blocks (term_at n stage) (tree_term n tree) a b v d
           → Led (all l a stage b tree) u d
-      go v e (closes f q) = (all_over l v, f, e, (refl, q))
+      go v e (closes f q) = (all_over l v, over_finished _ _ v f, e, (refl, f, q))
       go v e (of_first q z c r w) =
           let j = each_pick_follows p n has s q stage z d h.0 r in (
             all l true j.0 b tree,
@@ -309,7 +309,7 @@ module _ (p : Program) (n : Names) (m : Start) (has : HasPrelude p n) (starts : 
           let i = moves_to [] (Then (throw_of v) rest) (Term-F.Then (throw_of v) rest) tt
           (outs-Then _ _) refl (throw_of v) (then_throw p v rest)
           (subst (λ x. Pick_of (Then x rest) u d) e k) in
-          (ended (throw_of v), ends.Finished.throw v refl, i.0, (sym e, i.1))
+          (ended (throw_of v), ends.Finished.throw v refl, i.0, (sym e, (v, e), i.1))
 
   from_asks : (t u : Term) (d : Effect) → Pick_of (root_term n m (asks t)) u d → Led (asks t) u d
   from_asks t u d k = go (decide t)
@@ -327,16 +327,16 @@ module _ (p : Program) (n : Names) (m : Start) (has : HasPrelude p n) (starts : 
             ended (term.Value unit),
             ends.Finished.value unit refl,
             i.0,
-            (ends.Finished.value v e, i.1),
+            (inl (v, e, refl), i.1),
           )
       go (inr (ends.Finished.throw v e)) =
           let i = moves_to [] (ending (throw_of v))
           (Term-F.Let ((3, Any) ∷ []) (throw_of v) (term.Value unit)) tt (outs-Let _ _ _) refl
           (throw_of v) (let_throw p 3 Any v (term.Value unit))
           (subst (λ x. Pick_of (ending x) u d) e k) in
-          (ended (throw_of v), ends.Finished.throw v refl, i.0, (ends.Finished.throw v e, i.1))
+          (ended (throw_of v), ends.Finished.throw v refl, i.0, (inr (v, e, refl), i.1))
 
-  root_pick : (root : Root) (u : Term) (d : Effect) → Served p n root → Early m s root
+  pub root_pick : (root : Root) (u : Term) (d : Effect) → Served p n root → Early m s root
       → Pick_of (root_term n m root) u d → Led root u d
   root_pick first_call u d h e k = from_first u d k
   root_pick main_call u d h e k = from_main u d k
@@ -353,7 +353,7 @@ module _ (p : Program) (n : Names) (m : Start) (has : HasPrelude p n) (starts : 
   root_pick (asks t) u d h e k = from_asks t u d k
   root_pick (ended t) u d h e k = absurd (row_done p n has s pick t u d h k)
 
-  early_next : (d : Effect) (root next : Root) → Early m s root
+  pub early_next : (d : Effect) (root next : Root) → Early m s root
       → Leads p n m s pick d root next → Early m (afterwards d s) next
   early_next d first_call main_call h q = ap (λ (e : Effect). afterwards e s m.started) q ∙ h
   early_next d main_call tests h q = ap (λ (e : Effect). afterwards e s m.started) q ∙ h

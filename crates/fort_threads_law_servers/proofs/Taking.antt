@@ -42,27 +42,28 @@ use Rattle.fort_threads_law_servers.proofs.Server.{after_value, calls_none, then
 -- ---- values in the places of variables
 
 -- the write of `x'.next'` to `queue'`, of a variable or a value
-abbrev pops : Names → Term → Term
+abbrev pub pops : Names → Term → Term
 pops n x = Write (slot.Location (location n.queue)) (ReadField x n.next)
 
-put_else : (n : Names) (v : Value) → substituted 0 v (taking_else n) ≡ taking_else n
-put_else n v =
-    put_if 0 v (Operator n.greater (Read (slot.Location (location n.unended)) ∷ number 0 ∷ []))
+pub put_else : (n : Names) (x : ℕ) (v : Value)
+    → substituted x v (taking_else n) ≡ taking_else n
+put_else n x v =
+    put_if x v (Operator n.greater (Read (slot.Location (location n.unended)) ∷ number 0 ∷ []))
     (Call n.abort []) (term.Value unit)
     ∙ (λ i. If
-    ((put_operator 0 v n.greater (Read (slot.Location (location n.unended))) (number 0)
+    ((put_operator x v n.greater (Read (slot.Location (location n.unended))) (number 0)
     ∙ (λ j. Operator n.greater
-    (put_read 0 v n.unended j ∷ substituted_value 0 v (Small (pos 0)) j ∷ []))) i)
-    (put_calls 0 v n.abort i) (substituted_value 0 v unit i))
+    (put_read x v n.unended j ∷ substituted_value x v (Small (pos 0)) j ∷ []))) i)
+    (put_calls x v n.abort i) (substituted_value x v unit i))
 
-put_pops : (n : Names) (x : ℕ) (v : Value) (a b : Term) → substituted x v a ≡ b
+pub put_pops : (n : Names) (x : ℕ) (v : Value) (a b : Term) → substituted x v a ≡ b
     → substituted x v (pops n a) ≡ pops n b
 put_pops n x v a b e =
     put_write_top x v n.queue (ReadField a n.next)
     ∙ ap (Write (slot.Location (location n.queue)))
     (put_read_field x v a n.next ∙ ap (λ t. ReadField t n.next) e)
 
-put_from : (n : Names) (v : Value)
+pub put_from : (n : Names) (v : Value)
     → substituted 0 v (Then (taking_from n (Variable 0)) (Variable 0))
     ≡ Then (taking_from n (term.Value v)) (term.Value v)
 put_from n v =
@@ -71,7 +72,7 @@ put_from n v =
     ((put_typecase 0 v 1 (Variable 0) (pops n (Variable 1)) (taking_else n) (Named n.thread)
     ∙ (λ j. Typecase 1 (put_0 v j)
     ((put_pops n 0 v (Variable 1) (Variable 1) (put_other v) j, Named n.thread) ∷ [])
-    (put_else n v j))) i)
+    (put_else n 0 v j))) i)
     (put_0 v i))
 
 -- ---- one pick more of an attempt that comes to a value

@@ -13,7 +13,7 @@ use Rattle.fort_core.specs.declared.value.Value.{Value, Small, Truth}
 use Rattle.fort_machine.specs.Acts.{unit}
 use Rattle.fort_machine.specs.Attempts.{goes}
 use Rattle.fort_machine.specs.Effects.{Store, Effect, idle, paid, reading, writing, making, both, afterwards}
-use Rattle.fort_machine.specs.Ends.{Finished}
+use Rattle.fort_machine.specs.Ends.{Finished, throw_of}
 use Rattle.fort_machine.specs.Journals.{opening_store, IsRun}
 use Rattle.fort_machine.specs.Runs.{Runs, location}
 use Rattle.fort_machine.specs.Threads.{under}
@@ -21,7 +21,7 @@ use Rattle.fort_threads.specs.Moves.{opening_fields}
 use Rattle.fort_threads_law_servers.specs.Prelude.{Names, object_of, number, LeadsTo, HasPrelude}
 use Rattle.fort_threads_law_servers.specs.Stages.{Stage, sent, term_at, Stands, Follows}
 use Rattle.fort_threads_law_servers.specs.Servers.{Serves}
-use Rattle.fort_threads_law_servers.specs.Trees.{Tree, unread, with_step, tree_term, AllServe, Grows}
+use Rattle.fort_threads_law_servers.specs.Trees.{Tree, unread, with_step, tree_term, AllServe, IsOver, Grows}
 
 -- The numbers that a program has for what its start needs: the sets of `run` and of `main'`, the
 -- location of `started'`, and the function `fn () => run'()`.
@@ -137,12 +137,17 @@ Leads p n m s pick d (all l a stage b tree) (all k a' next b' grown) =
     × (b' ≡ b) × (grown ≡ tree))
     ⊎ ((q : Pick) × (pick ≡ under (1 ∷ []) q) × Grows p n s q d tree grown × (a' ≡ a)
     × (next ≡ stage) × (b' ≡ true)))
-Leads p n m s pick d (all l a stage b tree) (all_over k t) = (k ≡ l) × (d ≡ paid 1)
+Leads p n m s pick d (all l a stage b tree) (all_over k t) =
+    (k ≡ l) × IsOver (with_step a (term_at n stage)) (with_step b (tree_term n tree)) t × (d ≡ paid 1)
 Leads p n m s pick d (all_over l t) (asks u) =
     (u ≡ Call n.val (term.Value (object_of n l) ∷ [])) × (d ≡ paid 1)
-Leads p n m s pick d (all_over l t) (ended u) = (u ≡ t) × (d ≡ paid 1)
+Leads p n m s pick d (all_over l t) (ended u) =
+    (u ≡ t) × ((v : Value) × (t ≡ throw_of v)) × (d ≡ paid 1)
 Leads p n m s pick d (asks t) (asks u) = Runs p false false s (pick ∷ []) t (goes u) d
-Leads p n m s pick d (asks t) (ended u) = Finished t × (d ≡ paid 1)
+Leads p n m s pick d (asks t) (ended u) =
+    (((v : Value) × (t ≡ term.Value v) × (u ≡ term.Value unit))
+    ⊎ ((v : Value) × (t ≡ throw_of v) × (u ≡ throw_of v)))
+    × (d ≡ paid 1)
 Leads p n m s pick d _ _ = ⊥
 
 -- The root goes on by picks, one after the other.

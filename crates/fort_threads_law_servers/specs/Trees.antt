@@ -11,7 +11,7 @@ use Rattle.fort_core.specs.declared.term.Term as term
 use Rattle.fort_core.specs.declared.value.Value.{Value, Range}
 use Rattle.fort_machine.specs.Acts.{unit}
 use Rattle.fort_machine.specs.Effects.{Store, Effect, paid}
-use Rattle.fort_machine.specs.Ends.{Finished, stepped}
+use Rattle.fort_machine.specs.Ends.{Finished, throw_of, stepped}
 use Rattle.fort_machine.specs.Threads.{under}
 use Rattle.fort_threads_law_servers.specs.Prelude.{Names, number}
 use Rattle.fort_threads_law_servers.specs.Stages.{Stage, called, term_at, Stands, Follows}
@@ -59,6 +59,14 @@ abbrev pub count_of : Span → ℕ
 count_of (span.Part k c) = c
 count_of span.Whole = 64
 
+-- Two parts beside each other are over, at a term: at `()` where both are values; at a throw where one
+-- is a throw.
+pub data IsOver (v w t : Term) : Type 0 where
+  are_values : (x y : Value) → v ≡ term.Value x → w ≡ term.Value y → t ≡ term.Value unit
+      → IsOver v w t
+  first_threw : (x y : Value) → v ≡ throw_of x → t ≡ throw_of y → IsOver v w t
+  second_threw : (x y : Value) → w ≡ throw_of x → t ≡ throw_of y → IsOver v w t
+
 -- A pick of a tree leads to a tree and does this: the range is computed; what is not divided has no
 -- item, one, or more, and is divided; one server of all goes on, by a pick that has the part's
 -- number before its own; both halves are over.
@@ -69,13 +77,14 @@ Grows p n s pick d (undivided items) (over t) =
 Grows p n s pick d (undivided items) (server stage) =
     (count_of items ≡ 1) × (stage ≡ called) × (d ≡ paid 1)
 Grows p n s pick d (undivided items) (halves m a k b) =
-    (some : Span) × (others : Span) × (count_of some + count_of others ≤ count_of items) × (m ≡ false) × (a ≡ undivided some) × (k ≡ false)
-    × (b ≡ undivided others) × (d ≡ paid 1)
+    (some : Span) × (others : Span) × (count_of some + count_of others ≡ count_of items)
+    × (m ≡ false) × (a ≡ undivided some) × (k ≡ false) × (b ≡ undivided others) × (d ≡ paid 1)
 Grows p n s pick d (server stage) (server next) = Follows p n s pick d stage next
 Grows p n s pick d (halves m a k b) (halves m' a' k' b') =
     ((q : Pick) × (pick ≡ under (0 ∷ []) q) × Grows p n s q d a a' × (m' ≡ true) × (k' ≡ k)
     × (b' ≡ b))
     ⊎ ((q : Pick) × (pick ≡ under (1 ∷ []) q) × Grows p n s q d b b' × (m' ≡ m) × (a' ≡ a)
     × (k' ≡ true))
-Grows p n s pick d (halves m a k b) (over t) = Finished t × (d ≡ paid 1)
+Grows p n s pick d (halves m a k b) (over t) =
+    IsOver (with_step m (tree_term n a)) (with_step k (tree_term n b)) t × (d ≡ paid 1)
 Grows p n s pick d _ _ = ⊥

@@ -1,0 +1,14 @@
+pub mod Picking
+pub mod Chains
+pub mod Waiting
+pub mod Adding
+pub mod Quiet
+pub mod Rows
+pub mod Flying
+pub mod Giving
+pub mod Going
+pub mod Answering
+pub mod Spawning
+pub mod Getting
+pub mod Starting
+pub mod Answered

@@ -1,0 +1,11 @@
+pub mod Nodes
+pub mod Open
+pub mod Follows
+pub mod Own
+pub mod Opened
+pub mod Placing
+pub mod Acts
+pub mod Sleeping
+pub mod Calling
+pub mod Waking
+pub mod Awake

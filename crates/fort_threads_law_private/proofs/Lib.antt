@@ -1,0 +1,9 @@
+pub mod Growing
+pub mod Values
+pub mod Substituting
+pub mod Frames
+pub mod Shut
+pub mod Answered
+pub mod Acting
+pub mod Stepping
+pub mod Leaving

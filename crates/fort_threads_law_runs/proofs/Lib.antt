@@ -1,0 +1,11 @@
+pub mod Throwing
+pub mod Finding
+pub mod Bounded
+pub mod Alike
+pub mod Joined
+pub mod Within
+pub mod Closed
+pub mod Stepped
+pub mod Tried
+pub mod Picked
+pub mod Going

@@ -1,0 +1,5 @@
+pub mod Told
+pub mod Premises
+pub mod Runs
+pub mod Threads
+pub mod Laws

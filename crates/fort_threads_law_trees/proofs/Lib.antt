@@ -1,0 +1,4 @@
+pub mod Changing
+pub mod Lifting
+pub mod Leaving
+pub mod Freeing

@@ -1,0 +1,4 @@
+pub mod Leaves
+pub mod Changes
+pub mod Awake
+pub mod Laws

@@ -1,0 +1,5 @@
+use Rattle.fort_threads_law_worlds.proofs.After.{stores_after_aborting}
+use Rattle.fort_threads_law_worlds.proofs.stores_after_aborting.Goals as goal
+
+pub returns : goal.returns
+returns c = stores_after_aborting

@@ -1,0 +1,6 @@
+pub mod Worlds
+pub mod Known
+pub mod Stores
+pub mod Queues
+pub mod Effects
+pub mod Laws
