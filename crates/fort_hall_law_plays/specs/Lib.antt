@@ -1,0 +1,7 @@
+pub mod Worlds
+pub mod Offers
+pub mod Attempts
+pub mod Plays
+pub mod Histories
+pub mod Laws
+pub mod Worked
