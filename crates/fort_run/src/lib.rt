@@ -8,6 +8,7 @@ mod deliver;
 mod file;
 mod laws;
 mod link;
+mod meant;
 mod record;
 mod reply;
 mod run;

@@ -361,6 +361,42 @@ fn a_write_that_fails_is_told_and_not_tried_again(rt: HostRuntime) -> Result<(),
     Ok(())
 }
 
+/// What stands before the letters in a component that prints one text.
+const BEFORE: &str = "component T export Executable run(): () = print(\"";
+
+/// What stands behind them.
+const BEHIND: &str = "\") end";
+
+#[test]
+fn a_long_text_is_written_in_pieces(rt: HostRuntime) -> Result<(), Fail> {
+    let alloc = rt.alloc();
+    let mut file = padded(alloc, BEFORE, "a", 70_049)?;
+    file.extend_from_slice(BEHIND.as_bytes())?;
+    for (workers, fails, status, wanted, calls) in [
+        ("1", 5, 4, 28, 5),
+        ("1", 0, 0, 70_000, 10_000),
+        ("4", 5, 4, 28, 5),
+        ("4", 0, 0, 70_000, 10_000),
+    ] {
+        let words = texts(alloc, &["run", "T.fss", "--workers", workers])?;
+        let mut shelf = CalmShelf::new(one_file(alloc, &file)?, 100_000);
+        let mut out = MemorySink::new(
+            alloc,
+            100_000,
+            7,
+            List::from_vec(vec![in alloc; fails]?),
+        ).map_err(|_| AllocError)?;
+        let mut notes = CalmSink::new(alloc, 100, 100).map_err(|_| AllocError)?;
+        let finish = fortress(
+            &rt, alloc, &words, &mut shelf, &mut out, &mut notes, &IdleGate,
+        );
+        assert_eq!(rt; finish.status, status);
+        assert_eq!(rt; out.bytes().len(), wanted);
+        assert_eq!(rt; out.calls(), calls);
+    }
+    Ok(())
+}
+
 #[test]
 fn a_real_file_is_read_and_what_is_none_is_a_fault(rt: HostRuntime) -> Result<(), Fail> {
     let alloc = rt.alloc();

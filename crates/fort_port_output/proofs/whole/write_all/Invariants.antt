@@ -1,6 +1,6 @@
 use Rattle.std.proofs.Common.{length, ◌-◌, ◌≡◌, ◌≤◌, take}
 use Rattle.fort_port.specs.Outside.{adds}
-use Rattle.fort_run.proofs.deliver.write_all.Given as goal
+use Rattle.fort_port_output.proofs.whole.write_all.Given as goal
 
 abbrev pub invariant-loop-done : goal.invariant-loop-done
 invariant-loop-done g l = record {

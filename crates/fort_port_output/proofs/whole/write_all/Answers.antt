@@ -1,6 +1,6 @@
 use Rattle.std.proofs.Common.{◌∙◌, arith, length-drop}
-use Rattle.fort_run.proofs.Written.{at_error, piece_added, stopped}
-use Rattle.fort_run.proofs.deliver.write_all.Goals as goal
+use Rattle.fort_port_output.proofs.Taken.{at_error, piece_added, stopped}
+use Rattle.fort_port_output.proofs.whole.write_all.Goals as goal
 
 pub loop-done-preserved : goal.loop-done-preserved
 loop-done-preserved g c = record {
