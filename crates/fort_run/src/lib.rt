@@ -16,6 +16,3 @@ mod show;
 mod top;
 
 pub use top::{Finish, fortress};
-
-#[cfg(test)]
-mod tests;

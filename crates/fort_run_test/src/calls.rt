@@ -1,9 +1,10 @@
-use crate::{Finish, fortress};
+//! The top call with its words and files, over shelves and outputs that fail, and over real ones.
 use fort_base::{Bytes, List, Loc};
 use fort_core::{Ending, Pick};
 use fort_port::{
     CalmShelf, CalmSink, FileShelf, IdleGate, MemoryShelf, MemorySink, Shelf, Sink, StreamSink,
 };
+use fort_run::{Finish, fortress};
 use std::alloc::{AllocError, Global};
 use std::fs::{self, OpenOptions};
 use std::io::{self, Write};
