@@ -102,7 +102,6 @@ terms_round : (f : Frame) (t : Term) → terms_in (on_layer f t) ≡ goes_before
 terms_round (in_group before behind) t = refl
 terms_round _ t = refl
 
-
 -- a part that isn't a value
 abbrev pub IsNoValue : Term → Type 0
 IsNoValue t = (v : Value) → t ≡ term.Value v → ⊥

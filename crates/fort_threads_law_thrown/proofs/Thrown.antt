@@ -264,4 +264,3 @@ module _ (p : Program) (n : Names) (m : Start) (o : Own) (sound : Sound p) (all 
       object_type i base = ap (type_of p) (sym (rolls-Object i base))
           ∙ fold-roll-Value (Unit {0}) Ty Ty (λ t. tt) (type_at p.built_in)
           (λ c. Arrow (domain_of c.parameters) c.result) (Value-F.Object i base)
-

@@ -221,27 +221,64 @@ abbrev pub IsBare : CoreShape → Type 0
 IsBare s = (s.fields ≡ []) ⊎ (s ≡ thread_shape)
 
 bare_shapes : Each IsBare shapes
-bare_shapes =
-    (inl refl,
-    (inl refl,
-    (inl refl,
-    (inl refl,
-    (inl refl,
-    (inl refl,
-    (inl refl,
-    (inl refl,
-    (inl refl,
-    (inl refl,
-    (inl refl,
-    (inl refl,
-    (inl refl,
-    (inl refl,
-    (inl refl,
-    (inl refl,
-    (inl refl,
-    (inl refl,
-    (inl refl,
-    (inr refl, tt))))))))))))))))))))
+bare_shapes = (
+  inl refl,
+  (
+    inl refl,
+    (
+      inl refl,
+      (
+        inl refl,
+        (
+          inl refl,
+          (
+            inl refl,
+            (
+              inl refl,
+              (
+                inl refl,
+                (
+                  inl refl,
+                  (
+                    inl refl,
+                    (
+                      inl refl,
+                      (
+                        inl refl,
+                        (
+                          inl refl,
+                          (
+                            inl refl,
+                            (
+                              inl refl,
+                              (
+                                inl refl,
+                                (
+                                  inl refl,
+                                  (
+                                    inl refl,
+                                    (
+                                      inl refl,
+                                      (inr refl, tt),
+                                    ),
+                                  ),
+                                ),
+                              ),
+                            ),
+                          ),
+                        ),
+                      ),
+                    ),
+                  ),
+                ),
+              ),
+            ),
+          ),
+        ),
+      ),
+    ),
+  ),
+)
 
 pub shape_is : (i : ℕ) (s : CoreShape) → slice_get shapes i ≡ Some s → IsBare s
 shape_is i s e = each IsBare shapes bare_shapes i s e

@@ -108,21 +108,46 @@ past n f h e = ap (list_any (λ k. nat_lt k n)) (wrote f h).binders ∙ e
 
 declarations : (d : DeclId) (x : CoreDecl) → slice_get decls d.0 ≡ Some x → Declared x
 declarations d x e =
-    of_each Declared primitive_declared
-    (tt,
-    (past 1 wait_form refl refl,
-    (tt,
-    (past 1 ready_form refl refl,
-    (tt,
-    (past 1 val_form refl refl,
-    (thread_is,
-    (past 1 spawn_form refl refl,
-    (past 0 take_form refl refl,
-    (past 1 go_form refl refl,
-    (past 0 serve_form refl refl,
-    (past 1 main_form refl refl,
-    (past 0 run_form refl refl,
-    (past 0 own_form refl refl, tt))))))))))))))
+    of_each Declared primitive_declared (
+      tt,
+      (
+        past 1 wait_form refl refl,
+        (
+          tt,
+          (
+            past 1 ready_form refl refl,
+            (
+              tt,
+              (
+                past 1 val_form refl refl,
+                (
+                  thread_is,
+                  (
+                    past 1 spawn_form refl refl,
+                    (
+                      past 0 take_form refl refl,
+                      (
+                        past 1 go_form refl refl,
+                        (
+                          past 0 serve_form refl refl,
+                          (
+                            past 1 main_form refl refl,
+                            (
+                              past 0 run_form refl refl,
+                              (past 0 own_form refl refl, tt),
+                            ),
+                          ),
+                        ),
+                      ),
+                    ),
+                  ),
+                ),
+              ),
+            ),
+          ),
+        ),
+      ),
+    )
     d.0 x e
 
 pub worked_is_written : WrittenProgram worked

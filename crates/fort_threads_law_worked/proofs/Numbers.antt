@@ -23,9 +23,10 @@ below_power a h = lt-ltb a 2147483648 (omega (arith, h))
 
 equal_small : (a b : ℕ) → int_eq (pos a) (pos b) ≡ (a == b)
 equal_small a b =
-    one_answer (int_eq (pos a) (pos b)) (a == b)
-    ((λ e. back (Decides-int_eq (pos a) (pos b)).0 e),
-    (λ e. (Decides-int_eq (pos a) (pos b)).1 (ap pos e)))
+    one_answer (int_eq (pos a) (pos b)) (a == b) (
+      (λ e. back (Decides-int_eq (pos a) (pos b)).0 e),
+      (λ e. (Decides-int_eq (pos a) (pos b)).1 (ap pos e)),
+    )
     (Decides-eqb a b)
   where
     back : (int_eq (pos a) (pos b) ≡ true → pos a ≡ pos b) → int_eq (pos a) (pos b) ≡ true → a ≡ b

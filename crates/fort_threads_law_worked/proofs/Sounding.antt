@@ -194,21 +194,46 @@ bodies : (d : DeclId) (x : CoreDecl) (t : Term) → slice_get decls d.0 ≡ Some
     → x.body ≡ body.Plain t
     → Has worked (opening worked) (binds (numbered 0 x.parameters) envs.none) t x.result
 bodies d x t e q =
-    of_each BodyHas no_body
-    ((λ t q. absurd cc),
-    (has_body one wait_form code.nothing refl,
-    ((λ t q. absurd cc),
-    (has_body one ready_form (named 5) refl,
-    ((λ t q. absurd cc),
-    (has_body one val_form any refl,
-    ((λ t q. absurd cc),
-    (has_body ((0, to code.nothing any) ∷ []) spawn_form (named 18) refl,
-    (has_body [] take_form any refl,
-    (has_body one go_form code.nothing refl,
-    (has_body [] serve_form code.nothing refl,
-    (has_body ((0, to code.nothing code.nothing) ∷ []) main_form code.nothing refl,
-    (has_body [] run_form code.nothing refl,
-    (has_body [] own_form code.nothing refl, tt))))))))))))))
+    of_each BodyHas no_body (
+      (λ t q. absurd cc),
+      (
+        has_body one wait_form code.nothing refl,
+        (
+          (λ t q. absurd cc),
+          (
+            has_body one ready_form (named 5) refl,
+            (
+              (λ t q. absurd cc),
+              (
+                has_body one val_form any refl,
+                (
+                  (λ t q. absurd cc),
+                  (
+                    has_body ((0, to code.nothing any) ∷ []) spawn_form (named 18) refl,
+                    (
+                      has_body [] take_form any refl,
+                      (
+                        has_body one go_form code.nothing refl,
+                        (
+                          has_body [] serve_form code.nothing refl,
+                          (
+                            has_body ((0, to code.nothing code.nothing) ∷ []) main_form code.nothing refl,
+                            (
+                              has_body [] run_form code.nothing refl,
+                              (has_body [] own_form code.nothing refl, tt),
+                            ),
+                          ),
+                        ),
+                      ),
+                    ),
+                  ),
+                ),
+              ),
+            ),
+          ),
+        ),
+      ),
+    )
     d.0 x e t q
 
 -- built-in declarations
@@ -269,21 +294,46 @@ make_thread id q =
 constructors : (d : DeclId) (x : CoreDecl) (id : TypeId) → slice_get decls d.0 ≡ Some x
     → x.body ≡ body.New id → NewFits worked id x
 constructors d x id e q =
-    of_each Makers no_maker
-    ((λ id q. absurd cc),
-    ((λ id q. absurd cc),
-    ((λ id q. absurd cc),
-    ((λ id q. absurd cc),
-    ((λ id q. absurd cc),
-    ((λ id q. absurd cc),
-    (make_thread,
-    ((λ id q. absurd cc),
-    ((λ id q. absurd cc),
-    ((λ id q. absurd cc),
-    ((λ id q. absurd cc),
-    ((λ id q. absurd cc),
-    ((λ id q. absurd cc),
-    ((λ id q. absurd cc), tt))))))))))))))
+    of_each Makers no_maker (
+      (λ id q. absurd cc),
+      (
+        (λ id q. absurd cc),
+        (
+          (λ id q. absurd cc),
+          (
+            (λ id q. absurd cc),
+            (
+              (λ id q. absurd cc),
+              (
+                (λ id q. absurd cc),
+                (
+                  make_thread,
+                  (
+                    (λ id q. absurd cc),
+                    (
+                      (λ id q. absurd cc),
+                      (
+                        (λ id q. absurd cc),
+                        (
+                          (λ id q. absurd cc),
+                          (
+                            (λ id q. absurd cc),
+                            (
+                              (λ id q. absurd cc),
+                              ((λ id q. absurd cc), tt),
+                            ),
+                          ),
+                        ),
+                      ),
+                    ),
+                  ),
+                ),
+              ),
+            ),
+          ),
+        ),
+      ),
+    )
     d.0 x e id q
 
 -- the opening store
