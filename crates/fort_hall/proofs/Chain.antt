@@ -61,16 +61,17 @@ module _ {B E O : Type 0} (history : B → List E) (origin : B → O) (by : E �
   }
 
   pub begins_at : (t : Turn B) (start : O) (legs : List ℕ) (high : ℕ) (p : Pass B) (book : B)
-      → IsIdle t p → is_first p ≡ true → numbers_of p ≡ 0 ∷ [] → seen_by p ≡ Some book → origin book ≡ start → history book ≡ []
+      → IsIdle t p → is_first p ≡ true → numbers_of p ≡ 0 ∷ [] → seen_by p ≡ Some book → origin book ≡ start
+      → entries_by by 0 (history book) ≡ []
       → Gathered history origin by t start legs high high p
-  begins_at t start legs high p book idle first numbers seen o empty = record {
+  begins_at t start legs high p book idle first numbers seen o none = record {
     idle = idle;
     first = first;
     book = book;
     seen = seen;
     origin_is = o;
     zero = ap (has 0) numbers;
-    none = ap (entries_by by 0) empty;
+    none = none;
     taken = λ k l u. absurd (omega arith);
     counted = λ k l u. absurd (omega arith);
   }

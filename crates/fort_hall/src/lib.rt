@@ -6,6 +6,7 @@ mod call;
 mod crew;
 mod decks;
 mod settle;
+mod writer;
 
 pub use call::run;
 pub use settle::Settled;

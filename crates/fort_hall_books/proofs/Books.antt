@@ -192,6 +192,7 @@ pub closed : (p : Program) (x : Book) (c : Closed) → IsKept p x → c.view ≡
 closed p x c k view picks term same = record {
   view = view;
   picks = picks;
+  done = ap effect_of same;
   legs =
       subst (λ v. Legs p x.inner (seen (levels_of v)) x.first c.picks c.term (effect_of c.done))
       (sym view)

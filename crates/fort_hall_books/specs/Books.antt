@@ -54,6 +54,7 @@ pub record IsSame (old new : Book) : Type 0 where
 pub record IsClosed (p : Program) (x : Book) (c : Closed) : Type 0 where
   pub view : c.view ≡ x.view
   pub picks : c.picks ≡ picks_of x.entries
+  pub done : effect_of c.done ≡ did x
   pub legs : Legs p x.inner (seen (levels_of c.view)) x.first c.picks c.term (effect_of c.done)
   pub affords : (effect_of c.done).cost ≤ x.most
   pub bounded : MakesWithinBounds (effect_of c.done)

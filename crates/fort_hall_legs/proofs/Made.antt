@@ -1,11 +1,15 @@
 -- A book that is closed at its end.
-use Rattle.std.proofs.Common.{◌≡◌, ℕ, ◌≤◌, ap, sym, ◌∙◌, subst, arith}
+use Rattle.std.proofs.Common.{◌≡◌, ℕ, ◌≤◌, Bool, ap, sym, ◌∙◌, subst, arith}
 use Rattle.fort_core.specs.declared.program.Program.{Program}
 use Rattle.fort_store_effects.specs.Levels.{effect_of, levels_of, seen}
+use Rattle.fort_machine.specs.Effects.{Effect}
+use Rattle.fort_port_output.specs.Written.{Change, Writes}
+use Rattle.fort_port_output.specs.declared.progress.Progress.{Progress}
 use Rattle.fort_hall.specs.Gathered.{Counts}
 use Rattle.fort_hall_law_books.specs.Books.{Origin}
 use Rattle.fort_hall_law_books.specs.Legs.{Legs}
-use Rattle.fort_hall_books.specs.Books.{origin_of, IsClosed, IsKept}
+use Rattle.fort_hall_books.specs.Books.{did, origin_of, IsClosed, IsKept}
+use Rattle.fort_hall_books.specs.declared.book.Closed.{Closed}
 use Rattle.fort_hall_program.specs.States.{IsBookOf, pass_of}
 use Rattle.fort_hall_program.specs.declared.book.TaskBook.{TaskBook}
 use Rattle.fort_hall_legs.specs.Made.{IsMadeBy}
@@ -43,3 +47,11 @@ pub made_own : (p q : Program) (o : Origin) (most : ℕ) (b : TaskBook) (x : Hal
 made_own p q o most b x same k began closed counts =
     made p o most b x (subst (λ (r : Program). IsClosed r b.book x.closed) same closed) k.within
     began counts
+
+-- what was written of the book's output was written of what is handed out
+pub writes_closed : (failed : Bool) (ready : Type 0) (sink : Change) (q : Program) (b : TaskBook)
+    (c : Closed) (progress : Progress) → IsClosed q b.book c
+    → Writes failed ready sink (did b.book).output progress
+    → Writes failed ready sink (effect_of c.done).output progress
+writes_closed failed ready sink q b c progress closed written =
+    subst (λ (e : Effect). Writes failed ready sink e.output progress) (sym closed.done) written

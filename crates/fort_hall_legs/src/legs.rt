@@ -1,9 +1,10 @@
 //! A form goes on in a hall.
-ghost use Rattle.std.specs.Prelude.{◌≡◌, ◌<◌, [], length, IfOk};
+ghost use Rattle.std.specs.Prelude.{◌≡◌, ◌<◌, false, [], length, IfOk};
 ghost use Rattle.fort_machine.specs.Written.{WrittenProgram};
 ghost use Rattle.fort_disp.specs.Rows.{MayPick};
-ghost use Rattle.fort_store_effects.specs.Levels.{levels_of};
+ghost use Rattle.fort_store_effects.specs.Levels.{effect_of, levels_of};
 ghost use Rattle.fort_walk_turns.specs.Defined.{AlwaysOne};
+ghost use Rattle.fort_port_output.specs.Written.{Writes};
 ghost use Rattle.fort_hall_program.specs.Machines.{IsMachine};
 ghost use Rattle.fort_hall_program.specs.States.{StandsIn};
 ghost use Rattle.fort_hall_legs.specs.Made.{IsMadeBy, form_origin};
@@ -14,7 +15,8 @@ use fort_disp::Tables;
 use fort_hall::{Settled, run};
 use fort_hall_books::Closed;
 use fort_hall_program::{Naming, Setting, TermMachine};
-use fort_port::Gate;
+use fort_port::{Gate, Sink};
+use fort_port_output::Progress;
 use fort_store_effects::Layers;
 use std::alloc::Global;
 use std::marker::Brand;
@@ -47,6 +49,13 @@ pub struct Crew {
     pub base: u64,
 }
 
+/// A form, and who works on it.
+#[derive(Drop)]
+pub struct Assignment {
+    pub form: HallForm,
+    pub crew: Crew,
+}
+
 /// What the workers of a hall made of a form.
 #[derive(Drop)]
 pub struct HallLegs {
@@ -54,6 +63,8 @@ pub struct HallLegs {
     pub closed: Closed,
     /// How many legs each worker has in them.
     pub legs: Vec<u64>,
+    /// How far their output was written.
+    pub progress: Progress,
 }
 
 /// The form goes on by the workers of a crew, until no task of it can go on in the hall. The gate
@@ -63,49 +74,71 @@ pub struct HallLegs {
 /// cost no more than the form may; each stands in the entry of one worker, and of each worker there
 /// are as many as is told.
 ///
-/// It needs a worker at least, and a form that stands in a term of a run of the tables' program, in
-/// whose runs each call has its one definition.
+/// What the legs print is written meanwhile, from its first byte on, as far as is told, or the
+/// output has failed; where it had failed before, nothing is written (`failed`). What is left at
+/// the end the caller may write.
+///
+/// It needs a worker at least, an output that may be written to unless it had failed, and a form
+/// that stands in a term of a run of the tables' program, in whose runs each call has its one
+/// definition.
 ///
 /// # Errors
 ///
 /// `Memory` where memory is wanting.
-pub fn legs_by<R: Threads + Wait + Sync, G: Gate + Sync>(
+pub fn legs_by<R: Threads + Wait + Sync, G: Gate + Sync, K: Sink>(
     rt: &R,
     gate: &G,
     alloc: Global,
     tables: &Tables,
-    form: HallForm,
-    crew: Crew,
+    work: Assignment,
+    out: &mut K,
+    failed: bool,
 ) -> Result<HallLegs, Memory>
-    requires workers { 0 < crew.workers }
+    requires workers { 0 < work.crew.workers }
     requires written { WrittenProgram tables.now.program.now }
     requires tables { MayPick tables.now }
     requires one { AlwaysOne tables.now.program.now }
-    requires stands { StandsIn tables.now.program.now (form_origin form) }
-    requires alone { (levels_of form.view).attempts ≡ [] }
+    requires stands { StandsIn tables.now.program.now (form_origin work.form) }
+    requires alone { (levels_of work.form.view).attempts ≡ [] }
+    requires out { failed ≡ false → K.can_write out.old }
     ensures made { IfOk result
-        (IsMadeBy tables.now.program.now (form_origin form) form.most) }
-    ensures long { IfOk result (λ r. length r.legs.items ≡ crew.workers) }
+        (IsMadeBy tables.now.program.now (form_origin work.form) work.form.most) }
+    ensures long { IfOk result (λ r. length r.legs.items ≡ work.crew.workers) }
+    ensures writes { IfOk result (λ r. Writes failed (K.can_write out.new) (record {
+      was = K.written out.old;
+      is = K.written out.new;
+      faults_were = K.faults out.old;
+      faults_are = K.faults out.new;
+    }) (effect_of r.closed.done).output r.progress) }
 {
-    legs_of::<Brand, _, _>(rt, gate, alloc, tables, form, crew)
+    legs_of::<Brand, _, _, _>(rt, gate, alloc, tables, work, out, failed)
 }
 
 // The same for each program, beginning and bound that the caller names.
-#[tactic(auto, using(crate::proofs::Made::kept_own, crate::proofs::Made::made_own))]
-fn legs_of<J: Naming + Send + Sync, R: Threads + Wait + Sync, G: Gate + Sync>(
+#[tactic(auto, using(crate::proofs::Made::kept_own, crate::proofs::Made::made_own, crate::proofs::Made::writes_closed))]
+fn legs_of<J: Naming + Send + Sync, R: Threads + Wait + Sync, G: Gate + Sync, K: Sink>(
     rt: &R,
     gate: &G,
     alloc: Global,
     tables: &Tables,
-    form: HallForm,
-    crew: Crew,
+    work: Assignment,
+    out: &mut K,
+    failed: bool,
 ) -> Result<HallLegs, Memory>
-    requires workers { 0 < crew.workers }
-    requires machine { IsMachine J.program J.start J.most tables.now form.inner form.view
-        form.first form.most }
+    requires workers { 0 < work.crew.workers }
+    requires machine { IsMachine J.program J.start J.most tables.now work.form.inner work.form.view
+        work.form.first work.form.most }
+    requires out { failed ≡ false → K.can_write out.old }
     ensures made { IfOk result (IsMadeBy J.program J.start J.most) }
-    ensures long { IfOk result (λ r. length r.legs.items ≡ crew.workers) }
+    ensures long { IfOk result (λ r. length r.legs.items ≡ work.crew.workers) }
+    ensures writes { IfOk result (λ r. Writes failed (K.can_write out.new) (record {
+      was = K.written out.old;
+      is = K.written out.new;
+      faults_were = K.faults out.old;
+      faults_are = K.faults out.new;
+    }) (effect_of r.closed.done).output r.progress) }
 {
+    let Assignment { form, crew } = work;
     let HallForm {
         inner,
         view,
@@ -120,8 +153,16 @@ fn legs_of<J: Naming + Send + Sync, R: Threads + Wait + Sync, G: Gate + Sync>(
     let machine: TermMachine<'_, J, G> = TermMachine::new(
         alloc, tables, gate, view, first, setting,
     );
-    let settled = run(rt, alloc, &machine, crew.workers, LEG_COST)?;
-    let Settled { book, legs } = settled;
+    let settled = run(rt, alloc, &machine, crew.workers, LEG_COST, out, failed)?;
+    let Settled {
+        book,
+        legs,
+        progress,
+    } = settled;
     let closed = book.close(alloc, tables.program)?;
-    Ok(HallLegs { closed, legs })
+    Ok(HallLegs {
+        closed,
+        legs,
+        progress,
+    })
 }

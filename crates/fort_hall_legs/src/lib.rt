@@ -4,4 +4,4 @@
 
 mod legs;
 
-pub use legs::{Crew, HallForm, HallLegs, legs_by};
+pub use legs::{Assignment, Crew, HallForm, HallLegs, legs_by};

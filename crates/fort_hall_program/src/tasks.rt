@@ -19,9 +19,9 @@ const SHORTEST: u64 = 4_096;
 /// lent, where somebody looks, and where another task waits.
 const ALONE: u64 = 1_048_576;
 
-const SOUGHT: u64 = 65_536;
+const SOUGHT: u64 = 262_144;
 
-const BESIDE: u64 = 16_384;
+const BESIDE: u64 = 65_536;
 
 /// After so many legs in a row, or one that cost so much as one beside others may, a task has had
 /// its turn: it is divided, whoever looks for work, and others that can be lent come first.

@@ -6,7 +6,11 @@
 mod book;
 mod counters;
 mod meeting;
+mod printing;
+#[cfg(test)]
+mod tests;
 
 pub use book::{Book, Entry, Task};
 pub use counters::{Counters, Leg, State};
 pub use meeting::Meeting;
+pub use printing::printed;

@@ -11,7 +11,7 @@ use Rattle.fort_audit_record.specs.declared.reading.Record as a_record
 use Rattle.fort_audit.specs.Audits.{Audits}
 use Rattle.fort_audit.specs.declared.answer.Audited.{Audited}
 use Rattle.fort_audit.specs.declared.refusal.Why.TheVariants as why
-use Rattle.fort_run.specs.Reply.{IsFile, IsText, IsOfOneFile, Means, JudgedBoth, AuditMeans, RecordMeans, RecordRead, RecordSays, IsKept, Formless, audited, refused_record, file_limit, record_limit}
+use Rattle.fort_run.specs.Reply.{Reply, IsFile, IsText, IsOfOneFile, Means, JudgedBoth, AuditMeans, RecordMeans, RecordRead, RecordSays, IsKept, Formless, audited, refused_record, file_limit, record_limit}
 use Rattle.fort_run.specs.Said.{said}
 use Rattle.fort_run.specs.declared.answer.Answer.{Answer}
 
@@ -29,15 +29,13 @@ of_one_file holding (Link names workers fuel) text is differs = absurd is
 
 -- What is meant to say of both files is what the call means to say.
 pub both_mean : (holding : List ℕ → Holding) (before after : ℕ) (command : Command)
-    (name kept file : List ℕ) (r : Result Answer Memory)
+    (name kept file : List ℕ) (reply : Reply)
     → command ≡ Audit name kept → IsText holding command file → length file ≤ file_limit
-    → IfOk r (λ a. AuditMeans name file (holding kept) before after (said a))
-    → IfOk r (λ a. (words : List (List ℕ)) → IsCommand words command
-    → Means words holding before after (said a))
-both_mean holding before after command name kept file (Ok a) e read within means =
-    λ words is. JudgedBoth name kept file (subst (IsCommand words) e is)
+    → AuditMeans name file (holding kept) before after reply
+    → (words : List (List ℕ)) → IsCommand words command → Means words holding before after reply
+both_mean holding before after command name kept file reply e read within means words is =
+    JudgedBoth name kept file (subst (IsCommand words) e is)
     (subst (λ c. IsText holding c file) e read) within means
-both_mean holding before after command name kept file (Err m) e read within means = tt
 
 -- What is said of a record that was read whole.
 pub record_means : (p : Program) (holding : Holding) (before after : ℕ) (bytes : List ℕ)

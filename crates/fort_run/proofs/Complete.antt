@@ -15,7 +15,8 @@ use Rattle.fort_port.specs.Outside.{Held, Rose}
 use Rattle.fort_audit.specs.Audits.{Prints}
 use Rattle.fort_audit.specs.declared.answer.Audited.TheVariants.{Yes, NotARun, OtherOutput}
 use Rattle.fort_run.specs.Reply.{Reply, IsFile, IsText, IsAcceptedAs, BreaksOne, Writing, Writes, its_output, its_record, TellsEnding, TellsRun, RunSays, Runs, Refuses, CheckSays, Accepts, AcceptsNone, accepted, bench_name, bench_fuel, IsShownAs, IsNoComponent, ShowSays, Shows, ShowsNone, AuditMeans, OfProgram, OfNone, RecordMeans, RecordRead, RecordUnread, RecordTooLarge, RecordSays, IsKept, Formless, audited, record_limit, size_of, IsOfOneFile, IsOfText, CommandSays, AreAcceptedAs, BreakOne, LinkSays, RunsWhole, RefusesWhole, LinkMeans, FilesRead, FilesUnread, FilesTooLarge, Judged, JudgedBoth, JudgedAll, NoCommand, Unread, TooLarge, file_limit}
-use Rattle.fort_run.specs.Delivery.{Takes, Whole, OutFailed, NotesFailed}
+use Rattle.fort_port_output.specs.Written.{Takes}
+use Rattle.fort_run.specs.Delivery.{Whole, OutFailed, NotesFailed}
 use Rattle.fort_run.specs.Outcome.{Outside, MeansToSay, Ends, Said, WantsMemory, IsCalm, IsAbout, Asks, RunsWith, AsksAll, IsWhole, AsksAudit, AsksLink, Keeps, Answers}
 use Rattle.fort_run.proofs.Apart.{Fronts, accepted_apart, one_program_of, one_program_together, shown_apart, together_apart}
 use Rattle.fort_run.proofs.Linked.{as_long, held_files, no_larger}

@@ -1,5 +1,6 @@
 pub mod Fronts
 pub mod Written
+pub mod Leads
 pub mod OneWhole
 pub mod Apart
 pub mod Linked
@@ -8,5 +9,4 @@ pub mod Complete
 pub mod Meaning
 pub mod Refused
 pub mod Told
-pub mod Recorded
 pub mod Audited

@@ -9,6 +9,7 @@ use Rattle.std.proofs.lemmas.Option.{unwrap_or-slice_get}
 use Rattle.fort_port.specs.Outside.{Holding, Held}
 use Rattle.fort_run.specs.Reply.{AreFiles, AreTooLarge, BreakOne, FilesRead, IsFile, LinkMeans, LinkSays, RefusesWhole, file_limit, in_linking, refusal_at, size_of}
 use Rattle.fort_run.specs.Said.{LinkChecks, said}
+use Rattle.fort_run.specs.Tasks.{LeadsTo}
 use Rattle.fort_run.specs.declared.answer.Answer.{Answer}
 use Rattle.fort_run.specs.declared.answer.Answer.TheVariants.{Refused}
 use Rattle.fort_base.specs.declared.refusal.Memory.{Memory}
@@ -22,6 +23,8 @@ use Rattle.fort_run.specs.Fronts.{Stops, StopsAmong}
 use Rattle.fort_run.specs.Outcome.{AreHeld}
 use Rattle.fort_run.specs.declared.file.Unread.{Unread}
 use Rattle.fort_run.specs.declared.file.Unread.TheVariants as an_unread
+use Rattle.fort_run.specs.declared.meant.Meant.{Meant}
+use Rattle.fort_run.proofs.Leads.{leads_on_if}
 
 pub none_read : (holding : List ℕ → Holding) → AreFiles holding [] []
 none_read holding = tt
@@ -137,13 +140,13 @@ too_large_with holding first rest files name file room are e is long = record {
 
 -- What is said of files that were read whole is what is meant to say.
 pub files_mean : (holding : List ℕ → Holding) (before after : ℕ) (names files : List (List ℕ))
-    (fuel : ℕ) (r : Result Answer Memory) → AreFiles holding names files
+    (fuel : ℕ) (r : Result Meant Memory) → AreFiles holding names files
     → size_of files ≤ file_limit → after ≡ before
-    → IfOk r (λ a. LinkSays names files fuel (said a))
-    → IfOk r (λ a. LinkMeans names fuel holding before after (said a))
-files_mean holding before after names files fuel (Ok a) are within calm says =
-    FilesRead files are within calm says
-files_mean holding before after names files fuel (Err m) are within calm says = tt
+    → IfOk r (LeadsTo (LinkSays names files fuel))
+    → IfOk r (LeadsTo (LinkMeans names fuel holding before after))
+files_mean holding before after names files fuel r are within calm says =
+    leads_on_if (LinkSays names files fuel) (LinkMeans names fuel holding before after) r
+    (λ reply says. FilesRead files are within calm says) says
 
 -- Why the next file isn't read is why they aren't all read.
 pub stops_among : (holding : List ℕ → Holding) (first rest files : List (List ℕ)) (name : List ℕ)
@@ -175,11 +178,10 @@ unlinked files (Err w) why e h = subst (λ f. LinkChecks files (Err f)) (sym e) 
 
 -- What is said of files that break a rule.
 pub refused_whole : (names files : List (List ℕ)) (fuel : ℕ) (rule : Rule) (spot : Spot)
-    (r : Result Answer Memory) → BreakOne files rule spot
-    → IfOk r (λ a. a ≡ Refused (refusal_at names rule spot))
-    → IfOk r (λ a. LinkSays names files fuel (said a))
-refused_whole names files fuel rule spot (Ok a) broken e = RefusesWhole rule spot broken (ap said e)
-refused_whole names files fuel rule spot (Err m) broken e = tt
+    (answer : Answer) → BreakOne files rule spot
+    → answer ≡ Refused (refusal_at names rule spot)
+    → LinkSays names files fuel (said answer)
+refused_whole names files fuel rule spot answer broken e = RefusesWhole rule spot broken (ap said e)
 
 -- ---- the words of the files
 

@@ -1,5 +1,5 @@
 -- What the code finds out is what a call means to say.
-use Rattle.std.proofs.Common.{◌≡◌, ℕ, ◌≤◌, List, length, Result, Ok, Err, IfOk, subst, inr}
+use Rattle.std.proofs.Common.{◌≡◌, ℕ, ◌≤◌, List, length, Result, IfOk, subst, inr}
 use Rattle.fort_base.specs.declared.refusal.Memory.{Memory}
 use Rattle.fort_port.specs.Outside.{Holding}
 use Rattle.fort_cmd.specs.declared.command.Command.{Command}
@@ -8,36 +8,57 @@ use Rattle.fort_cmd.specs.Words.{IsCommand, most_files}
 use Rattle.fort_run.specs.Reply.{IsText, IsBounded, CommandSays, LinkMeans, Means, Judged, JudgedAll, file_limit, no_run}
 use Rattle.fort_run.specs.Said.{said}
 use Rattle.fort_diag.specs.Notes.{want_of_memory}
-use Rattle.fort_run.specs.Delivery.{Delivers, TakesOrFails}
+use Rattle.fort_port_output.specs.Written.{TakesOrFails}
+use Rattle.fort_run.specs.Delivery.{Delivers}
 use Rattle.fort_run.specs.Outcome.{Outside, MeansToSay, Said, WantsMemory, Answers}
+use Rattle.fort_run.specs.Tasks.{LeadsTo}
 use Rattle.fort_run.specs.declared.answer.Answer.{Answer}
+use Rattle.fort_run.specs.declared.meant.Meant.{Meant}
 use Rattle.fort_run.specs.declared.top.Finish.{Finish}
 use Rattle.fort_run.proofs.Apart.{Fronts}
 use Rattle.fort_run.proofs.Complete.{answers}
+use Rattle.fort_run.proofs.Leads.{leads_on_if}
 
 -- What is meant to say is the same from where the shelf stood before its first file was read.
 pub from_before : (held holding : List ℕ → Holding) (mid before after : ℕ) (command : Command)
-    (r : Result Answer Memory) → held ≡ holding → mid ≡ before
-    → IfOk r (λ a. (words : List (List ℕ)) → IsCommand words command
-    → Means words held mid after (said a))
-    → IfOk r (λ a. (words : List (List ℕ)) → IsCommand words command
-    → Means words holding before after (said a))
+    (r : Result Meant Memory) → held ≡ holding → mid ≡ before
+    → IfOk r (LeadsTo (λ reply. (words : List (List ℕ)) → IsCommand words command
+    → Means words held mid after reply))
+    → IfOk r (LeadsTo (λ reply. (words : List (List ℕ)) → IsCommand words command
+    → Means words holding before after reply))
 from_before held holding mid before after command r e f means =
-    subst (λ h. IfOk r (λ a. (words : List (List ℕ)) → IsCommand words command
-    → Means words h before after (said a))) e
-    (subst (λ n. IfOk r (λ a. (words : List (List ℕ)) → IsCommand words command
-    → Means words held n after (said a))) f means)
+    leads_on_if
+    (λ reply. (words : List (List ℕ)) → IsCommand words command
+    → Means words held mid after reply)
+    (λ reply. (words : List (List ℕ)) → IsCommand words command
+    → Means words holding before after reply) r
+    (λ reply means words is. subst (λ h. Means words h before after reply) e
+    (subst (λ n. Means words held n after reply) f (means words is))) means
 
 -- What a command says of a text that was read whole is what the call means to say.
 pub read_means : (holding : List ℕ → Holding) (before after : ℕ) (command : Command) (text : List ℕ)
-    (r : Result Answer Memory)
+    (r : Result Meant Memory)
     → IsText holding command text → length text ≤ file_limit → after ≡ before
-    → IfOk r (λ a. CommandSays command text (said a))
-    → IfOk r (λ a. (words : List (List ℕ)) → IsCommand words command
-    → Means words holding before after (said a))
-read_means holding before after command text (Ok a) read within calm says =
-    λ words is. Judged command text is read within calm says
-read_means holding before after command text (Err m) read within calm says = tt
+    → IfOk r (LeadsTo (CommandSays command text))
+    → IfOk r (LeadsTo (λ reply. (words : List (List ℕ)) → IsCommand words command
+    → Means words holding before after reply))
+read_means holding before after command text r read within calm says =
+    leads_on_if (CommandSays command text)
+    (λ reply. (words : List (List ℕ)) → IsCommand words command
+    → Means words holding before after reply) r
+    (λ reply says words is. Judged command text is read within calm says) says
+
+-- What is meant for all words of a command is meant for these.
+pub asked_means : (words : List (List ℕ)) (holding : List ℕ → Holding) (before after : ℕ)
+    (command : Command) (r : Result Meant Memory) → IsCommand words command
+    → IfOk r (LeadsTo (λ reply. (words : List (List ℕ)) → IsCommand words command
+    → Means words holding before after reply))
+    → IfOk r (LeadsTo (Means words holding before after))
+asked_means words holding before after command r is means =
+    leads_on_if
+    (λ reply. (words : List (List ℕ)) → IsCommand words command
+    → Means words holding before after reply)
+    (Means words holding before after) r (λ reply means. means words is) means
 
 -- What was meant was delivered.
 pub delivered : Fronts
@@ -87,13 +108,13 @@ bounded words (Link names workers fuel) is = tt
 
 -- What is meant to say of the files of a link is what the call means to say.
 pub all_mean : (words : List (List ℕ)) (holding : List ℕ → Holding) (before after : ℕ)
-    (command : Command) (names : List (List ℕ)) (workers fuel : ℕ) (r : Result Answer Memory)
+    (command : Command) (names : List (List ℕ)) (workers fuel : ℕ) (r : Result Meant Memory)
     → command ≡ Link names workers fuel → IsCommand words command
-    → IfOk r (λ a. LinkMeans names fuel holding before after (said a))
-    → IfOk r (λ a. Means words holding before after (said a))
-all_mean words holding before after command names workers fuel (Ok a) e is means =
-    JudgedAll names workers fuel (subst (IsCommand words) e is) means
-all_mean words holding before after command names workers fuel (Err m) e is means = tt
+    → IfOk r (LeadsTo (LinkMeans names fuel holding before after))
+    → IfOk r (LeadsTo (Means words holding before after))
+all_mean words holding before after command names workers fuel r e is means =
+    leads_on_if (LinkMeans names fuel holding before after) (Means words holding before after) r
+    (λ reply means. JudgedAll names workers fuel (subst (IsCommand words) e is) means) means
 
 -- The files of a link are from 1 to the most.
 pub some_files : (words : List (List ℕ)) (command : Command) (names : List (List ℕ))

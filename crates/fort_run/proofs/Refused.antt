@@ -6,26 +6,26 @@ use Rattle.fort_lex_token.specs.declared.token.Tokens.{Tokens}
 use Rattle.fort_lex.specs.Files.{Answers, HasTokens}
 use Rattle.fort_front.specs.Front as front
 use Rattle.fort_port.specs.Outside.{Holding}
-use Rattle.fort_run.specs.Reply.{RunSays, Refuses, its_output, AuditMeans, OfNone, in_text, behind, CheckSays, AcceptsNone, ShowSays, ShowsNone, in_tokens, in_grammar}
+use Rattle.fort_run.specs.Reply.{Writing, RunSays, Refuses, AuditMeans, OfNone, in_text, behind, CheckSays, AcceptsNone, ShowSays, ShowsNone, in_tokens, in_grammar}
 use Rattle.fort_run.specs.Said.{said, RefusedBy}
 use Rattle.fort_run.specs.declared.answer.Answer.{Answer}
 
 -- A file to run that breaks a rule of its tokens.
-pub tokens_refused : (name file : List ℕ) (fuel : ℕ) (fault : CheckFault) (answer : Answer)
+pub tokens_refused : (writes : Writing) (name file : List ℕ) (fuel : ℕ) (fault : CheckFault) (answer : Answer)
     → Answers file (Err fault) → RefusedBy name fault answer
-    → RunSays its_output name file fuel (said answer)
-tokens_refused name file fuel (a_fault.Refused rule place) answer broken e =
+    → RunSays writes name file fuel (said answer)
+tokens_refused writes name file fuel (a_fault.Refused rule place) answer broken e =
     Refuses rule place (in_text broken) (ap said e)
-tokens_refused name file fuel a_fault.Memory answer broken e = absurd e
+tokens_refused writes name file fuel a_fault.Memory answer broken e = absurd e
 
 -- A file to run whose tokens break a rule behind those of tokens.
-pub form_refused : (name file : List ℕ) (fuel : ℕ) (tokens : Tokens) (fault : CheckFault)
+pub form_refused : (writes : Writing) (name file : List ℕ) (fuel : ℕ) (tokens : Tokens) (fault : CheckFault)
     (answer : Answer) → HasTokens file tokens
     → front.Checks tokens (Err fault) → RefusedBy name fault answer
-    → RunSays its_output name file fuel (said answer)
-form_refused name file fuel tokens (a_fault.Refused rule place) answer has broken e =
+    → RunSays writes name file fuel (said answer)
+form_refused writes name file fuel tokens (a_fault.Refused rule place) answer has broken e =
     Refuses rule place (behind tokens has broken) (ap said e)
-form_refused name file fuel tokens a_fault.Memory answer has broken e = absurd e
+form_refused writes name file fuel tokens a_fault.Memory answer has broken e = absurd e
 
 -- A file to show that breaks a rule of its tokens.
 pub tokens_unshown : (name file : List ℕ) (fault : CheckFault) (answer : Answer)

@@ -1,44 +1,43 @@
--- What is known of a sink while bytes are written to it.
-use Rattle.std.proofs.Common.{◌≡◌, ℕ, ◌+◌, ◌-◌, ◌<◌, List, ◌++◌, length, take, drop, Option, Some, None, Result, Ok, Err, OnErr, ap, sym, ◌∙◌, arith, refl, append_assoc, length-drop}
-use Rattle.std.proofs.lemmas.List.{take-append-drop}
-use Rattle.std.proofs.Math.Seq.{take-add, take-length}
-use Rattle.fort_port.specs.Outside.{Rose, adds}
-use Rattle.fort_run.specs.Delivery.{Change, Fails}
+-- How far a text was written, and what that says of its delivery.
+use Rattle.std.proofs.Common.{◌≡◌, ℕ, ◌≤◌, true, false, List, length, take, Result, Ok, Err, is_err, OnOk, OnErr, ap, sym, ◌∙◌, subst}
+use Rattle.std.proofs.Math.Seq.{take-length}
+use Rattle.fort_port_output.specs.declared.progress.Progress.{Progress}
+use Rattle.fort_port_output.specs.Written.{Change, Fails, HasWritten, Takes, goes_on, has_failed}
 
-adds_append : (o : Option (List ℕ)) (a b : List ℕ) → adds b (adds a o) ≡ adds (a ++ b) o
-adds_append None a b = refl
-adds_append (Some held) a b = ap Some (append_assoc held a b)
+module _ {ready : Type 0} (sink : Change) (text : List ℕ) (p : Progress) where
+  -- An output that hasn't failed may be written to.
+  pub still_ready : HasWritten ready sink text p → p.failed ≡ false → ready
+  still_ready (goes_on calm within takes now) e = now
+  still_ready (has_failed failed fails) e = absurd cc
 
-rest_is : (bytes : List ℕ) (done : ℕ)
-    → take (length bytes - done) (drop done bytes) ≡ drop done bytes
-rest_is bytes done = let e = length-drop done bytes in rw (← e) (take-length (drop done bytes))
+  pub within_text : HasWritten ready sink text p → p.failed ≡ false → p.bytes ≤ length text
+  within_text (goes_on calm within takes now) e = within
+  within_text (has_failed failed fails) e = absurd cc
 
--- One more piece was taken.
-pub piece_added : (bytes : List ℕ) (done n : ℕ) (first was is : Option (List ℕ))
-    → was ≡ adds (take done bytes) first
-    → is ≡ adds (take n (take (length bytes - done) (drop done bytes))) was
-    → is ≡ adds (take (done + n) bytes) first
-piece_added bytes done n first was is e f =
-    f ∙ (ap (λ r. adds (take n r) was) (rest_is bytes done)
-    ∙ (ap (adds (take n (drop done bytes))) e
-    ∙ (adds_append first (take done bytes) (take n (drop done bytes))
-    ∙ ap (λ t. adds t first) (sym (take-add done n bytes)))))
+  -- It took the text, where all of it was written.
+  pub took_whole : HasWritten ready sink text p → p.failed ≡ false → p.bytes ≡ length text
+      → Takes sink text
+  took_whole (goes_on calm within takes now) e all =
+      subst (Takes sink) (ap (λ n. take n text) all ∙ take-length text) takes
+  took_whole (has_failed failed fails) e all = absurd cc
 
--- The first bytes were taken, then the sink failed.
-pub stopped : (c : Change) (bytes : List ℕ) (done : ℕ) → done < length bytes
-    → c.is ≡ adds (take done bytes) c.was
-    → Rose c.faults_were c.faults_are → Fails c bytes
-stopped c bytes done less e rose = record {
-  front = take done bytes;
-  rest = drop done bytes;
-  parts = sym (take-append-drop done bytes);
-  some = λ none. let short : length (drop done bytes) ≡ 0 = ap length none
-      in omega (arith, length-drop done bytes);
-  written = e;
-  rose = rose;
-}
+  -- Where it has failed it took only the first bytes.
+  pub took_first : HasWritten ready sink text p → p.failed ≡ true → Fails sink text
+  took_first (goes_on calm within takes now) e = absurd cc
+  took_first (has_failed failed fails) e = fails
 
--- What holds whatever the error is holds at it.
-pub at_error : {T E P : Type 0} (r : Result T E) → P → OnErr r P
-at_error (Ok x) p = tt
-at_error (Err e) p = p
+-- It was written so far of a text that is the same.
+pub same_text : {ready : Type 0} (sink : Change) (text other : List ℕ) (p : Progress)
+    → other ≡ text → HasWritten ready sink text p → HasWritten ready sink other p
+same_text {ready} sink text other p e has =
+    subst (λ t. HasWritten ready sink t p) (sym e) has
+
+-- What holds where there is no error, and what holds where there is one.
+module _ {T E P : Type 0} where
+  pub on_ok : (r : Result T E) → is_err r ≡ false → OnOk r P → P
+  on_ok (Ok x) e p = p
+  on_ok (Err x) e p = absurd cc
+
+  pub on_err : (r : Result T E) → is_err r ≡ true → OnErr r P → P
+  on_err (Ok x) e p = absurd cc
+  on_err (Err x) e p = p

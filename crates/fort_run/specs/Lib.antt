@@ -1,5 +1,6 @@
 pub mod Reply
 pub mod Said
+pub mod Tasks
 pub mod Fronts
 pub mod Laws
 pub mod Delivery

@@ -18,7 +18,8 @@ use Rattle.fort_audit.specs.Audits.{Prints}
 use Rattle.fort_diag.specs.Notes.{want_of_memory}
 use Rattle.fort_run.specs.Reply.{Reply, Means, IsAcceptedAs, AreAcceptedAs, BreaksOne, BreakOne, Writing, Writes, its_output, its_record, TellsEnding, IsShownAs, IsNoComponent, accepted, bench_fuel, file_limit, record_limit, size_of, no_run}
 use Rattle.fort_link.specs.declared.answer.Spot.{Spot}
-use Rattle.fort_run.specs.Delivery.{Change, Delivers, Takes, TakesOrFails}
+use Rattle.fort_port_output.specs.Written.{Change, Takes, TakesOrFails}
+use Rattle.fort_run.specs.Delivery.{Delivers}
 use Rattle.fort_run.specs.declared.top.Finish.{Finish}
 
 -- The outside of a call: its words, what the shelf tells and its counts of faults, and both sinks.

@@ -8,6 +8,7 @@ mod deliver;
 mod file;
 mod laws;
 mod link;
+mod meant;
 mod record;
 mod reply;
 mod run;
@@ -15,6 +16,3 @@ mod show;
 mod top;
 
 pub use top::{Finish, fortress};
-
-#[cfg(test)]
-mod tests;

@@ -1,48 +1,45 @@
-//! The command `link`: the run of several files as one component, or their refusal.
+//! The command `link`: the program of several files as one component, or their refusal.
 ghost use Rattle.std.specs.Prelude.{◌≡◌, ◌≤◌, [], get_or, length, IfOk, IfErr, OnOk};
 ghost use Rattle.fort_cmd.specs.Words.{most_files};
 ghost use Rattle.fort_run.specs.Fronts.{StopsAmong};
 ghost use Rattle.fort_run.specs.Reply.{AreFiles, LinkMeans, LinkSays, file_limit, refusal_at, size_of};
-ghost use Rattle.fort_run.specs.Said.{LinkChecks, said};
+ghost use Rattle.fort_run.specs.Said.{LinkChecks};
+ghost use Rattle.fort_run.specs.Tasks.{LeadsTo};
 ghost use Rattle.fort_run.specs.declared.answer.Answer.TheVariants as Answer;
 
 use crate::answer::{Answer, refused};
 use crate::file::{FILE_LIMIT, Unread, read_file};
-use crate::run::run_program;
+use crate::meant::{Meant, Task, Written};
 use fort_base::{Bytes, CheckFault, List, Memory, Rule};
 use fort_core::Program;
 use fort_front::{accepted_is_written, check_component};
 use fort_link::{LinkFault, Spot, linked, spot};
 use fort_link_law_whole::whole_is_in_order;
-use fort_port::{Gate, Shelf};
+use fort_port::Shelf;
 use fort_sound::{accepted_component_is_sound, founded_runs_well};
 use fort_sound_never::{founded_goes_through, founded_never_stops};
 use std::alloc::Global;
-use std::sync::Wait;
-use std::thread::Threads;
 
-/// What is meant to say of the files of these names, linked and run with a fuel in steps: all are
-/// read to their ends, or to the first byte behind the limit that they have together, before
-/// anything of them is judged.
-pub(crate) fn link_files<R: Threads + Wait + Sync, G: Gate + Sync, F: Shelf>(
-    rt: &R,
-    gate: &G,
+/// What the files of these names lead to, linked and run with a fuel in steps: all are read to
+/// their ends, or to the first byte behind the limit that they have together, before anything of
+/// them is judged.
+pub(crate) fn link_files<F: Shelf>(
     alloc: Global,
     names: &List<Bytes>,
     workers: u32,
     fuel: u64,
     shelf: &mut F,
-) -> Result<Answer, Memory>
+) -> Result<Meant, Memory>
     requires count { (1 ≤ length names.now) × (length names.now ≤ most_files) }
     ensures kept { F.holding shelf.new ≡ F.holding shelf.old }
     ensures means { IfOk result
-        (λ a. LinkMeans names.now fuel (F.holding shelf.old) (F.faults shelf.old)
-        (F.faults shelf.new) (said a)) }
+        (LeadsTo (LinkMeans names.now fuel (F.holding shelf.old) (F.faults shelf.old)
+        (F.faults shelf.new))) }
 {
     match read_files(alloc, shelf, names) {
-        Ok(files) => link_texts(rt, gate, alloc, names, &files, workers, fuel),
-        Err(Unread::Failed) => Ok(Answer::Unread),
-        Err(Unread::TooLarge) => Ok(Answer::TooLarge),
+        Ok(files) => link_texts(alloc, names, &files, workers, fuel),
+        Err(Unread::Failed) => Ok(Meant::Says(Answer::Unread)),
+        Err(Unread::TooLarge) => Ok(Meant::Says(Answer::TooLarge)),
         Err(Unread::Memory) => Err(Memory),
     }
 }
@@ -71,19 +68,17 @@ fn read_files<F: Shelf>(
     Ok(files)
 }
 
-/// What is to say of files, linked and run.
-fn link_texts<R: Threads + Wait + Sync, G: Gate + Sync>(
-    rt: &R,
-    gate: &G,
+/// What files lead to, linked and run.
+fn link_texts(
     alloc: Global,
     names: &List<Bytes>,
     files: &List<Bytes>,
     workers: u32,
     fuel: u64,
-) -> Result<Answer, Memory>
+) -> Result<Meant, Memory>
     requires count { (1 ≤ length files.now) × (length files.now ≤ most_files) }
     requires within { size_of files.now ≤ file_limit }
-    ensures { IfOk result (λ a. LinkSays names.now files.now fuel (said a)) }
+    ensures { IfOk result (LeadsTo (LinkSays names.now files.now fuel)) }
 {
     whole_is_in_order();
     accepted_is_written();
@@ -92,8 +87,15 @@ fn link_texts<R: Threads + Wait + Sync, G: Gate + Sync>(
     founded_never_stops();
     founded_goes_through();
     match program_of(alloc, files) {
-        Ok(program) => run_program(rt, gate, alloc, &program, workers, fuel),
-        Err(LinkFault::Refused(rule, at)) => refused_at(alloc, names, rule, at),
+        Ok(program) => Ok(Meant::Runs(Task {
+            program,
+            workers,
+            fuel,
+            writes: Written::Output,
+        })),
+        Err(LinkFault::Refused(rule, at)) => {
+            Ok(Meant::Says(refused_at(alloc, names, rule, at)?))
+        },
         Err(LinkFault::Memory) => Err(Memory),
     }
 }

@@ -54,6 +54,13 @@ impl Layers {
         })
     }
 
+    /// What the root's run printed so far, in UTF-8; what open attempts printed isn't in it.
+    pub fn output(&self) -> &[u8]
+        ensures { result.now ≡ (levels_of self.now).output }
+    {
+        self.output.as_slice()
+    }
+
     /// The value at a location as the innermost machine sees it, or `None` where the location isn't
     /// there; it takes no memory, and constant time for each open attempt on average.
     pub fn look(&self, loc: Loc) -> Option<&Value>

@@ -1,70 +1,99 @@
 //! A hall of workers, where a walk is at the left end of the root's term.
-ghost use Rattle.std.specs.Prelude.{◌≡◌, ◌+◌, ◌<◌, ◌≤◌, [], false, IfOk, IfSome, IsTrue};
+ghost use Rattle.std.specs.Prelude.{◌≡◌, ◌≢◌, ◌+◌, ◌++◌, ◌≤◌, ℕ, List, Option, [], false, length, IfOk, IsTrue};
 ghost use Rattle.fort_machine.specs.Ends.{has_stepped};
 ghost use Rattle.fort_machine.specs.Written.{WrittenProgram};
 ghost use Rattle.fort_disp.specs.Rows.{MayPick};
-ghost use Rattle.fort_frames.specs.States.{term_at};
-ghost use Rattle.fort_walk_course.specs.Courses.{StandsAt};
+ghost use Rattle.fort_port_output.specs.Written.{Change, HasWritten};
+ghost use Rattle.fort_store_effects.specs.Levels.{effect_of};
 ghost use Rattle.fort_walk_turns.specs.Defined.{AlwaysOne};
+ghost use Rattle.fort_walk_turns.specs.Grows.{GrowsFrom};
 ghost use Rattle.fort_walk_turns.specs.Idles.{IsWalking};
-ghost use Rattle.fort_walk.specs.Halls.{AreNext, GoesOn, IsAtRoot};
+ghost use Rattle.fort_walk.specs.Halls.{AreNext, GoesOn, HasTakenIn, IsAtRoot, IsFormOf, IsUnmarked};
+ghost use Rattle.fort_walk.specs.Written.{printed_by};
 
+use crate::output::write_root;
 use crate::pace::Pace;
 use fort_base::{Memory, Shared};
 use fort_core::{Program, Term};
 use fort_disp::Tables;
 use fort_frames::{At, Stack, State};
 use fort_hall_books::Closed;
-use fort_hall_legs::{Crew, HallForm, HallLegs, legs_by};
-use fort_port::Gate;
+use fort_hall_legs::{Assignment, Crew, HallForm, HallLegs, legs_by};
+use fort_port::{Gate, Sink};
+use fort_port_output::Progress;
 use fort_walk_course::Going;
 use fort_walk_turns::{Sweep, Walking};
 use std::alloc::Global;
 use std::sync::Wait;
 use std::thread::Threads;
 
-/// A walk, and when its next hall comes.
+/// A walk, when its next hall comes, and how far its output was written.
 #[derive(Drop)]
 pub(crate) struct Round {
     pub walking: Walking,
     pub pace: Pace,
-    /// Whether legs were taken in.
+    pub progress: Progress,
+    /// Whether there was a hall that made legs.
     pub got_on: bool,
 }
 
 /// Where a walk is at the left end of the root's term, and it is time for it, workers take the
 /// whole term on side by side, attempts at any depth among what they do, until none of its threads
-/// can go on beside the others.
+/// can go on beside the others. What was printed before is written first, and what they print while
+/// they work.
 ///
 /// # Errors
 ///
 /// `Memory` where memory is wanting.
-pub(crate) fn side_by_side<R: Threads + Wait + Sync, G: Gate + Sync>(
+pub(crate) fn side_by_side<R: Threads + Wait + Sync, G: Gate + Sync, K: Sink>(
     rt: &R,
     gate: &G,
     alloc: Global,
     tables: &Tables,
-    walking: Walking,
-    pace: Pace,
+    round: Round,
     workers: u32,
+    out: &mut K,
 ) -> Result<Round, Memory>
     requires written { WrittenProgram tables.now.program.now }
     requires tables { MayPick tables.now }
     requires one { AlwaysOne tables.now.program.now }
-    requires walking { IsWalking tables.now.program.now walking }
-    ensures { IfOk result (GoesOn tables.now.program.now walking.going.course.fuel) }
+    requires walking { IsWalking tables.now.program.now round.walking }
+    requires ready { round.progress.failed ≡ false → K.can_write out.old }
+    requires within { round.progress.failed ≡ false
+        → round.progress.bytes ≤ length (printed_by round.walking.going.course) }
+    ensures goes_on { IfOk result (GoesOn tables.now.program.now round.walking.going.course) }
+    ensures written { IfOk result (λ after. (was : Option (List ℕ)) → (faults_were : ℕ)
+        → HasWritten (K.can_write out.old) (record {
+          was = was;
+          is = K.written out.old;
+          faults_were = faults_were;
+          faults_are = K.faults out.old;
+        }) (printed_by round.walking.going.course) round.progress
+        → HasWritten (K.can_write out.new) (record {
+          was = was;
+          is = K.written out.new;
+          faults_were = faults_were;
+          faults_are = K.faults out.new;
+        }) (printed_by after.walking.going.course) after.progress) }
 {
-    if workers < 2 || !is_at_root(&walking) || !pace.is_time(walking.sweep) {
-        return Ok(as_before(tables.program, walking, pace.passed()));
+    let Round {
+        walking,
+        pace,
+        progress,
+        got_on: _,
+    } = round;
+    if workers < 2 || !pace.is_time(walking.sweep) || !is_at_root(&walking) {
+        return Ok(as_before(tables.program, walking, pace.passed(), progress));
     }
+    let progress = write_root(out, progress, &walking.going.course);
     let crew = Crew {
         workers,
         base: pace.base(),
     };
-    match legs_here(rt, gate, alloc, tables, &walking, crew)? {
-        None => Ok(as_before(tables.program, walking, pace.after(0, 0))),
-        Some(legs) => take_in(alloc, tables.program, walking, pace, legs),
-    }
+    let form = form_at(alloc, tables.program, &walking)?;
+    let work = Assignment { form, crew };
+    let legs = legs_by(rt, gate, alloc, tables, work, out, progress.failed)?;
+    take_in(alloc, tables.program, walking, pace, progress, legs)
 }
 
 // Whether it stands at the whole term of the root's machine, which is no mark.
@@ -82,7 +111,7 @@ fn is_at_root(walking: &Walking) -> bool
 
 // Whether it is a form that is to be gone into, and no mark.
 fn is_unmarked(at: &At) -> bool
-    ensures { IsTrue result → has_stepped (term_at at.now) ≡ false }
+    ensures { IsTrue result → IsUnmarked at.now }
 {
     match at {
         At::Form(form) => !is_mark(form.get()),
@@ -100,116 +129,130 @@ fn is_mark(term: &Term) -> bool
 }
 
 // Nothing was done.
-fn as_before(program: &Program, walking: Walking, pace: Pace) -> Round
+fn as_before(program: &Program, walking: Walking, pace: Pace, progress: Progress) -> Round
     requires { IsWalking program.now walking }
-    ensures { GoesOn program.now walking.going.course.fuel result }
+    ensures goes_on { GoesOn program.now walking.going.course result }
+    ensures course { result.walking ≡ walking }
+    ensures progress { result.progress ≡ progress }
 {
     let _program = program;
     Round {
         walking,
         pace,
+        progress,
         got_on: false,
     }
 }
 
-// The legs of the term at which it stands, if there are some.
-fn legs_here<R: Threads + Wait + Sync, G: Gate + Sync>(
-    rt: &R,
-    gate: &G,
-    alloc: Global,
-    tables: &Tables,
-    walking: &Walking,
-    crew: Crew,
-) -> Result<Option<HallLegs>, Memory>
-    requires crew { 0 < crew.workers }
-    requires written { WrittenProgram tables.now.program.now }
-    requires tables { MayPick tables.now }
-    requires one { AlwaysOne tables.now.program.now }
-    requires walking { IsWalking tables.now.program.now walking.now }
+// The form at which it stands, as it goes into a hall: over the layers as they are, for what is
+// left of the fuel.
+fn form_at(alloc: Global, program: &Program, walking: &Walking) -> Result<HallForm, Memory>
+    requires walking { IsWalking program.now walking.now }
     requires root { IsAtRoot walking.now }
-    ensures { IfOk result (λ found. IfSome found
-        (AreNext tables.now.program.now walking.now (term_at walking.now.going.state.«at»))) }
+    ensures { IfOk result (IsFormOf program.now walking.now) }
 {
-    match &walking.going.state.at {
-        At::Form(form) => legs_at(rt, gate, alloc, tables, walking, form, crew),
-        _ => Ok(None),
-    }
-}
-
-// The legs of a form at which it stands.
-fn legs_at<R: Threads + Wait + Sync, G: Gate + Sync>(
-    rt: &R,
-    gate: &G,
-    alloc: Global,
-    tables: &Tables,
-    walking: &Walking,
-    form: &Shared<Term>,
-    crew: Crew,
-) -> Result<Option<HallLegs>, Memory>
-    requires crew { 0 < crew.workers }
-    requires written { WrittenProgram tables.now.program.now }
-    requires tables { MayPick tables.now }
-    requires one { AlwaysOne tables.now.program.now }
-    requires stands { StandsAt tables.now.program.now walking.now.going.course
-        walking.now.going.state.place form.now }
-    requires root { walking.now.going.course.outer ≡ [] }
-    requires unmarked { has_stepped form.now ≡ false }
-    ensures { IfOk result
-        (λ found. IfSome found (AreNext tables.now.program.now walking.now form.now)) }
-{
+    let _program = program;
     let course = walking.going.course.get();
+    let At::Form(form) = &walking.going.state.at else {
+        unreachable!()
+    };
     let view = course.layers.again(alloc)?;
-    let whole = HallForm {
+    Ok(HallForm {
         inner: false,
         view: Shared::new(alloc, view)?,
         first: form.share()?,
         most: course.fuel - course.spent,
-    };
-    let legs = legs_by(rt, gate, alloc, tables, whole, crew)?;
-    if legs.closed.picks.is_empty() {
-        return Ok(None);
-    }
-    Ok(Some(legs))
+    })
 }
 
-// The legs are taken in; the hall is one pick of the thread's turn.
+// The legs are taken in, where there are some; the hall is one pick of the thread's turn. What they
+// printed stands behind what was printed before, and so does what was written of it.
 fn take_in(
     alloc: Global,
     program: &Program,
     walking: Walking,
     pace: Pace,
+    progress: Progress,
     legs: HallLegs,
 ) -> Result<Round, Memory>
     requires walking { IsWalking program.now walking }
-    requires next { AreNext program.now walking (term_at walking.going.state.«at») legs }
-    ensures { IfOk result (GoesOn program.now walking.going.course.fuel) }
+    requires root { IsAtRoot walking }
+    requires next { AreNext program.now walking legs.closed }
+    requires whole { progress.failed ≡ false
+        → progress.bytes ≡ length (printed_by walking.going.course) }
+    requires within { legs.progress.failed ≡ false → (progress.failed ≡ false)
+        × (legs.progress.bytes ≤ length (effect_of legs.closed.done).output) }
+    ensures { IfOk result (HasTakenIn program.now walking legs) }
+{
+    let HallLegs {
+        closed,
+        legs: counts,
+        progress: more,
+    } = legs;
+    if closed.picks.is_empty() {
+        let progress = behind(progress, more, progress.bytes);
+        return Ok(as_before(program, walking, pace.after(0, 0), progress));
+    }
+    let pace = pace.after(closed.done.cost(), sum(&counts));
+    let walking = taken(alloc, program, walking, closed)?;
+    let end = walking.going.course.get().layers.output().len() as u64;
+    let progress = behind(progress, more, end);
+    Ok(Round {
+        walking,
+        pace,
+        progress,
+        got_on: true,
+    })
+}
+
+// What was written of a text, and of the one behind it, up to their end at most.
+fn behind(before: Progress, more: Progress, end: u64) -> Progress
+    requires { more.failed ≡ false → before.bytes + more.bytes ≤ end }
+    ensures failed { result.failed ≡ more.failed }
+    ensures bytes { more.failed ≡ false → result.bytes ≡ before.bytes + more.bytes }
+{
+    if more.failed {
+        return more;
+    }
+    Progress {
+        bytes: before.bytes + more.bytes,
+        failed: false,
+    }
+}
+
+// The walk behind legs.
+fn taken(
+    alloc: Global,
+    program: &Program,
+    walking: Walking,
+    closed: Closed,
+) -> Result<Walking, Memory>
+    requires walking { IsWalking program.now walking }
+    requires root { IsAtRoot walking }
+    requires next { AreNext program.now walking closed }
+    requires some { closed.picks ≢ [] }
+    ensures walking { IfOk result (IsWalking program.now) }
+    ensures fuel { IfOk result
+        (λ after. after.going.course.fuel ≡ walking.going.course.fuel) }
+    ensures grows { IfOk result (λ after. GrowsFrom walking.going.course after.going.course) }
+    ensures output { IfOk result (λ after. printed_by after.going.course
+        ≡ printed_by walking.going.course ++ (effect_of closed.done).output) }
 {
     let Walking { going, sweep } = walking;
     let Going { course, state } = going;
     let State { place, at: _at } = state;
-    let HallLegs {
-        closed,
-        legs: counts,
-    } = legs;
     let Closed {
         view: _view,
         done,
         picks,
         term,
     } = closed;
-    let pace = pace.after(done.cost(), sum(&counts));
     let course = course.take(alloc, program, &place, &term, done, picks)?;
     let at = At::Form(term);
-    Ok(Round {
-        walking: Walking {
-            going: Going {
-                course,
-                state: State { place, at },
-            },
-            sweep: Sweep::picked(sweep.taken),
-        },
-        pace,
-        got_on: true,
+    let state = State { place, at };
+    Ok(Walking {
+        going: Going { course, state },
+        sweep: Sweep::picked(sweep.taken),
     })
 }
 

@@ -6,6 +6,7 @@ ghost use Rattle.fort_machine.specs.Ends.{throw_of};
 ghost use Rattle.fort_frames.specs.declared.state.At.TheVariants as a_place;
 ghost use Rattle.fort_walk_course.specs.Courses.{HasCome, around};
 ghost use Rattle.fort_walk_course.specs.Calls.{KeepsForm};
+ghost use Rattle.fort_walk_turns.specs.Grows.{Onward};
 ghost use Rattle.fort_walk_turns.specs.Idles.{Follows, IsAtEndOf};
 
 use crate::pace::Pace;
@@ -31,7 +32,8 @@ pub fn at_end(
     pace: Pace,
 ) -> Result<(Next, Pace), Memory>
     requires { IsAtEndOf program.now course sweep at }
-    ensures { IfOk result (λ both. Follows program.now course.fuel both.0) }
+    ensures follows { IfOk result (λ both. Follows program.now course.fuel both.0) }
+    ensures grows { IfOk result (λ both. Onward course both.0) }
 {
     match at {
         At::Value(value) => Ok((at_value(alloc, program, course, value)?, pace)),
@@ -49,7 +51,8 @@ fn at_value(
     value: Value,
 ) -> Result<Next, Memory>
     requires { HasCome program.now course (goes (Term.Value value)) }
-    ensures { IfOk result (Follows program.now course.fuel) }
+    ensures follows { IfOk result (Follows program.now course.fuel) }
+    ensures grows { IfOk result (Onward course) }
 {
     match course.turn() {
         Some(taken) => {
@@ -74,7 +77,8 @@ fn at_throw(
     thrown: Value,
 ) -> Result<Next, Memory>
     requires { HasCome program.now course (goes (throw_of thrown)) }
-    ensures { IfOk result (Follows program.now course.fuel) }
+    ensures follows { IfOk result (Follows program.now course.fuel) }
+    ensures grows { IfOk result (Onward course) }
 {
     match course.turn() {
         Some(taken) => {
@@ -97,7 +101,8 @@ fn is_unit(value: &Value) -> bool
 // At a whole term that is still to be gone into: its threads have their turns from the left end on.
 fn goes_in(alloc: Global, program: &Program, course: Execution, term: Shared<Term>) -> Next
     requires { HasCome program.now course (goes term) }
-    ensures { Follows program.now course.fuel result }
+    ensures follows { Follows program.now course.fuel result }
+    ensures grows { Onward course result }
 {
     let _program = program;
     let place = Place::root(alloc);
@@ -121,7 +126,8 @@ fn again(
     pace: Pace,
 ) -> Result<(Next, Pace), Memory>
     requires { IsAtEndOf program.now course sweep (a_place.Left term) }
-    ensures { IfOk result (λ both. Follows program.now course.fuel both.0) }
+    ensures follows { IfOk result (λ both. Follows program.now course.fuel both.0) }
+    ensures grows { IfOk result (λ both. Onward course both.0) }
 {
     if all_passed(sweep) {
         return Ok((Next::Ends(Walked::Stuck), pace));
@@ -158,7 +164,8 @@ fn next_sweep(
 ) -> Next
     requires ends { IsAtEndOf program.now course sweep (a_place.Left term) }
     requires more { (sweep.idle && (sweep.stuck || sweep.wakes)) ≡ false }
-    ensures { Follows program.now course.fuel result }
+    ensures follows { Follows program.now course.fuel result }
+    ensures grows { Onward course result }
 {
     let _program = program;
     let place = Place::root(alloc);

@@ -4,8 +4,9 @@
 
 mod beside;
 mod ends;
+mod output;
 mod pace;
 mod walking;
 
 pub use fort_walk_course::Ran;
-pub use walking::{walk, walk_side_by_side};
+pub use walking::{WrittenRun, walk, walk_side_by_side};

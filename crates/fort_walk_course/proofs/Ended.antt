@@ -1,5 +1,5 @@
 -- A run ends, or its fuel does.
-use Rattle.std.proofs.Common.{◌≡◌, ℕ, ◌+◌, ◌<◌, true, List, [], ◌∷◌, ◌++◌, ap, sym, subst, arith}
+use Rattle.std.proofs.Common.{◌≡◌, ℕ, ◌+◌, ◌<◌, true, List, [], ◌∷◌, ◌++◌, refl, ap, sym, ◌∙◌, subst, arith}
 use Rattle.fort_core.specs.declared.form.Mode.{Mode}
 use Rattle.fort_core.specs.declared.journal.Ending.{Ending}
 use Rattle.fort_core.specs.declared.journal.Ending.TheVariants.{Completed, Uncaught, OutOfFuel}
@@ -25,6 +25,7 @@ use Rattle.fort_walk_course.specs.declared.course.Waiting.{Waiting}
 use Rattle.fort_walk_course.specs.declared.ending.Ran.{Ran}
 use Rattle.fort_walk_course.specs.Courses.{HasCome, around, held, inwards}
 use Rattle.fort_walk_course.specs.Calls.{MayTry, MayAbort, PassesAt, IsEnded, IsRun}
+use Rattle.fort_walk_course.specs.Picked.{picks_from, root_picks}
 use Rattle.fort_walk_course.proofs.Around.{last_is_first}
 
 -- ---- a run that ends
@@ -148,3 +149,24 @@ ends_passed p c pick r outer e h o =
     (run_passes p c.fuel (with_attempts (levels_of c.layers) h.0) c.picks c.clock pick
     (subst (λ hs. PassesLast p c.fuel (with_attempts (levels_of c.layers) h.0) c.picks hs c.clock
     pick) (ap (λ os. inwards os []) o) h.1))
+
+-- ---- the root's picks
+
+-- where no machine waits they are those of the innermost one
+pub root_ended : (c k : Course) (outer : List Waiting) (ending : Ending) (r : Ran)
+    → IsEnded c ending r → outer ≡ [] → picks_from outer c.picks ≡ root_picks k
+    → r.journal.picks ≡ root_picks k
+root_ended c k outer ending r e o same =
+    e.are_picks ∙ sym (ap (λ os. picks_from os c.picks) o) ∙ same
+
+out_of : (rest : List Waiting) (w : Waiting) (picks : List Pick)
+    → picks_from rest w.picks ≡ picks_from (rest ++ w ∷ []) picks
+out_of [] w picks = refl
+out_of (r ∷ rest) w picks = refl
+
+-- out of an attempt they stay
+pub root_out : (outer rest : List Waiting) (w : Waiting) (picks before root : List Pick)
+    → picks_from outer picks ≡ root → outer ≡ rest ++ w ∷ [] → before ≡ w.picks
+    → picks_from rest before ≡ root
+root_out outer rest w picks before root same o b =
+    ap (picks_from rest) b ∙ out_of rest w picks ∙ sym (ap (λ os. picks_from os picks) o) ∙ same

@@ -12,10 +12,7 @@ use Rattle.fort_store_effects.specs.Levels.{Levels, seen, spent, added}
 use Rattle.fort_walk_law_course.specs.Course.{Held, Comes, NothingFrom}
 use Rattle.fort_walk_law_course.proofs.Bounds.{spent_added}
 use Rattle.fort_walk_law_course.proofs.Store.{store_by, seen_base, seen_added}
-
--- each location that is made has a number below this one
-abbrev pub MakesBelow : ℕ → Effect → Type 0
-MakesBelow n e = (l : ℕ) (v : Option Value) → e.cells l ≡ made v → l < n
+use Rattle.fort_walk_course.specs.Taken.{MakesBelow}
 
 -- nothing is left at a location that isn't there and isn't made
 none_left : (c : Cell) (l n : ℕ) → n ≤ l → Fits c None → ((v : Option Value) → c ≡ made v → l < n)

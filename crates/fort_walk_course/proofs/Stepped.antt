@@ -21,7 +21,8 @@ use Rattle.fort_walk_course.specs.Courses.{StandsAt, around, inwards}
 use Rattle.fort_walk_course.specs.Calls.{MayStep, StepsTo}
 use Rattle.fort_walk_course.specs.Picked.{PicksStep}
 use Rattle.fort_walk_course.proofs.Around.{course_by}
-use Rattle.fort_walk_course.proofs.Seen.{MakesBelow, nothing_seen, spent_adds}
+use Rattle.fort_walk_course.specs.Taken.{MakesBelow}
+use Rattle.fort_walk_course.proofs.Seen.{nothing_seen, spent_adds}
 
 pub step_stands : (p : Program) (c n : Course) (layers : Layers) (fresh : ℕ) (place : Place)
     (b : Term) (loc : ℕ) (e : Effect) → MayStep p c place loc b e

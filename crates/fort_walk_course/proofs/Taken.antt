@@ -1,12 +1,9 @@
 -- Legs are taken in.
-use Rattle.std.proofs.Common.{◌≡◌, ℕ, ◌+◌, ◌<◌, ◌≤◌, List, [], ◌++◌, map, Option, refl, ap, sym, ◌∙◌, arith, inl, inr}
-use Rattle.std.proofs.lemmas.Bool.{cases_lt}
+use Rattle.std.proofs.Common.{◌≡◌, ℕ, ◌+◌, ◌≤◌, List, [], ◌++◌, map, refl, ap, sym, ◌∙◌, arith}
 use Rattle.fort_core.specs.declared.pick.Pick.{Pick}
 use Rattle.fort_core.specs.declared.program.Program.{Program}
 use Rattle.fort_core.specs.declared.term.Term.{Term}
-use Rattle.fort_core.specs.declared.value.Value.{Value}
 use Rattle.fort_machine.specs.Attempts.{goes}
-use Rattle.fort_machine.specs.Cells.{made, untouched}
 use Rattle.fort_machine.specs.Effects.{Effect, FitsAll}
 use Rattle.fort_machine.specs.Threads.{under}
 use Rattle.fort_machine.proofs.Runs.{runs_fit}
@@ -18,9 +15,9 @@ use Rattle.fort_hall_law_books.proofs.Legs.{legs_run}
 use Rattle.fort_walk_course.specs.declared.course.Course.{Course}
 use Rattle.fort_walk_course.specs.Courses.{StandsAt, around, inwards}
 use Rattle.fort_walk_law_course.specs.Course.{is_inner}
-use Rattle.fort_walk_course.specs.Taken.{MayTakeIn, TakesIn}
+use Rattle.fort_walk_course.specs.Taken.{MakesBelow, MayTakeIn, TakesIn}
 use Rattle.fort_walk_course.proofs.Around.{course_by}
-use Rattle.fort_walk_course.proofs.Seen.{MakesBelow, nothing_seen, spent_adds}
+use Rattle.fort_walk_course.proofs.Seen.{nothing_seen, spent_adds}
 
 -- what was taken beside suits the layers as they are
 pub legs_fit : (p : Program) (c : Course) (place : Place) (b : Term) (e : Effect)
@@ -29,13 +26,8 @@ legs_fit p c place b e picks m =
     runs_fit _ _ _ _ _
     (legs_run p (is_inner (around c)) (seen (levels_of c.layers)) m.form b picks e m.legs)
 
-makes_below : (e : Effect) (bound n : ℕ) → bound ≤ n
-    → ((l : ℕ) → bound ≤ l → e.cells l ≡ untouched) → MakesBelow n e
-makes_below e bound n up below l v is =
-    elim (cases_lt l n) [
-      | inl low ↦ low
-      | inr high ↦ (let z : untouched ≡ made v = sym (below l (omega (arith, up, high))) ∙ is in absurd cc)
-    ]
+makes_below : (e : Effect) (bound n : ℕ) → bound ≤ n → MakesBelow bound e → MakesBelow n e
+makes_below e bound n up below l v is = let low = below l v is in omega (arith, up, low)
 
 pub take_stands : (p : Program) (c n : Course) (place : Place) (b : Term) (e : Effect)
     (picks : List Pick) → MayTakeIn p c place b e picks → c.spent + e.cost ≤ c.fuel

@@ -28,6 +28,15 @@ pub record PicksAttempt (old : Course) (within : List Pick) (new : Course) : Typ
   pub outer : old.outer ≡ new.outer ++ waiting ∷ []
   pub picks : new.picks ≡ waiting.picks ++ Attempt waiting.place.path within ∷ []
 
+-- The picks of the first of machines that wait, the root's first, or these where none does.
+abbrev pub picks_from : List Waiting → List Pick → List Pick
+picks_from [] picks = picks
+picks_from (w ∷ ws) picks = w.picks
+
+-- The picks of the root's machine, whichever attempts are open in it.
+abbrev pub root_picks : Course → List Pick
+root_picks c = picks_from c.outer c.picks
+
 -- Nothing was picked, and no machine waits.
 pub record PicksNone (c : Course) : Type 0 where
   pub picks : c.picks ≡ []

@@ -1,9 +1,10 @@
 -- Chapter "Legs": legs as picks of a run.
-use Rattle.std.specs.Prelude.{◌≡◌, ◌≢◌, ℕ, ◌+◌, ◌<◌, ◌≤◌, false, List, [], ◌++◌, map}
+use Rattle.std.specs.Prelude.{◌≡◌, ◌≢◌, ℕ, ◌+◌, ◌<◌, ◌≤◌, false, List, [], ◌++◌, map, Option}
 use Rattle.fort_core.specs.declared.pick.Pick.{Pick}
 use Rattle.fort_core.specs.declared.program.Program.{Program}
 use Rattle.fort_core.specs.declared.term.Term.{Term}
-use Rattle.fort_machine.specs.Cells.{untouched}
+use Rattle.fort_core.specs.declared.value.Value.{Value}
+use Rattle.fort_machine.specs.Cells.{made}
 use Rattle.fort_machine.specs.Effects.{Effect}
 use Rattle.fort_machine.specs.Ends.{has_stepped}
 use Rattle.fort_machine.specs.Journals.{MakesWithinBounds}
@@ -27,7 +28,11 @@ pub record MayTakeIn (p : Program) (c : Course) (place : Place) (b : Term) (e : 
   pub some : picks ≢ []
   pub bounded : MakesWithinBounds e
 
--- Legs of the form at a place were taken in. They touched no location from a number on.
+-- All locations that were made have numbers below this one.
+abbrev pub MakesBelow : ℕ → Effect → Type 0
+MakesBelow n e = (l : ℕ) (v : Option Value) → e.cells l ≡ made v → l < n
+
+-- Legs of the form at a place were taken in. They made no location from a number on.
 pub record TakesIn (old : Course) (place : Place) (e : Effect) (more : List Pick)
     (new : Course) : Type 0 where
   pub layers : Adds e (levels_of old.layers) (levels_of new.layers)
@@ -38,7 +43,7 @@ pub record TakesIn (old : Course) (place : Place) (e : Effect) (more : List Pick
   pub fuel : new.fuel ≡ old.fuel
   pub bound : ℕ
   pub fresher : (old.fresh ≤ new.fresh) × (bound ≤ new.fresh)
-  pub below : (l : ℕ) → bound ≤ l → e.cells l ≡ untouched
+  pub below : MakesBelow bound e
 
 -- Several steps at a place are picks more of the innermost machine.
 pub record PicksMore (old : Course) (place : Place) (more : List Pick) (new : Course) : Type 0 where

@@ -6,6 +6,7 @@ ghost use Rattle.fort_machine.specs.Attempts.{goes};
 ghost use Rattle.fort_machine.specs.Ends.{throw_of};
 ghost use Rattle.fort_walk_course.specs.Courses.{HasCome};
 ghost use Rattle.fort_walk_course.specs.Calls.{IsEnded, IsRun};
+ghost use Rattle.fort_walk_course.specs.Picked.{root_picks};
 
 use crate::course::Course;
 use crate::execution::Execution;
@@ -28,7 +29,8 @@ impl Execution {
     pub fn end_completed(self, program: &Program) -> Ran
         requires outside { self.outer ≡ [] }
         requires come { HasCome program.now self (goes (term.Value unit)) }
-        ensures { IsRun program.now self.fuel result }
+        ensures run { IsRun program.now self.fuel result }
+        ensures picks { result.journal.picks ≡ root_picks self }
     {
         let _program = program;
         self.into_course().ended(Ending::Completed)
@@ -38,7 +40,8 @@ impl Execution {
     pub fn end_uncaught(self, program: &Program, thrown: Value) -> Ran
         requires outside { self.outer ≡ [] }
         requires come { HasCome program.now self (goes (throw_of thrown)) }
-        ensures { IsRun program.now self.fuel result }
+        ensures run { IsRun program.now self.fuel result }
+        ensures picks { result.journal.picks ≡ root_picks self }
     {
         let _program = program;
         self.into_course().ended(Ending::Uncaught(thrown))

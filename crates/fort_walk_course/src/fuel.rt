@@ -5,6 +5,7 @@ ghost use Rattle.fort_store_effects.specs.Levels.{levels_of};
 ghost use Rattle.fort_walk_law_course.specs.Ends.{PassesLast};
 ghost use Rattle.fort_walk_course.specs.Courses.{around};
 ghost use Rattle.fort_walk_course.specs.Calls.{IsRun, MayAbort, MayTry, PassesAt};
+ghost use Rattle.fort_walk_course.specs.Picked.{root_picks};
 
 use crate::course::Waiting;
 use crate::ending::Ran;
@@ -28,7 +29,8 @@ impl Execution {
         loc: Loc,
     ) -> Result<Ran, Memory>
         requires { PassesAt program.now self place.now loc.0 }
-        ensures { IfOk result (IsRun program.now self.fuel) }
+        ensures run { IfOk result (IsRun program.now self.fuel) }
+        ensures picks { IfOk result (λ ran. ran.journal.picks ≡ root_picks self) }
     {
         let pick = Pick::Step(place.path.copy(alloc)?, loc);
         self.out_of_fuel(program, pick)
@@ -49,7 +51,8 @@ impl Execution {
     ) -> Result<Ran, Memory>
         requires may { MayTry program.now self place.now mode body.now }
         requires passes { self.fuel < self.spent + 1 }
-        ensures { IfOk result (IsRun program.now self.fuel) }
+        ensures run { IfOk result (IsRun program.now self.fuel) }
+        ensures picks { IfOk result (λ ran. ran.journal.picks ≡ root_picks self) }
     {
         let _mode = mode;
         let _body = body;
@@ -70,7 +73,8 @@ impl Execution {
     ) -> Result<Ran, Memory>
         requires may { MayAbort program.now self place.now }
         requires passes { self.fuel < self.spent + 1 }
-        ensures { IfOk result (IsRun program.now self.fuel) }
+        ensures run { IfOk result (IsRun program.now self.fuel) }
+        ensures picks { IfOk result (λ ran. ran.journal.picks ≡ root_picks self) }
     {
         let pick = Pick::Step(place.path.copy(alloc)?, Loc(0));
         self.out_of_fuel(program, pick)
@@ -80,7 +84,8 @@ impl Execution {
     fn out_of_fuel(self, program: &Program, next: Pick) -> Result<Ran, Memory>
         requires { PassesLast program.now self.fuel (levels_of self.layers) self.picks (around self)
             self.clock next }
-        ensures { IfOk result (IsRun program.now self.fuel) }
+        ensures run { IfOk result (IsRun program.now self.fuel) }
+        ensures picks { IfOk result (λ ran. ran.journal.picks ≡ root_picks self) }
     {
         let _program = program;
         let mut course = self.into_course();

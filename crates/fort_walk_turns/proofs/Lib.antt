@@ -1,4 +1,5 @@
 pub mod Idle
+pub mod Growing
 pub mod Tries
 pub mod Past
 pub mod Taking

@@ -15,6 +15,7 @@ ghost use Rattle.fort_frames_moves.specs.Turns.{IsMade, ready_term};
 ghost use Rattle.fort_walk_course.specs.Courses.{HasCome, around};
 ghost use Rattle.fort_walk_course.specs.Calls.{KeepsForm, MayAbort, MayStep, MayTryThis};
 ghost use Rattle.fort_step_acting.specs.Only.{OnlyDoes};
+ghost use Rattle.fort_walk_turns.specs.Grows.{GrowsFrom, Onward};
 ghost use Rattle.fort_walk_turns.specs.Idles.{Follows, IsAtPlace, IsAtThread, Rests};
 ghost use Rattle.fort_walk_turns.specs.declared.next.Next.TheVariants as nexts;
 
@@ -42,7 +43,8 @@ pub fn at_atomic(
     requires written { WrittenProgram program.now }
     requires form { IsAtPlace program.now course sweep place form }
     requires atomic { (m : Mode) × (body : Term) × Form form m body }
-    ensures { IfOk result (Follows program.now course.fuel) }
+    ensures follows { IfOk result (Follows program.now course.fuel) }
+    ensures grows { IfOk result (Onward course) }
 {
     if sweep.is_over(&place) {
         return Ok(left(program, course, sweep.passed(), place, form));
@@ -129,7 +131,8 @@ fn begin(
 ) -> Result<Next, Memory>
     requires written { WrittenProgram program.now }
     requires may { MayTryThis program.now course place tried.form tried.mode tried.body }
-    ensures { IfOk result (Follows program.now course.fuel) }
+    ensures follows { IfOk result (Follows program.now course.fuel) }
+    ensures grows { IfOk result (Onward course) }
 {
     if !course.affords(1) {
         let ran = course.end_at_attempt(alloc, program, &place, tried.mode, &tried.body)?;
@@ -151,7 +154,9 @@ fn begin(
 pub fn leave(alloc: Global, program: &Program, course: Execution) -> Result<Walking, Memory>
     requires kept { KeepsForm (around course) }
     requires come { (r : Ended) × HasCome program.now course r }
-    ensures { IfOk result (λ walking. Follows program.now course.fuel (nexts.Goes walking)) }
+    ensures follows { IfOk result
+        (λ walking. Follows program.now course.fuel (nexts.Goes walking)) }
+    ensures grows { IfOk result (λ walking. GrowsFrom course walking.going.course) }
 {
     let Standing {
         course,
@@ -182,7 +187,8 @@ pub fn abort(
     requires made { IsMade ready }
     requires acts { Acts program.now (ready_term ready) acts.ends }
     requires only { OnlyDoes program.now (ready_term ready) acts.ends }
-    ensures { IfOk result (Follows program.now course.fuel) }
+    ensures follows { IfOk result (Follows program.now course.fuel) }
+    ensures grows { IfOk result (Onward course) }
 {
     match course.turn() {
         Some(taken) => abort_attempt(alloc, program, course, place, taken),
@@ -199,7 +205,8 @@ fn abort_attempt(
 ) -> Result<Next, Memory>
     requires inside { course.outer ≢ [] }
     requires may { MayAbort program.now course place }
-    ensures { IfOk result (Follows program.now course.fuel) }
+    ensures follows { IfOk result (Follows program.now course.fuel) }
+    ensures grows { IfOk result (Onward course) }
 {
     if !course.affords(1) {
         let ran = course.end_at_abort(alloc, program, &place)?;
@@ -224,7 +231,8 @@ fn abort_root(
     requires acts { Acts program.now (ready_term ready) acts.ends }
     requires only { OnlyDoes program.now (ready_term ready) acts.ends }
     requires outside { course.outer ≡ [] }
-    ensures { IfOk result (Follows program.now course.fuel) }
+    ensures follows { IfOk result (Follows program.now course.fuel) }
+    ensures grows { IfOk result (Onward course) }
 {
     match single(program, program.built_in.abort_outside) {
         None => Ok(left(
@@ -249,7 +257,8 @@ fn throws(
 ) -> Result<Next, Memory>
     requires may { (next : Term) → next ≡ throw_of value
         → MayStep program.now course place 0 next (printed [] 1) }
-    ensures { IfOk result (Follows program.now course.fuel) }
+    ensures follows { IfOk result (Follows program.now course.fuel) }
+    ensures grows { IfOk result (Onward course) }
 {
     let thrown = Shared::new(alloc, Term::Value(value))?;
     let next = Shared::new(alloc, Term::Throw(thrown))?;

@@ -1,6 +1,7 @@
 //! What comes next in a run: another turn, or its end.
 ghost use Rattle.std.specs.Prelude.{◌≡◌};
 ghost use Rattle.fort_walk_course.specs.Courses.{IsGoing, StandsAt};
+ghost use Rattle.fort_walk_turns.specs.Grows.{Onward};
 ghost use Rattle.fort_walk_turns.specs.Idles.{Follows, IsAtLeft, IsAtPlace};
 
 use crate::sweep::Sweep;
@@ -33,7 +34,8 @@ pub fn at_form(
     form: Shared<Term>,
 ) -> Next
     requires { IsAtPlace program.now course sweep place form }
-    ensures { Follows program.now course.fuel result }
+    ensures follows { Follows program.now course.fuel result }
+    ensures grows { Onward course result }
 {
     let _program = program;
     let at = At::Form(form);
@@ -53,7 +55,8 @@ pub fn left(
     form: Shared<Term>,
 ) -> Next
     requires { IsAtLeft program.now course sweep place form }
-    ensures { Follows program.now course.fuel result }
+    ensures follows { Follows program.now course.fuel result }
+    ensures grows { Onward course result }
 {
     let _program = program;
     let at = At::Left(form);
@@ -73,7 +76,8 @@ pub fn picked(
     form: Shared<Term>,
 ) -> Next
     requires { StandsAt program.now course place form }
-    ensures { Follows program.now course.fuel result }
+    ensures follows { Follows program.now course.fuel result }
+    ensures grows { Onward course result }
 {
     at_form(program, course, Sweep::picked(sweep.taken), place, form)
 }
@@ -81,7 +85,8 @@ pub fn picked(
 /// An attempt ended, which is a pick of the thread round it.
 pub fn closed(program: &Program, going: Going, taken: u32) -> Next
     requires { IsGoing program.now going }
-    ensures { Follows program.now going.course.fuel result }
+    ensures follows { Follows program.now going.course.fuel result }
+    ensures grows { Onward going.course result }
 {
     let _program = program;
     let sweep = Sweep::picked(taken);

@@ -14,6 +14,7 @@ ghost use Rattle.fort_walk_course.specs.Calls.{MayStep, PassesAt};
 ghost use Rattle.fort_step_acting.specs.Only.{IsDealt, OnlyDoes};
 ghost use Rattle.fort_disp.specs.Rows.{MayPick};
 ghost use Rattle.fort_walk_turns.specs.Defined.{AlwaysOne};
+ghost use Rattle.fort_walk_turns.specs.Grows.{Onward};
 ghost use Rattle.fort_walk_turns.specs.Idles.{Follows, IsAtThread, TouchesStore};
 
 use crate::attempts::abort;
@@ -45,7 +46,8 @@ pub fn at_thread(
     requires one { AlwaysOne tables.now.program.now }
     requires thread { IsAtThread tables.now.program.now course sweep place (ready_term ready) }
     requires made { IsMade ready }
-    ensures { IfOk result (Follows tables.now.program.now course.fuel) }
+    ensures follows { IfOk result (Follows tables.now.program.now course.fuel) }
+    ensures grows { IfOk result (Onward course) }
 {
     let program = tables.program;
     if sweep.is_over(&place) {
@@ -69,7 +71,8 @@ fn dealt(
     requires thread { IsAtThread program.now course sweep place (ready_term ready) }
     requires made { IsMade ready }
     requires dealt { IsDealt program.now (ready_term ready) deal }
-    ensures { IfOk result (Follows program.now course.fuel) }
+    ensures follows { IfOk result (Follows program.now course.fuel) }
+    ensures grows { IfOk result (Onward course) }
 {
     if is_stuck(&deal) {
         return stays(alloc, program, course, sweep, place, ready);
@@ -99,7 +102,8 @@ fn stays(
     requires thread { IsAtThread program.now course sweep place (ready_term ready) }
     requires made { IsMade ready }
     requires stuck { OnlyDoes program.now (ready_term ready) acts.stuck }
-    ensures { IfOk result (Follows program.now course.fuel) }
+    ensures follows { IfOk result (Follows program.now course.fuel) }
+    ensures grows { IfOk result (Onward course) }
 {
     Ok(left(
         program,
@@ -125,7 +129,8 @@ fn goes_on(
     requires made { IsMade ready }
     requires dealt { IsDealt program.now (ready_term ready) deal }
     requires moves { deal ≢ deals.Stuck }
-    ensures { IfOk result (Follows program.now course.fuel) }
+    ensures follows { IfOk result (Follows program.now course.fuel) }
+    ensures grows { IfOk result (Onward course) }
 {
     match deal {
         Deal::Turns(next, output, cost) => {
@@ -161,7 +166,8 @@ fn touches(
     requires made { IsMade ready }
     requires dealt { IsDealt program.now (ready_term ready) deal }
     requires store { TouchesStore deal }
-    ensures { IfOk result (Follows program.now course.fuel) }
+    ensures follows { IfOk result (Follows program.now course.fuel) }
+    ensures grows { IfOk result (Onward course) }
 {
     match deal {
         Deal::Asks(loc, goes) => asks(alloc, program, course, sweep, place, ready, loc, goes),
@@ -185,7 +191,8 @@ pub fn turns(
     cost: u64,
 ) -> Result<Next, Memory>
     requires may { MayStep program.now course place 0 next (printed output cost) }
-    ensures { IfOk result (Follows program.now course.fuel) }
+    ensures follows { IfOk result (Follows program.now course.fuel) }
+    ensures grows { IfOk result (Onward course) }
 {
     if !course.affords(cost) {
         return out_at(alloc, program, course, &place, Loc(0));
@@ -204,7 +211,8 @@ fn out_at(
     loc: Loc,
 ) -> Result<Next, Memory>
     requires { PassesAt program.now course place.now loc.0 }
-    ensures { IfOk result (Follows program.now course.fuel) }
+    ensures follows { IfOk result (Follows program.now course.fuel) }
+    ensures grows { IfOk result (Onward course) }
 {
     let ran = course.end_at_step(alloc, program, place, loc)?;
     Ok(Next::Ends(Walked::Ran(ran)))
@@ -226,7 +234,8 @@ fn asks(
     requires acts { Acts program.now (ready_term ready) (acts.asks loc.0 (λ v. next_value goes v)) }
     requires only { OnlyDoes program.now (ready_term ready)
         (acts.asks loc.0 (λ v. next_value goes v)) }
-    ensures { IfOk result (Follows program.now course.fuel) }
+    ensures follows { IfOk result (Follows program.now course.fuel) }
+    ensures grows { IfOk result (Onward course) }
 {
     let value = match course.look(loc) {
         None => return Ok(left(
@@ -255,7 +264,8 @@ fn reads(
     requires may { (next : a_term.Term) → next ≡ next_value goes value
         → MayStep program.now course place 0 next (reading loc.0 value) }
     requires there { seen (levels_of course.layers) loc.0 ≡ Some value }
-    ensures { IfOk result (Follows program.now course.fuel) }
+    ensures follows { IfOk result (Follows program.now course.fuel) }
+    ensures grows { IfOk result (Onward course) }
 {
     if !course.affords(1) {
         return out_at(alloc, program, course, &place, Loc(0));
@@ -280,7 +290,8 @@ fn sets(
     requires made { IsMade ready }
     requires acts { Acts program.now (ready_term ready) (acts.sets loc.0 value) }
     requires only { OnlyDoes program.now (ready_term ready) (acts.sets loc.0 value) }
-    ensures { IfOk result (Follows program.now course.fuel) }
+    ensures follows { IfOk result (Follows program.now course.fuel) }
+    ensures grows { IfOk result (Onward course) }
 {
     if course.look(loc).is_none() {
         return Ok(left(
@@ -307,7 +318,8 @@ fn writes(
     requires may { (next : a_term.Term) → next ≡ a_term.Value acts.unit
         → MayStep program.now course place 0 next (writing loc.0 value) }
     requires there { IsSome (seen (levels_of course.layers) loc.0) }
-    ensures { IfOk result (Follows program.now course.fuel) }
+    ensures follows { IfOk result (Follows program.now course.fuel) }
+    ensures grows { IfOk result (Onward course) }
 {
     if !course.affords(1) {
         return out_at(alloc, program, course, &place, Loc(0));
@@ -331,7 +343,8 @@ fn makes_some(
     requires thread { IsAtThread program.now course sweep place (ready_term ready) }
     requires acts { Acts program.now (ready_term ready)
         (acts.makes (values_of makes) (λ l. term_of makes l) (making_cost makes)) }
-    ensures { IfOk result (Follows program.now course.fuel) }
+    ensures follows { IfOk result (Follows program.now course.fuel) }
+    ensures grows { IfOk result (Onward course) }
 {
     let _ready = ready;
     let cost = makes.cost();

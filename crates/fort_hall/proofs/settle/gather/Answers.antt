@@ -1,6 +1,7 @@
 use Rattle.std.proofs.Common.{◌≡◌, ℕ, length, arith, ◌∙◌, subst, set, rules}
 use Rattle.fort_hall.specs.Gathered.{Gathered}
 use Rattle.fort_hall.proofs.Chain.{takes_one}
+use Rattle.fort_hall.proofs.Watching.{sees_further}
 use Rattle.std.proofs.lemmas.List.{length-set}
 use Rattle.fort_hall.proofs.settle.gather.Goals as goal
 
@@ -17,6 +18,7 @@ loop-seat-preserved g c =
     (omega (arith, s.shorter, i.long, i.few)) s.some.0 s.some.1 j.idle j.same.2 j.numbers j.seen.1 j.seen.2 j.seen.3 in
     record {
       gathered = subst (λ (m : ℕ). Gathered g.M.Machine.history g.M.Machine.origin g.M.Machine.by c.args.turn.now g.M.Machine.start (set c.loop-seat.legs.items m c.in-Some.seat.legs) n (length c.args.workers.items) c.join.new.pass) e one;
+      more = sees_further g.M.Machine.history g.M.Machine.origin g.M.Machine.by c.args.first.now c.loop-seat.first c.join.new.pass j.seen.0 i.more j.seen.1 j.seen.2;
       made = j.same.1 ∙ i.made;
       workers = s.rest;
       long = length-set c.loop-seat.legs.items c.len-n.result c.in-Some.seat.legs ∙ i.long;

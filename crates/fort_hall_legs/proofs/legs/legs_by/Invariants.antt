@@ -5,6 +5,6 @@ use Rattle.fort_hall_legs.proofs.legs.legs_by.Given as goal
 abbrev pub ghosts-legs_of : goal.ghosts-legs_of
 ghosts-legs_of g a = record {
   program = a.tables.now.program.now;
-  start = form_origin a.form;
-  most = a.form.most;
+  start = form_origin a.work.form;
+  most = a.work.form.most;
 }

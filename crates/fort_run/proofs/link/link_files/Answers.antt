@@ -5,7 +5,7 @@ use Rattle.fort_run.proofs.Linked.{as_many, files_mean}
 use Rattle.fort_run.proofs.link.link_files.Goals as goal
 
 pub link_texts-requires-clause-count : goal.link_texts-requires-clause-count
-link_texts-requires-clause-count g c κs within =
+link_texts-requires-clause-count g c =
     subst (λ n. (1 ≤ n) × (n ≤ most_files))
     (sym (as_many (g.F.Shelf.holding c.args.shelf.now) c.args.names.now c.in-Ok.files
     c.in-Ok.ensures.files)) c.requires.count

@@ -4,7 +4,7 @@ use Rattle.fort_run.proofs.Meaning.{from_before}
 use Rattle.fort_run.proofs.reply.asked.Goals as goal
 
 pub judged-requires-clause-is_text : goal.judged-requires-clause-is_text
-judged-requires-clause-is_text g c κs within = rw c.in-Ok.ensures.kept c.in-Ok.ensures.text
+judged-requires-clause-is_text g c = rw c.in-Ok.ensures.kept c.in-Ok.ensures.text
 
 pub returns-in-Ok-clause-means : goal.returns-in-Ok-clause-means
 returns-in-Ok-clause-means g c =

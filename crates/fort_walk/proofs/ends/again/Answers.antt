@@ -5,8 +5,8 @@ use Rattle.fort_machine.specs.Attempts.{goes}
 use Rattle.fort_walk.proofs.Ending.{all_over, left_stuck}
 use Rattle.fort_walk.proofs.ends.again.Goals as goal
 
-pub returns-then-all_passed : goal.returns-then-all_passed
-returns-then-all_passed c =
+pub returns-then-all_passed-clause-follows : goal.returns-then-all_passed-clause-follows
+returns-then-all_passed-clause-follows c =
     let over =
     all_over c.args.sweep.idle c.args.sweep.stuck c.args.sweep.wakes (sym c.all_passed.ensures
     ∙ c.if-all_passed.true) in

@@ -1,10 +1,9 @@
-use Rattle.std.proofs.Common.{subst}
-use Rattle.std.proofs.lemmas.Result.{IfOk-weaker}
-use Rattle.fort_walk_turns.specs.Idles.{Follows}
+use Rattle.std.proofs.Common.{refl}
+use Rattle.fort_walk_turns.proofs.Growing.{grows_same}
 use Rattle.fort_walk.proofs.walking.ahead.Goals as goal
 
-pub returns : goal.returns
-returns g c =
-    IfOk-weaker c.go.result _ _
-    (λ both h. subst (λ fuel. Follows c.args.tables.now.program.now fuel both.0)
-    c.in_ok-walking.ensures.1 h) c.go.ensures
+pub returns-then-got_on-clause-follows : goal.returns-then-got_on-clause-follows
+returns-then-got_on-clause-follows c = (c.requires.walking, refl)
+
+pub returns-then-got_on-clause-grows : goal.returns-then-got_on-clause-grows
+returns-then-got_on-clause-grows c = grows_same c.args.round.walking.going.course

@@ -5,6 +5,7 @@ use Rattle.fort_walk_course.specs.Calls.{MayStep}
 use Rattle.fort_step_deal.specs.Deals.{making_cost, made_by, new_values}
 use Rattle.fort_frames_moves.specs.Turns.{ready_term}
 use Rattle.fort_walk_turns.proofs.Taking.{makes_on, makes_passes, too_dear, follows_by}
+use Rattle.fort_walk_turns.proofs.Growing.{step_on}
 use Rattle.fort_walk_turns.proofs.threads.makes_some.Goals as goal
 
 pub overflow_cast-loc : goal.overflow_cast-loc
@@ -52,7 +53,13 @@ make-requires-clause-may c =
     c.requires.thread.0.stands c.requires.acts (rw c.fresh-fresh.ensures at c.in_ok-next.ensures)
     c.in_ok-values.ensures)
 
-pub returns : goal.returns
-returns c =
+pub returns-clause-follows : goal.returns-clause-follows
+returns-clause-follows c =
     follows_by c.args.program.now c.args.course.fuel c.in_ok-course.course.fuel c.picked.result
-    c.in_ok-course.ensures.fuel c.picked.ensures
+    c.in_ok-course.ensures.fuel c.picked.ensures.follows
+
+pub returns-clause-grows : goal.returns-clause-grows
+returns-clause-grows c =
+    step_on c.args.program.now c.args.course c.in_ok-course.course c.args.place
+    (ready_term c.args.ready) c.in_ok-next.next c.args.course.fresh c.picked.result c.requires.thread.0.stands
+    c.in_ok-course.ensures.stands c.in_ok-course.ensures.picks c.picked.ensures.grows

@@ -3,6 +3,7 @@ use Rattle.fort_core.specs.declared.term.Term as term
 use Rattle.fort_core.specs.declared.value.Value.{Value}
 use Rattle.fort_machine.specs.Acts as acts
 use Rattle.fort_walk_turns.proofs.Taking.{writes_passes, too_dear, follows_by}
+use Rattle.fort_walk_turns.proofs.Growing.{step_on}
 use Rattle.fort_walk_turns.proofs.threads.writes.Goals as goal
 
 pub out_at-requires : goal.out_at-requires
@@ -17,7 +18,15 @@ write-requires-clause-may c =
     c.requires.may c.in_ok-next.next (c.in_ok-next.ensures ∙ ap (λ
     (v : Value). term.Value v) c.in_ok-unit.ensures)
 
-pub returns : goal.returns
-returns c =
+pub returns-clause-follows : goal.returns-clause-follows
+returns-clause-follows c =
     follows_by c.args.program.now c.args.course.fuel c.in_ok-course.course.fuel c.picked.result
-    c.in_ok-course.ensures.fuel c.picked.ensures
+    c.in_ok-course.ensures.fuel c.picked.ensures.follows
+
+pub returns-clause-grows : goal.returns-clause-grows
+returns-clause-grows c =
+    let may = (c.requires.may c.in_ok-next.next (c.in_ok-next.ensures ∙ ap (λ
+    (v : Value). term.Value v) c.in_ok-unit.ensures)) in
+    step_on c.args.program.now c.args.course c.in_ok-course.course c.args.place may.form
+    c.in_ok-next.next 0 c.picked.result may.stands c.in_ok-course.ensures.stands
+    c.in_ok-course.ensures.picks c.picked.ensures.grows

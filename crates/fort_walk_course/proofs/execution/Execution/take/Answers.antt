@@ -7,6 +7,9 @@ taken-requires-clause-fits c =
     let a = c.args in
     legs_fit _ _ _ _ _ _ c.requires.may
 
+pub taken-requires-clause-bounded : goal.taken-requires-clause-bounded
+taken-requires-clause-bounded c = c.requires.may.bounded
+
 pub returns-clause-stands : goal.returns-clause-stands
 returns-clause-stands c =
     IfOk-weaker c.taken.result _ _
@@ -19,3 +22,6 @@ pub returns-clause-picks : goal.returns-clause-picks
 returns-clause-picks c =
     IfOk-weaker c.taken.result _ _ (λ n t. record { picks = t.picks; outer = t.outer })
     c.taken.ensures
+
+pub returns-clause-done : goal.returns-clause-done
+returns-clause-done c = IfOk-weaker c.taken.result _ _ (λ n t. t.layers) c.taken.ensures

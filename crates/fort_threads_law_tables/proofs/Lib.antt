@@ -1,0 +1,6 @@
+mod Forms
+mod Calls
+mod Numbers
+mod Objects
+mod Tables
+mod Same

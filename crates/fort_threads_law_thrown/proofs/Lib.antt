@@ -1,0 +1,3 @@
+mod Inside
+mod Thrown
+pub mod Laws

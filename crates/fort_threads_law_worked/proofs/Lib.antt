@@ -1,0 +1,15 @@
+mod Codes
+mod Forms
+mod Calls
+mod Numbers
+mod Objects
+mod Preluded
+mod Writing
+mod Typing
+mod Same
+mod Apart
+mod Beginning
+mod Sounding
+mod Completing
+mod Worked
+mod Laws

@@ -1,0 +1,4 @@
+pub mod Types
+pub mod Builtin
+pub mod Bodies
+pub mod Worked
