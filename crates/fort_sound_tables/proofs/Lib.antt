@@ -1,0 +1,4 @@
+pub mod Lists
+pub mod Forms
+pub mod Apart
+pub mod Whole

@@ -1,0 +1,4 @@
+pub mod Numbers
+pub mod Declared
+pub mod Leaves
+pub mod Threads

@@ -1,0 +1,224 @@
+//! Whether terms and values leave the prelude's own names alone.
+ghost use Rattle.std.specs.Prelude.{◌≡◌, IsTrue, ◌↔◌, []};
+ghost use Rattle.fort_core.specs.declared.form.Slot.{Slot as ASlot};
+ghost use Rattle.fort_core.specs.declared.value.Value.{Object};
+ghost use Rattle.fort_core.specs.declared.term.Term.TheOpen.{Value-F};
+ghost use Rattle.fort_machine.specs.Parts.{in_clauses};
+ghost use Rattle.fort_threads_law_private.specs.Private.{LeadsToOpen, SlotIsOpen};
+ghost use Rattle.fort_threads_law_private.specs.Grounds.{AreOpen};
+ghost use Rattle.fort_sound_tables.specs.Leaves.{AllLeave, AllLeaveValues, IsOwnField, IsOwnSet, Leaves, LeavesValue, ground_of};
+ghost use Rattle.fort_sound_tables.specs.Numbers.{names};
+
+use crate::numbers::Numbers;
+use crate::opening::is_open;
+use fort_base::{List, Loc, NameId, SetId, Shared, Ty, TypeId};
+use fort_core::{Closure, Program, Slot, Span, Term, Value};
+
+/// Whether the prelude alone calls a set.
+pub(crate) fn is_own_set(x: &Numbers, set: SetId) -> bool
+    ensures { IsTrue result ↔ IsOwnSet x.now set }
+{
+    set.0 == x.sets.serve.0
+        || set.0 == x.sets.take.0
+        || set.0 == x.sets.go.0
+        || set.0 == x.sets.make.0
+        || set.0 == x.sets.main.0
+}
+
+// Whether the prelude alone uses a field.
+fn is_own_field(x: &Numbers, field: NameId) -> bool
+    ensures { IsTrue result ↔ IsOwnField x.now field }
+{
+    field.0 == x.fields.body.0
+        || field.0 == x.fields.state.0
+        || field.0 == x.fields.value.0
+        || field.0 == x.fields.next.0
+}
+
+// Whether a variable's location is for the component.
+fn slot_is_open(program: &Program, x: &Numbers, slot: Slot) -> bool
+    ensures { IsTrue result → SlotIsOpen (ground_of program.now x.now) slot }
+{
+    match slot {
+        Slot::Variable(_) => true,
+        Slot::Location(location) => is_open(program, x, location.0),
+    }
+}
+
+fn is_whole(span: Span) -> bool
+    ensures { IsTrue result → span ≡ Span.Whole }
+{
+    match span {
+        Span::Whole => true,
+        Span::Part(_, _) => false,
+    }
+}
+
+/// Whether a term leaves the prelude's own names alone, by the numbers of a program. It goes down
+/// the term by calls.
+#[cycle(leaves)]
+pub(crate) fn leaves(program: &Program, x: &Numbers, term: &Term) -> bool
+    ensures { IsTrue result → Leaves program.now x.now term.now }
+{
+    match term {
+        Term::Value(value) => value_leaves(program, x, value),
+        Term::Variable(_) => true,
+        Term::Read(slot) => slot_is_open(program, x, *slot),
+        Term::Fn(closure) => body_leaves(program, x, closure.get()),
+        Term::Throw(part) => leaves(program, x, part.get()),
+        Term::Size(part) => leaves(program, x, part.get()),
+        Term::Atomic(_, part) => leaves(program, x, part.get()),
+        Term::Stepped(part) => leaves(program, x, part.get()),
+        Term::Write(slot, part) => slot_is_open(program, x, *slot)
+            && leaves(program, x, part.get()),
+        Term::ReadField(part, field) => !is_own_field(x, *field) && leaves(program, x, part.get()),
+        Term::Asleep(_, _) => false,
+        Term::Group(parts) => all_leave(program, x, parts),
+        Term::Also(parts) => all_leave(program, x, parts),
+        Term::Call(set, parts) => !is_own_set(x, *set) && all_leave(program, x, parts),
+        Term::Operator(set, parts) => !is_own_set(x, *set) && all_leave(program, x, parts),
+        other => two_leave(program, x, other),
+    }
+}
+
+// The same of a form with two parts and more.
+#[cycle(leaves)]
+fn two_leave(program: &Program, x: &Numbers, term: &Term) -> bool
+    ensures { IsTrue result → Leaves program.now x.now term.now }
+{
+    match term {
+        Term::Apply(a, b) => both_leave(program, x, a, b),
+        Term::Fill(_, a, b) => both_leave(program, x, a, b),
+        Term::Let(_, a, b) => both_leave(program, x, a, b),
+        Term::Mutable(_, _, a, b) => both_leave(program, x, a, b),
+        Term::WriteField(a, field, b) => !is_own_field(x, *field) && both_leave(program, x, a, b),
+        Term::ReadElement(a, b) => both_leave(program, x, a, b),
+        Term::Then(a, b) => both_leave(program, x, a, b),
+        Term::While(a, b) => both_leave(program, x, a, b),
+        Term::For(_, span, _, a, b) => is_whole(*span) && both_leave(program, x, a, b),
+        Term::ForHalves(a, b) => both_leave(program, x, a, b),
+        Term::ReduceHalves(set, a, b) => !is_own_set(x, *set) && both_leave(program, x, a, b),
+        Term::WriteElement(a, b, c) => {
+            both_leave(program, x, a, b) && leaves(program, x, c.get())
+        }
+        Term::If(a, b, c) => both_leave(program, x, a, b) && leaves(program, x, c.get()),
+        Term::Reduce(_, span, set, a, _, b, c) => {
+            is_whole(*span)
+                && !is_own_set(x, *set)
+                && both_leave(program, x, a, b)
+                && leaves(program, x, c.get())
+        }
+        Term::Typecase(_, a, clauses, b) => {
+            both_leave(program, x, a, b) && clauses_leave(program, x, clauses)
+        }
+        Term::Try(a, _, clauses, None) => {
+            leaves(program, x, a.get()) && clauses_leave(program, x, clauses)
+        }
+        Term::Try(a, _, clauses, Some(last)) => {
+            both_leave(program, x, a, last) && clauses_leave(program, x, clauses)
+        }
+        _ => false,
+    }
+}
+
+#[cycle(leaves)]
+fn both_leave(program: &Program, x: &Numbers, a: &Shared<Term>, b: &Shared<Term>) -> bool
+    ensures { IsTrue result → Leaves program.now x.now a.now × Leaves program.now x.now b.now }
+{
+    leaves(program, x, a.get()) && leaves(program, x, b.get())
+}
+
+#[cycle(leaves)]
+fn all_leave(program: &Program, x: &Numbers, terms: &List<Shared<Term>>) -> bool
+    ensures { IsTrue result → AllLeave program.now x.now terms.now }
+{
+    for term in terms.as_slice() {
+        if !leaves(program, x, term.get()) {
+            return false;
+        }
+    }
+    true
+}
+
+#[cycle(leaves)]
+fn clauses_leave(program: &Program, x: &Numbers, clauses: &List<(Shared<Term>, Shared<Ty>)>) -> bool
+    ensures { IsTrue result → AllLeave program.now x.now (in_clauses clauses.now) }
+{
+    for clause in clauses.as_slice() {
+        if !leaves(program, x, clause.0.get()) {
+            return false;
+        }
+    }
+    true
+}
+
+// A function leaves them alone where it holds nothing, and its body does.
+#[cycle(leaves)]
+fn body_leaves(program: &Program, x: &Numbers, closure: &Closure) -> bool
+    ensures held { IsTrue result → closure.now.held ≡ [] }
+    ensures body { IsTrue result → Leaves program.now x.now closure.now.body }
+{
+    closure.held.is_empty() && leaves(program, x, closure.body.get())
+}
+
+/// Whether a value leaves the prelude's own names alone.
+#[cycle(leaves)]
+pub(crate) fn value_leaves(program: &Program, x: &Numbers, value: &Value) -> bool
+    ensures { IsTrue result → LeavesValue program.now x.now value.now }
+{
+    match value {
+        Value::Small(_) => true,
+        Value::Large(_) => true,
+        Value::Truth(_) => true,
+        Value::Text(_) => true,
+        Value::Range(_, _) => true,
+        Value::Tuple(parts) => values_leave(program, x, parts.get()),
+        Value::Object(ty, base) => object_leaves(program, x, *ty, *base),
+        Value::Array(_, _, _) => false,
+        Value::Function(closure) => body_leaves(program, x, closure.get()),
+    }
+}
+
+#[cycle(leaves)]
+fn values_leave(program: &Program, x: &Numbers, values: &List<Value>) -> bool
+    ensures { IsTrue result → AllLeaveValues program.now x.now values.now }
+{
+    for value in values.as_slice() {
+        if !value_leaves(program, x, value) {
+            return false;
+        }
+    }
+    true
+}
+
+/// Whether the object of a type at a location is none of a thread, and all its fields are for the
+/// component.
+pub(crate) fn object_leaves(program: &Program, x: &Numbers, ty: TypeId, base: Loc) -> bool
+    ensures { IsTrue result → LeadsToOpen program.now (names x.now) (ground_of program.now x.now)
+        (Value-F.Object ty base) }
+{
+    if ty.0 == x.types.thread.0 {
+        return false;
+    }
+    match program.shapes.get(ty.0 as usize) {
+        None => true,
+        Some(shape) => are_open(program, x, base.0, shape.fields.len()),
+    }
+}
+
+// Whether as many locations from one on are for the component.
+fn are_open(program: &Program, x: &Numbers, from: u64, count: usize) -> bool
+    ensures { IsTrue result → AreOpen (ground_of program.now x.now) from count }
+{
+    for i in 0..count {
+        match from.checked_add(i as u64) {
+            None => return false,
+            Some(location) => {
+                if !is_open(program, x, location) {
+                    return false;
+                }
+            }
+        }
+    }
+    true
+}

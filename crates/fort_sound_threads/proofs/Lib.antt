@@ -1,0 +1,5 @@
+mod Lookups
+mod Calls
+mod Opening
+mod Tables
+pub mod Threaded
