@@ -19,16 +19,17 @@ use Rattle.fort_machine.specs.Calls.{Dispatches}
 use Rattle.fort_machine.specs.Forms.{place_of, field_of}
 use Rattle.fort_machine.specs.Journals.{opening_store, value_in}
 use Rattle.fort_machine.specs.Parts.{IsOneOf}
+use Rattle.fort_machine.specs.Scopes.{is_among}
 use Rattle.fort_threads.specs.Known as threads
 use Rattle.fort_threads_law_servers.specs.Prelude.{Names}
 use Rattle.fort_threads_law_private.specs.Apart.{KeepsApart}
-use Rattle.fort_threads_law_private.specs.Private.{IsSecretSet, IsSecretField}
+use Rattle.fort_threads_law_private.specs.Private.{secret_sets, IsSecretSet, IsSecretField}
 use Rattle.fort_threads_law_tables.specs.Tabled.{HasFields}
 use Rattle.fort_sound_tables.specs.declared.numbers.Numbers.{Numbers}
 use Rattle.fort_sound_tables.specs.Numbers.{names, start, known}
-use Rattle.fort_sound_tables.specs.Leaves.{ground_of, LeavesValue, LeavesBody}
+use Rattle.fort_sound_tables.specs.Leaves.{ground_of, own_sets, LeavesValue, LeavesBody}
 use Rattle.fort_sound_tables.specs.Threads.{LeavesPair, AllStandsApart}
-use Rattle.fort_sound_tables.proofs.Lists.{at_item, equal_is, some_is}
+use Rattle.fort_sound_tables.proofs.Lists.{at_item, equal_is, some_is, one_of}
 
 -- an object of a thread has no other field
 module _ (p : Program) (n : Names) (h : HasFields p n) (f : NameId)
@@ -78,17 +79,33 @@ stands p x (d ∷ es) h l v e = go (d.0.0 == l) e
     go true q = subst (LeavesValue p x) (some_is d.1 v q) h.0
     go false q = stands p x es h.1 l v q
 
+-- a set that isn't the prelude's own, by its number
+spared : (p : Program) (x : Numbers) (set : SetId) → (IsSecretSet (names x) (start x) set → ⊥)
+    → is_among set.0 (own_sets x) ≡ false
+spared p x set spares = go (is_among set.0 (own_sets x)) refl
+  where
+    same : (a b : SetId) → a.0 ≡ b.0 → a ≡ b
+    same a b e = ap (λ (k : ℕ). number k) e
+      where
+        number : ℕ → SetId
+        number k = record { 0 = k }
+
+    go : (b : Bool) → is_among set.0 (own_sets x) ≡ b → is_among set.0 (own_sets x) ≡ false
+    go true q =
+        absurd (spares (one_of (λ (s : SetId). s.0) same set (secret_sets (names x) (start x)) q))
+    go false q = q
+
 pub keeps_apart : (p : Program) (x : Numbers) → HasFields p (names x) → AllStandsApart p x
     → KeepsApart p (names x) (start x) (known x) (ground_of p x)
 keeps_apart p x h a = record {
   bodies = λ set values c d spares r.
       let i = r.most_specific.applicable in
-      at_item _ i.members.decls c (a.sets set.0 set refl spares i.members i.is_set) i.is_member d
-      i.is_decl;
+      at_item _ i.members.decls c
+      (a.sets set.0 (spared p x set spares) i.members i.is_set) i.is_member d i.is_decl;
   fields = λ id s e. (a.shapes id.0 s e).0;
   singles = λ id v e.
       option_and_then_some (object_of id) (slice_get p.shapes id.0) v e
-      (λ s q r. (a.shapes id.0 s q).1 id refl v r);
+      (λ s q r. (a.shapes id.0 s q).1 v r);
   opening = λ l v o e. stands p x p.opening a.opening l v e;
   no_other_field = λ f base spares. no_other p (names x) h f spares base;
 }

@@ -1,5 +1,5 @@
 -- Terms and values that leave the prelude's own names alone, form by form.
-use Rattle.std.proofs.Common.{◌≡◌, ℕ, List, [], ◌∷◌, Some, None, ap, sym, ◌∙◌, subst, ℤ, Bool}
+use Rattle.std.proofs.Common.{◌≡◌, ℕ, List, [], ◌∷◌, Some, None, false, ap, sym, ◌∙◌, subst, ℤ, Bool}
 use Rattle.fort_base.specs.declared.ids.Loc.{Loc}
 use Rattle.fort_base.specs.declared.ids.NameId.{NameId}
 use Rattle.fort_base.specs.declared.ids.SetId.{SetId}
@@ -19,11 +19,13 @@ use Rattle.fort_core.specs.declared.value.Closure.{Closure}
 use Rattle.fort_core.specs.declared.value.Value.{Value, out-Value}
 use Rattle.fort_core.specs.declared.value.Value.TheVariants as value
 use Rattle.fort_core.specs.declared.value.Value.TheVariants.{outs-Small, outs-Large, outs-Truth, outs-Text, outs-Range, outs-Tuple, outs-Object, outs-Function}
+use Rattle.fort_machine.specs.Scopes.{is_among}
 use Rattle.fort_machine.specs.Parts.{in_clauses, terms_in, held_values, values_in, values_of, bodies_of}
-use Rattle.fort_threads_law_private.specs.Private.{IsWithin, SlotIsOpen, KeepsOff, LeadsToOpen, Private, private, AllPrivate, no_terms, one_more, PrivateValue, private_value, AllPrivateValues, no_values, one_more_value}
+use Rattle.fort_threads_law_private.specs.Private.{secret_sets, secret_fields, IsSecretSet, IsSecretField, IsWithin, SlotIsOpen, KeepsOff, LeadsToOpen, Private, private, AllPrivate, no_terms, one_more, PrivateValue, private_value, AllPrivateValues, no_values, one_more_value}
 use Rattle.fort_sound_tables.specs.declared.numbers.Numbers.{Numbers}
 use Rattle.fort_sound_tables.specs.Numbers.{names, start}
-use Rattle.fort_sound_tables.specs.Leaves.{ground_of, Leaves, AllLeave, LeavesValue, AllLeaveValues, IsOwnField, IsOwnSet}
+use Rattle.fort_sound_tables.proofs.Lists.{not_one_of}
+use Rattle.fort_sound_tables.specs.Leaves.{ground_of, Leaves, AllLeave, LeavesValue, AllLeaveValues, own_fields, own_sets}
 
 module _ (p : Program) (x : Numbers) where
   abbrev Spares : Term-F Term Value Closure → Type 0
@@ -34,6 +36,13 @@ module _ (p : Program) (x : Numbers) where
   at t y e o ts vs =
       private (subst Spares (sym e) o) (subst (λ z. AllLeave p x (terms_in z)) (sym e) ts)
       (subst (λ z. AllLeaveValues p x (values_in z)) (sym e) vs)
+
+  no_set : (s : SetId) → is_among s.0 (own_sets x) ≡ false → IsSecretSet (names x) (start x) s → ⊥
+  no_set s e =
+      not_one_of (λ (z : SetId). z.0) s (secret_sets (names x) (start x)) e
+
+  no_field : (f : NameId) → is_among f.0 (own_fields x) ≡ false → IsSecretField (names x) f → ⊥
+  no_field f e = not_one_of (λ (z : NameId). z.0) f (secret_fields (names x)) e
 
   one_leaves : {a : Term} → Leaves p x a → AllLeave p x (a ∷ [])
   one_leaves a = one_more a no_terms
@@ -78,9 +87,9 @@ module _ (p : Program) (x : Numbers) where
       → Leaves p x (term.Write s a)
   write_at s a o h = at (term.Write s a) _ (outs-Write s a) o (one_leaves h) no_values
 
-  pub read_field_at : (a : Term) (f : NameId) → (IsOwnField x f → ⊥) → Leaves p x a
+  pub read_field_at : (a : Term) (f : NameId) → is_among f.0 (own_fields x) ≡ false → Leaves p x a
       → Leaves p x (term.ReadField a f)
-  read_field_at a f o h = at (term.ReadField a f) _ (outs-ReadField a f) o (one_leaves h) no_values
+  read_field_at a f o h = at (term.ReadField a f) _ (outs-ReadField a f) (no_field f o) (one_leaves h) no_values
 
   pub group_at : (ts : List Term) → AllLeave p x ts → Leaves p x (term.Group ts)
   group_at ts h = at (term.Group ts) _ (outs-Group ts) tt h no_values
@@ -88,13 +97,13 @@ module _ (p : Program) (x : Numbers) where
   pub also_at : (ts : List Term) → AllLeave p x ts → Leaves p x (term.Also ts)
   also_at ts h = at (term.Also ts) _ (outs-Also ts) tt h no_values
 
-  pub call_at : (s : SetId) (ts : List Term) → (IsOwnSet x s → ⊥) → AllLeave p x ts
+  pub call_at : (s : SetId) (ts : List Term) → is_among s.0 (own_sets x) ≡ false → AllLeave p x ts
       → Leaves p x (term.Call s ts)
-  call_at s ts o h = at (term.Call s ts) _ (outs-Call s ts) o h no_values
+  call_at s ts o h = at (term.Call s ts) _ (outs-Call s ts) (no_set s o) h no_values
 
-  pub operator_at : (s : SetId) (ts : List Term) → (IsOwnSet x s → ⊥) → AllLeave p x ts
+  pub operator_at : (s : SetId) (ts : List Term) → is_among s.0 (own_sets x) ≡ false → AllLeave p x ts
       → Leaves p x (term.Operator s ts)
-  operator_at s ts o h = at (term.Operator s ts) _ (outs-Operator s ts) o h no_values
+  operator_at s ts o h = at (term.Operator s ts) _ (outs-Operator s ts) (no_set s o) h no_values
 
   -- with two parts
   abbrev Both : Term → Term → Type 0
@@ -116,10 +125,10 @@ module _ (p : Program) (x : Numbers) where
   mutable_at n ty a b h =
       at (term.Mutable n ty a b) _ (outs-Mutable n ty a b) tt (two_leave h.0 h.1) no_values
 
-  pub write_field_at : (a : Term) (f : NameId) (b : Term) → (IsOwnField x f → ⊥) → Both a b
+  pub write_field_at : (a : Term) (f : NameId) (b : Term) → is_among f.0 (own_fields x) ≡ false → Both a b
       → Leaves p x (term.WriteField a f b)
   write_field_at a f b o h =
-      at (term.WriteField a f b) _ (outs-WriteField a f b) o (two_leave h.0 h.1) no_values
+      at (term.WriteField a f b) _ (outs-WriteField a f b) (no_field f o) (two_leave h.0 h.1) no_values
 
   pub read_element_at : (a b : Term) → Both a b → Leaves p x (term.ReadElement a b)
   read_element_at a b h =
@@ -144,10 +153,10 @@ module _ (p : Program) (x : Numbers) where
   for_halves_at a b h =
       at (term.ForHalves a b) _ (outs-ForHalves a b) tt (two_leave h.0 h.1) no_values
 
-  pub reduce_halves_at : (s : SetId) (a b : Term) → (IsOwnSet x s → ⊥) → Both a b
+  pub reduce_halves_at : (s : SetId) (a b : Term) → is_among s.0 (own_sets x) ≡ false → Both a b
       → Leaves p x (term.ReduceHalves s a b)
   reduce_halves_at s a b o h =
-      at (term.ReduceHalves s a b) _ (outs-ReduceHalves s a b) o (two_leave h.0 h.1) no_values
+      at (term.ReduceHalves s a b) _ (outs-ReduceHalves s a b) (no_set s o) (two_leave h.0 h.1) no_values
 
   -- with three
   three_leave : {a b c : Term} → Both a b → Leaves p x c → AllLeave p x (a ∷ b ∷ c ∷ [])
@@ -162,10 +171,10 @@ module _ (p : Program) (x : Numbers) where
   if_at a b c h k = at (term.If a b c) _ (outs-If a b c) tt (three_leave h k) no_values
 
   pub reduce_at : (o : Order) (s : Span) (set : SetId) (a : Term) (n : ℕ) (b c : Term)
-      → s ≡ span.Whole → (IsOwnSet x set → ⊥) → Both a b → Leaves p x c
+      → s ≡ span.Whole → is_among set.0 (own_sets x) ≡ false → Both a b → Leaves p x c
       → Leaves p x (term.Reduce o s set a n b c)
   reduce_at o s set a n b c e f h k =
-      at (term.Reduce o s set a n b c) _ (outs-Reduce o s set a n b c) (whole_within s b e, f)
+      at (term.Reduce o s set a n b c) _ (outs-Reduce o s set a n b c) (whole_within s b e, no_set set f)
       (three_leave h k) no_values
 
   -- with clauses

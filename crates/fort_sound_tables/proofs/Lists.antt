@@ -1,6 +1,8 @@
 -- Of all items of a list.
-use Rattle.std.proofs.Common.{◌≡◌, ℕ, zero, suc, ◌+◌, ◌<◌, ◌==◌, Bool, true, false, if◌then◌else◌, List, [], ◌∷◌, length, drop, get_or, Option, Some, None, refl, ap, sym, ◌∙◌, subst, arith}
-use Rattle.std.specs.Prelude.{Contains, slice_get}
+use Rattle.std.proofs.Common.{map, ◌||◌, ◌⊎◌, inl, inr, rules, ◌≡◌, ℕ, zero, suc, ◌+◌, ◌<◌, ◌==◌, Bool, true, false, if◌then◌else◌, List, [], ◌∷◌, length, drop, get_or, Option, Some, None, refl, ap, sym, ◌∙◌, subst, arith}
+use Rattle.std.specs.Prelude.{Contains}
+use Rattle.fort_machine.specs.Parts.{IsOneOf}
+use Rattle.fort_machine.specs.Scopes.{is_among}
 use Rattle.std.specs.List.{AllByRecursion, slice_index_or}
 use Rattle.std.proofs.lemmas.Bool.Decides.{Decides-eqb}
 
@@ -27,3 +29,33 @@ pub one_more : {A : Type 0} (P : A → Type 0) (xs : List A) (i : ℕ) (x : A) �
 one_more P [] i x l e h rest = absurd (omega arith)
 one_more P (y ∷ xs) zero x l e h rest = (subst P e h, rest)
 one_more P (y ∷ xs) (suc i) x l e h rest = one_more P xs i x (omega arith) e h rest
+
+-- one of a list, by its number
+self_equal : (n : ℕ) → (n == n) ≡ true
+self_equal n = search rules
+
+or_true : (b : Bool) → (b || true) ≡ true
+or_true true = refl
+or_true false = refl
+
+among : {A : Type 0} (f : A → ℕ) (a : A) (xs : List A) → IsOneOf a xs
+    → is_among (f a) (map f xs) ≡ true
+among f a [] i = absurd i
+among f a (y ∷ xs) (inl e) =
+    ap (λ z. f a == f z || is_among (f a) (map f xs)) (sym e)
+    ∙ ap (λ b. b || is_among (f a) (map f xs)) (self_equal (f a))
+among f a (y ∷ xs) (inr i) = ap (λ b. f a == f y || b) (among f a xs i) ∙ or_true (f a == f y)
+
+pub not_one_of : {A : Type 0} (f : A → ℕ) (a : A) (xs : List A)
+    → is_among (f a) (map f xs) ≡ false → IsOneOf a xs → ⊥
+not_one_of f a xs e i = let z : true ≡ false = sym (among f a xs i) ∙ e in cc
+
+pub one_of : {A : Type 0} (f : A → ℕ) → ((a b : A) → f a ≡ f b → a ≡ b) → (a : A) (xs : List A)
+    → is_among (f a) (map f xs) ≡ true → IsOneOf a xs
+one_of f k a [] h = absurd cc
+one_of {A} f k a (y ∷ xs) h = go (f a == f y) refl h
+  where
+    go : (b : Bool) → (f a == f y) ≡ b → (b || is_among (f a) (map f xs)) ≡ true
+        → IsOneOf a (y ∷ xs)
+    go true q z = inl (k a y (equal_is (f a) (f y) q))
+    go false q z = inr (one_of f k a xs z)

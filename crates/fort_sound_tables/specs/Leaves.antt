@@ -1,7 +1,8 @@
 -- Chapter "The machine with threads": on which ground a run of a program begins, and what leaves the
 -- prelude's own names alone there.
-use Rattle.std.specs.Prelude.{ℕ, Bool, not, ◌&&◌, List, [], ◌∷◌, None}
+use Rattle.std.specs.Prelude.{ℕ, Bool, not, ◌&&◌, List, [], ◌∷◌, map, None}
 use Rattle.std.specs.Option.{is_some}
+use Rattle.fort_base.specs.declared.ids.DeclId.{DeclId}
 use Rattle.fort_base.specs.declared.ids.NameId.{NameId}
 use Rattle.fort_base.specs.declared.ids.SetId.{SetId}
 use Rattle.fort_core.specs.declared.program.CoreBody.{CoreBody}
@@ -10,13 +11,14 @@ use Rattle.fort_core.specs.declared.term.Term.{Term}
 use Rattle.fort_core.specs.declared.value.Value.{Value}
 use Rattle.fort_machine.specs.Journals.{opening_store}
 use Rattle.fort_machine.specs.Scopes.{is_among}
+use Rattle.fort_threads.specs.Known as threads
 use Rattle.fort_threads_law_servers.specs.Prelude.{Names}
 use Rattle.fort_threads_law_servers.specs.Roots.{Start}
 use Rattle.fort_threads_law_private.specs.Grounds.{Ground}
 use Rattle.fort_threads_law_private.specs.Apart.{IsPrivateBody}
-use Rattle.fort_threads_law_private.specs.Private.{IsSecretSet, IsSecretField, Private, AllPrivate, PrivateValue, AllPrivateValues}
+use Rattle.fort_threads_law_private.specs.Private.{secret_sets, secret_fields, Private, AllPrivate, PrivateValue, AllPrivateValues}
 use Rattle.fort_sound_tables.specs.declared.numbers.Numbers.{Numbers}
-use Rattle.fort_sound_tables.specs.Numbers.{names, start}
+use Rattle.fort_sound_tables.specs.Numbers.{names, start, known}
 
 -- The locations of the prelude's four variables.
 abbrev pub variables : Names → Start → List ℕ
@@ -48,8 +50,13 @@ AllLeaveValues p x vs = AllPrivateValues p (names x) (start x) (ground_of p x) v
 abbrev pub LeavesBody : Program → Numbers → CoreBody → Type 0
 LeavesBody p x b = IsPrivateBody p (names x) (start x) (ground_of p x) b
 
-abbrev pub IsOwnSet : Numbers → SetId → Type 0
-IsOwnSet x set = IsSecretSet (names x) (start x) set
+-- The numbers of the sets that the prelude alone calls, of the fields that it alone uses, and of the
+-- declarations whose calls are steps of threads.
+abbrev pub own_sets : Numbers → List ℕ
+own_sets x = map (λ (s : SetId). s.0) (secret_sets (names x) (start x))
 
-abbrev pub IsOwnField : Numbers → NameId → Type 0
-IsOwnField x f = IsSecretField (names x) f
+abbrev pub own_fields : Numbers → List ℕ
+own_fields x = map (λ (f : NameId). f.0) (secret_fields (names x))
+
+abbrev pub known_decls : Numbers → List ℕ
+known_decls x = map (λ (d : DeclId). d.0) (threads.known (known x))

@@ -27,6 +27,7 @@ use Rattle.fort_machine.specs.Ends.{is_thrown}
 use Rattle.fort_machine.specs.Journals.{opening_store}
 use Rattle.fort_machine.specs.Marked.{Bare}
 use Rattle.fort_machine.specs.Parts.{IsOneOf}
+use Rattle.fort_machine.specs.Scopes.{is_among}
 use Rattle.fort_threads.specs.Known.{Known}
 use Rattle.fort_threads.specs.Known as threads
 use Rattle.fort_threads_law_servers.specs.Prelude.{Names, taking, serving}
@@ -40,7 +41,7 @@ use Rattle.fort_sound_tables.specs.declared.numbers.Numbers.{Numbers}
 use Rattle.fort_sound_tables.specs.declared.numbers.Places.{Places}
 use Rattle.fort_sound_tables.specs.Numbers.{names, start, known, own}
 use Rattle.fort_sound_tables.specs.Declared.{TakesText}
-use Rattle.fort_sound_tables.specs.Leaves.{ground, Leaves, AllLeaveValues, LeavesValue, LeavesBody, IsOwnSet}
+use Rattle.fort_sound_tables.specs.Leaves.{ground, Leaves, AllLeaveValues, LeavesValue, LeavesBody, own_sets}
 
 -- How a run of a program begins: with the call of `run`, which leads to the prelude's; its variables
 -- stand at their opening values; and `val` is the prelude's.
@@ -201,14 +202,14 @@ LeavesMember p x d = (declared : CoreDecl) → slice_get p.decls d.0 ≡ Some de
     → IsOneOf d (threads.known (known x)) ⊎ LeavesBody p x declared.body
 
 abbrev pub LeavesSet : Program → Numbers → ℕ → Type 0
-LeavesSet p x i = (set : SetId) → set.0 ≡ i → (IsOwnSet x set → ⊥) → (members : CoreSet)
+LeavesSet p x i = is_among i (own_sets x) ≡ false → (members : CoreSet)
     → slice_get p.sets i ≡ Some members → AllByRecursion (LeavesMember p x) members.decls
 
 -- A type's constants and its single object leave them alone.
 abbrev pub LeavesShape : Program → Numbers → ℕ → Type 0
 LeavesShape p x i = (s : CoreShape) → slice_get p.shapes i ≡ Some s
     → AllLeaveValues p x (constants s)
-    × ((id : TypeId) → id.0 ≡ i → (v : Value) → object_of id s ≡ Some v → LeavesValue p x v)
+    × ((v : Value) → object_of (record { 0 = i }) s ≡ Some v → LeavesValue p x v)
 
 abbrev pub LeavesField : Program → Numbers → CoreField → Type 0
 LeavesField p x f = (v : Value) → f.initial ≡ Some v → LeavesValue p x v

@@ -1,24 +1,20 @@
 //! Whether a program keeps the prelude's own names to the prelude.
-ghost use Rattle.std.specs.Prelude.{◌≡◌, ℕ, List as Seq, IsTrue, slice_get, Some};
+ghost use Rattle.std.specs.Prelude.{◌≡◌, ℕ, IsTrue, Some};
 ghost use Rattle.std.specs.List.{AllByRecursion};
-ghost use Rattle.fort_base.specs.declared.ids.TypeId.{TypeId as ATypeId};
 ghost use Rattle.fort_core.specs.declared.value.Value.{Value as AValue};
 ghost use Rattle.fort_machine.specs.Acts.{object_of};
-ghost use Rattle.fort_machine.specs.Calls.{constants};
-ghost use Rattle.fort_machine.specs.Parts.{IsOneOf};
-ghost use Rattle.fort_threads.specs.Known as threads;
-ghost use Rattle.fort_sound_tables.specs.Leaves.{AllLeaveValues, LeavesBody, LeavesValue};
-ghost use Rattle.fort_sound_tables.specs.Numbers.{known};
+ghost use Rattle.fort_machine.specs.Scopes.{is_among};
+ghost use Rattle.fort_sound_tables.specs.Leaves.{LeavesBody, LeavesValue, known_decls};
 ghost use Rattle.fort_sound_tables.specs.Threads.{AllStandsApart, LeavesField, LeavesMember, LeavesPair, LeavesSet, LeavesShape};
 
 use crate::leaves::{is_own_set, leaves, object_leaves, value_leaves};
 use crate::numbers::Numbers;
 use fort_base::{DeclId, Loc, SetId, TypeId};
-use fort_core::{CoreBody, CoreField, CoreKind, CoreSet, CoreShape, Program, Value};
+use fort_core::{CoreBody, CoreField, CoreKind, CoreShape, Program, Value};
 
 // Whether a declaration is one whose calls are steps of threads.
 fn is_known(x: &Numbers, number: DeclId) -> bool
-    ensures { IsTrue result → IsOneOf number (threads.known (known x.now)) }
+    ensures { result ≡ is_among number.0 (known_decls x.now) }
 {
     number.0 == x.declarations.run.0
         || number.0 == x.declarations.spawn.0
@@ -62,11 +58,14 @@ fn members_leave(program: &Program, x: &Numbers, members: &[DeclId]) -> bool
     true
 }
 
-// Whether a set is the prelude's own, or all its declarations leave the names alone.
-fn set_leaves(program: &Program, x: &Numbers, at: usize, members: &CoreSet) -> bool
-    requires { slice_get program.now.sets at ≡ Some members.now }
+// Whether a set is the prelude's own, or all its declarations leave the names alone; none past the
+// table does otherwise.
+fn set_leaves(program: &Program, x: &Numbers, at: usize) -> bool
     ensures { IsTrue result → LeavesSet program.now x.now at }
 {
+    let Some(members) = program.sets.get(at) else {
+        return true;
+    };
     match u32::try_from(at) {
         Err(_) => false,
         Ok(number) => {
@@ -78,9 +77,8 @@ fn set_leaves(program: &Program, x: &Numbers, at: usize, members: &CoreSet) -> b
 fn sets_leave(program: &Program, x: &Numbers) -> bool
     ensures { IsTrue result → (i : ℕ) → LeavesSet program.now x.now i }
 {
-    let sets = program.sets.as_slice();
-    for i in 0..sets.len() {
-        if !set_leaves(program, x, i, &sets[i]) {
+    for i in 0..program.sets.len() {
+        if !set_leaves(program, x, i) {
             return false;
         }
     }
@@ -119,10 +117,13 @@ fn single_leaves(program: &Program, x: &Numbers, ty: TypeId, shape: &CoreShape) 
     }
 }
 
-fn shape_leaves(program: &Program, x: &Numbers, at: usize, shape: &CoreShape) -> bool
-    requires { slice_get program.now.shapes at ≡ Some shape.now }
+// Whether a type's constants and its single object leave the names alone.
+fn shape_leaves(program: &Program, x: &Numbers, at: usize) -> bool
     ensures { IsTrue result → LeavesShape program.now x.now at }
 {
+    let Some(shape) = program.shapes.get(at) else {
+        return true;
+    };
     match u32::try_from(at) {
         Err(_) => false,
         Ok(number) => {
@@ -135,9 +136,8 @@ fn shape_leaves(program: &Program, x: &Numbers, at: usize, shape: &CoreShape) ->
 fn shapes_leave(program: &Program, x: &Numbers) -> bool
     ensures { IsTrue result → (i : ℕ) → LeavesShape program.now x.now i }
 {
-    let shapes = program.shapes.as_slice();
-    for i in 0..shapes.len() {
-        if !shape_leaves(program, x, i, &shapes[i]) {
+    for i in 0..program.shapes.len() {
+        if !shape_leaves(program, x, i) {
             return false;
         }
     }

@@ -149,8 +149,8 @@ fn is_primitive(program: &Program, number: DeclId, primitive: Primitive) -> bool
 {
     match program.decls.get(number.0 as usize) {
         None => false,
-        Some(declared) => match declared.body {
-            CoreBody::Primitive(found) => found == primitive,
+        Some(declared) => match &declared.body {
+            CoreBody::Primitive(found) => *found == primitive,
             _ => false,
         },
     }

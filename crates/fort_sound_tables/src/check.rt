@@ -11,7 +11,7 @@ use crate::calls::{
 };
 use crate::forms::{one_type, two_types};
 use crate::leaves::leaves;
-use crate::numbers::{Numbers, Places, numbers};
+use crate::numbers::{Numbers, Places, found_numbers};
 use crate::opening::holds;
 use crate::texts::{
     go_text, main_text, ready_text, run_text, serve_text, spawn_text, take_text, val_text,
@@ -28,7 +28,8 @@ fn runs_prelude(alloc: Global, program: &Program, x: &Numbers) -> Result<bool, M
 {
     let none = List::new(alloc);
     let thread = one_type(alloc, Ty::Named(x.types.thread))?;
-    let (sets, decls) = (&x.sets, &x.declarations);
+    let sets = &x.sets;
+    let decls = &x.declarations;
     if !runs_text(
         program,
         sets.serve,
@@ -112,7 +113,7 @@ fn makes_threads(program: &Program, x: &Numbers) -> bool
 {
     match program.decls.get(x.declarations.make.0 as usize) {
         None => false,
-        Some(made) => match made.body {
+        Some(made) => match &made.body {
             CoreBody::New(ty) => {
                 ty.0 == x.types.thread.0 && has_one(program, x.sets.make, x.declarations.make)
             }
@@ -136,7 +137,8 @@ fn starts_texts(alloc: Global, program: &Program, x: &Numbers) -> Result<bool, M
 {
     let none = List::new(alloc);
     let action = one_action(alloc)?;
-    let (sets, decls) = (&x.sets, &x.declarations);
+    let sets = &x.sets;
+    let decls = &x.declarations;
     if !is_sole(
         program,
         sets.main,
@@ -218,7 +220,7 @@ fn is_no_throw(term: &Term) -> bool
 }
 
 // The body of a declaration.
-fn body_of(program: &Program, x: &Numbers) -> Option<&Term> {
+fn body_of<'a>(program: &'a Program, x: &Numbers) -> Option<&'a Term> {
     match &program.decls.get(x.declarations.own.0 as usize)?.body {
         CoreBody::Plain(body) => Some(body.get()),
         _ => None,
@@ -252,7 +254,7 @@ fn own_body<'a>(alloc: Global, program: &'a Program, x: &Numbers) -> Option<&'a 
 pub fn has_threads(alloc: Global, program: &Program) -> Result<bool, Memory>
     ensures { IfOk result (λ has. IsTrue has → HasThreads program.now) }
 {
-    let Some(x) = numbers(program)? else {
+    let Some(x) = found_numbers(program)? else {
         return Ok(false);
     };
     if own_body(alloc, program, &x).is_none() {

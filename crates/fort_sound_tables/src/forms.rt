@@ -64,7 +64,7 @@ pub(crate) fn nothing(alloc: Global) -> Result<Term, Memory>
 
 /// The value of the variable at a location.
 pub(crate) fn read(l: Loc) -> Term
-    ensures { result ≡ term.TheVariants.Read (slot.Location l) }
+    ensures { result ≡ term.Read (slot.Location l) }
 {
     Term::Read(Slot::Location(l))
 }

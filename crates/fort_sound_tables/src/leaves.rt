@@ -1,12 +1,11 @@
 //! Whether terms and values leave the prelude's own names alone.
-ghost use Rattle.std.specs.Prelude.{◌≡◌, IsTrue, ◌↔◌, []};
-ghost use Rattle.fort_core.specs.declared.form.Slot.{Slot as ASlot};
-ghost use Rattle.fort_core.specs.declared.value.Value.{Object};
+ghost use Rattle.std.specs.Prelude.{◌≡◌, IsTrue, []};
 ghost use Rattle.fort_core.specs.declared.term.Term.TheOpen.{Value-F};
 ghost use Rattle.fort_machine.specs.Parts.{in_clauses};
+ghost use Rattle.fort_machine.specs.Scopes.{is_among};
 ghost use Rattle.fort_threads_law_private.specs.Private.{LeadsToOpen, SlotIsOpen};
 ghost use Rattle.fort_threads_law_private.specs.Grounds.{AreOpen};
-ghost use Rattle.fort_sound_tables.specs.Leaves.{AllLeave, AllLeaveValues, IsOwnField, IsOwnSet, Leaves, LeavesValue, ground_of};
+ghost use Rattle.fort_sound_tables.specs.Leaves.{AllLeave, AllLeaveValues, Leaves, LeavesValue, ground_of, own_fields, own_sets};
 ghost use Rattle.fort_sound_tables.specs.Numbers.{names};
 
 use crate::numbers::Numbers;
@@ -16,7 +15,7 @@ use fort_core::{Closure, Program, Slot, Span, Term, Value};
 
 /// Whether the prelude alone calls a set.
 pub(crate) fn is_own_set(x: &Numbers, set: SetId) -> bool
-    ensures { IsTrue result ↔ IsOwnSet x.now set }
+    ensures { result ≡ is_among set.0 (own_sets x.now) }
 {
     set.0 == x.sets.serve.0
         || set.0 == x.sets.take.0
@@ -27,7 +26,7 @@ pub(crate) fn is_own_set(x: &Numbers, set: SetId) -> bool
 
 // Whether the prelude alone uses a field.
 fn is_own_field(x: &Numbers, field: NameId) -> bool
-    ensures { IsTrue result ↔ IsOwnField x.now field }
+    ensures { result ≡ is_among field.0 (own_fields x.now) }
 {
     field.0 == x.fields.body.0
         || field.0 == x.fields.state.0
@@ -57,6 +56,7 @@ fn is_whole(span: Span) -> bool
 /// Whether a term leaves the prelude's own names alone, by the numbers of a program. It goes down
 /// the term by calls.
 #[cycle(leaves)]
+#[tactic(none)]
 pub(crate) fn leaves(program: &Program, x: &Numbers, term: &Term) -> bool
     ensures { IsTrue result → Leaves program.now x.now term.now }
 {
@@ -83,6 +83,7 @@ pub(crate) fn leaves(program: &Program, x: &Numbers, term: &Term) -> bool
 
 // The same of a form with two parts and more.
 #[cycle(leaves)]
+#[tactic(none)]
 fn two_leave(program: &Program, x: &Numbers, term: &Term) -> bool
     ensures { IsTrue result → Leaves program.now x.now term.now }
 {
@@ -122,6 +123,7 @@ fn two_leave(program: &Program, x: &Numbers, term: &Term) -> bool
 }
 
 #[cycle(leaves)]
+#[tactic(none)]
 fn both_leave(program: &Program, x: &Numbers, a: &Shared<Term>, b: &Shared<Term>) -> bool
     ensures { IsTrue result → Leaves program.now x.now a.now × Leaves program.now x.now b.now }
 {
@@ -129,6 +131,7 @@ fn both_leave(program: &Program, x: &Numbers, a: &Shared<Term>, b: &Shared<Term>
 }
 
 #[cycle(leaves)]
+#[tactic(none)]
 fn all_leave(program: &Program, x: &Numbers, terms: &List<Shared<Term>>) -> bool
     ensures { IsTrue result → AllLeave program.now x.now terms.now }
 {
@@ -141,6 +144,7 @@ fn all_leave(program: &Program, x: &Numbers, terms: &List<Shared<Term>>) -> bool
 }
 
 #[cycle(leaves)]
+#[tactic(none)]
 fn clauses_leave(program: &Program, x: &Numbers, clauses: &List<(Shared<Term>, Shared<Ty>)>) -> bool
     ensures { IsTrue result → AllLeave program.now x.now (in_clauses clauses.now) }
 {
@@ -154,6 +158,7 @@ fn clauses_leave(program: &Program, x: &Numbers, clauses: &List<(Shared<Term>, S
 
 // A function leaves them alone where it holds nothing, and its body does.
 #[cycle(leaves)]
+#[tactic(none)]
 fn body_leaves(program: &Program, x: &Numbers, closure: &Closure) -> bool
     ensures held { IsTrue result → closure.now.held ≡ [] }
     ensures body { IsTrue result → Leaves program.now x.now closure.now.body }
@@ -163,6 +168,7 @@ fn body_leaves(program: &Program, x: &Numbers, closure: &Closure) -> bool
 
 /// Whether a value leaves the prelude's own names alone.
 #[cycle(leaves)]
+#[tactic(none)]
 pub(crate) fn value_leaves(program: &Program, x: &Numbers, value: &Value) -> bool
     ensures { IsTrue result → LeavesValue program.now x.now value.now }
 {
@@ -180,6 +186,7 @@ pub(crate) fn value_leaves(program: &Program, x: &Numbers, value: &Value) -> boo
 }
 
 #[cycle(leaves)]
+#[tactic(none)]
 fn values_leave(program: &Program, x: &Numbers, values: &List<Value>) -> bool
     ensures { IsTrue result → AllLeaveValues program.now x.now values.now }
 {

@@ -86,15 +86,18 @@ const THREAD: TypeId = TypeId(19);
 /// The numbers of a program with the prelude: built-in sets stand first, then the prelude's in
 /// their order, and its variables stand at the first locations. `None` where the tables have no
 /// such declarations.
-pub(crate) fn numbers(program: &Program) -> Result<Option<Numbers>, Memory> {
-    let (Some(fields), Some(places)) = (fields(program), places(program)) else {
+pub(crate) fn found_numbers(program: &Program) -> Result<Option<Numbers>, Memory> {
+    let Some(fields) = fields_of(program) else {
+        return Ok(None);
+    };
+    let Some(places) = places_of(program) else {
         return Ok(None);
     };
     let Some((function, own)) = passed(program)? else {
         return Ok(None);
     };
-    let sets = sets(own);
-    let Some(declarations) = declarations(program, &sets) else {
+    let sets = sets_with(own);
+    let Some(declarations) = declarations_of(program, &sets) else {
         return Ok(None);
     };
     Ok(Some(Numbers {
@@ -111,7 +114,7 @@ pub(crate) fn numbers(program: &Program) -> Result<Option<Numbers>, Memory> {
     }))
 }
 
-fn sets(own: SetId) -> Sets {
+fn sets_with(own: SetId) -> Sets {
     Sets {
         plus: SetId(0),
         minus: SetId(1),
@@ -138,7 +141,7 @@ const SPAWN: SetId = SetId(41);
 
 const RUN: SetId = SetId(46);
 
-fn declarations(program: &Program, sets: &Sets) -> Option<Declarations> {
+fn declarations_of(program: &Program, sets: &Sets) -> Option<Declarations> {
     Some(Declarations {
         serve: written(program, sets.serve)?,
         take: written(program, sets.take)?,
@@ -180,7 +183,7 @@ fn body_of(program: &Program, number: DeclId) -> Option<&Term> {
 }
 
 // The names of the fields of `Thread'`.
-fn fields(program: &Program) -> Option<Fields> {
+fn fields_of(program: &Program) -> Option<Fields> {
     match program.shapes.get(THREAD.0 as usize)?.fields.as_slice() {
         [body, state, value, next] => Some(Fields {
             body: body.name,
@@ -192,7 +195,7 @@ fn fields(program: &Program) -> Option<Fields> {
     }
 }
 
-fn places(program: &Program) -> Option<Places> {
+fn places_of(program: &Program) -> Option<Places> {
     match program.shapes.get(REFUSAL.0 as usize)?.kind {
         CoreKind::Single(refusal) => Some(Places {
             queue: Loc(0),

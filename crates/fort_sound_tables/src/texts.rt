@@ -56,7 +56,7 @@ pub(crate) fn val_text(alloc: Global, x: &Numbers) -> Result<Term, Memory>
 // `x += 1` of a variable at the top.
 fn raise(alloc: Global, plus: SetId, x: Loc) -> Result<Term, Memory>
     ensures { IfOk result (λ t. t ≡ term.Write (slot.Location x)
-        (term.Operator plus (term.TheVariants.Read (slot.Location x) ∷ term.Value (Small (pos 1)) ∷ []))) }
+        (term.Operator plus (term.Read (slot.Location x) ∷ term.Value (Small (pos 1)) ∷ []))) }
 {
     write(alloc, x, operator(alloc, plus, read(x), number(1))?)
 }
