@@ -1,6 +1,8 @@
 pub mod Lists
-pub mod Forms
-pub mod Calls
+pub mod FormsLeave
+pub mod CallsRun
+pub mod Objects
 pub mod Members
-pub mod Apart
+pub mod Rows
+pub mod KeepsApart
 pub mod Whole

@@ -24,7 +24,7 @@ use Rattle.fort_sound_tables.specs.declared.numbers.Numbers.{Numbers}
 use Rattle.fort_sound_tables.specs.Numbers.{known}
 use Rattle.fort_sound_tables.specs.Leaves.{own_sets, known_decls, AllLeaveValues, LeavesValue, LeavesBody}
 use Rattle.fort_sound_tables.specs.Threads.{LeavesField, LeavesMember, LeavesSet, LeavesShape}
-use Rattle.fort_sound_tables.proofs.Calls.{same_decl}
+use Rattle.fort_sound_tables.proofs.CallsRun.{same_decl}
 use Rattle.fort_sound_tables.proofs.Lists.{one_of, some_is}
 
 module _ (p : Program) (x : Numbers) where

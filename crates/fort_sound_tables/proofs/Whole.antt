@@ -1,14 +1,15 @@
 -- All parts together.
 use Rattle.std.proofs.Common.{◌≡◌, refl}
+use Rattle.fort_base.specs.declared.ty.Ty.{Arrow}
+use Rattle.fort_base.specs.declared.ty.Ty.TheVariants.{Any}
 use Rattle.fort_core.specs.declared.program.Program.{Program}
 use Rattle.fort_core.specs.declared.term.Term.{Term}
 use Rattle.fort_machine.specs.Marked.{Bare}
 use Rattle.fort_threads_law_tables.specs.Tabled.{Tabled, TabledAround, HasText}
 use Rattle.fort_sound_tables.specs.declared.numbers.Numbers.{Numbers}
 use Rattle.fort_sound_tables.specs.Numbers.{names, start, known, own}
-use Rattle.fort_sound_tables.specs.Threads as threads
-use Rattle.fort_sound_tables.specs.Threads.{HasThreads, RunsPrelude, RunsNumbers, TakesTexts, StartsTexts, StandTypes, StandPlaces, CallsOwn, RunsOwn, AllStandsApart}
-use Rattle.fort_sound_tables.proofs.Apart.{keeps_apart}
+use Rattle.fort_sound_tables.specs.Threads.{nothing_type, HasThreads, RunsPrelude, RunsNumbers, TakesTexts, StartsTexts, StandTypes, StandPlaces, CallsOwn, RunsOwn, AllStandsApart}
+use Rattle.fort_sound_tables.proofs.KeepsApart.{keeps_apart}
 
 module _ (p : Program) (x : Numbers) (t : Term) (a : RunsPrelude p x) (b : RunsNumbers p x)
     (c : TakesTexts p x) (d : StartsTexts p x) (e : StandTypes p x) (f : StandPlaces p x)
@@ -49,7 +50,7 @@ module _ (p : Program) (x : Numbers) (t : Term) (a : RunsPrelude p x) (b : RunsN
     too_many = refl;
     is_single = (x.types.refusal, e.single);
     spawn = record { declared = c.spawn.declared; is_decl = c.spawn.is_decl; text = c.spawn.text };
-    takes_one = _;
+    takes_one = Arrow nothing_type Any;
     spawn_takes = c.spawn.takes;
     wait = record { declared = c.wait.declared; is_decl = c.wait.is_decl; text = c.wait.text };
     wait_takes = c.wait.takes;
@@ -83,10 +84,10 @@ module _ (p : Program) (x : Numbers) (t : Term) (a : RunsPrelude p x) (b : RunsN
 
   pub whole : HasThreads p
   whole = record {
-    names = names x;
-    start = start x;
-    own = own x t;
-    known = known x;
+    called = names x;
+    begun = start x;
+    owned = own x t;
+    shared = known x;
     tabled = tabled;
     own_text = own_text;
     around = around;

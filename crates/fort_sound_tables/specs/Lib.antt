@@ -1,4 +1,4 @@
 pub mod Numbers
-pub mod Declared
+pub mod Lookups
 pub mod Leaves
 pub mod Threads

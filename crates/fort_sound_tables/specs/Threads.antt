@@ -40,7 +40,7 @@ use Rattle.fort_threads_law_tables.specs.Texts.{wait_text, ready_text, val_text,
 use Rattle.fort_sound_tables.specs.declared.numbers.Numbers.{Numbers}
 use Rattle.fort_sound_tables.specs.declared.numbers.Places.{Places}
 use Rattle.fort_sound_tables.specs.Numbers.{names, start, known, own}
-use Rattle.fort_sound_tables.specs.Declared.{TakesText}
+use Rattle.fort_sound_tables.specs.Lookups.{TakesText}
 use Rattle.fort_sound_tables.specs.Leaves.{ground, Leaves, AllLeaveValues, LeavesValue, LeavesBody, own_sets}
 
 -- How a run of a program begins: with the call of `run`, which leads to the prelude's; its variables
@@ -90,22 +90,22 @@ pub record IsFunction (v : Value) : Type 0 where
 -- A program has the prelude, by some numbers, and keeps the prelude's own names to it: all that the
 -- laws on runs with threads take of a program, but that it is sound, complete and as it is written.
 pub record HasThreads (p : Program) : Type 0 where
-  pub names : Names
-  pub start : Start
-  pub own : Own
-  pub known : Known
-  pub tabled : Tabled p names
-  pub own_text : HasText p known.own_run own.text
-  pub around : Bare own.text → TabledAround p names start own known
-  pub exception : HasException p names
-  pub differs : RunsDiffers p names.differs
-  pub main : GivesNothing p start.main
-  pub own_run : GivesNothing p own.set
-  pub function : IsFunction start.own
-  pub apart : KeepsApart p names start known (ground p names start)
-  pub leaves : Private p names start (ground p names start) own.body
-  pub is_open : is_thrown own.body ≡ false
-  pub begins : Begins p names start known
+  pub called : Names
+  pub begun : Start
+  pub owned : Own
+  pub shared : Known
+  pub tabled : Tabled p called
+  pub own_text : HasText p shared.own_run owned.text
+  pub around : Bare owned.text → TabledAround p called begun owned shared
+  pub exception : HasException p called
+  pub differs : RunsDiffers p called.differs
+  pub main : GivesNothing p begun.main
+  pub own_run : GivesNothing p owned.set
+  pub function : IsFunction begun.own
+  pub apart : KeepsApart p called begun shared (ground p called begun)
+  pub leaves : Private p called begun (ground p called begun) owned.body
+  pub is_open : is_thrown owned.body ≡ false
+  pub begins : Begins p called begun shared
 
 -- The parts of this, by the numbers that were found. `serve'`, `take'`, `go'` and `wait` are what
 -- their calls run.

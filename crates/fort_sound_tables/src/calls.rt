@@ -5,7 +5,7 @@ ghost use Rattle.fort_base.specs.declared.ids.DeclId.{DeclId as ADeclId};
 ghost use Rattle.fort_core.specs.declared.program.CoreBody.TheVariants as body;
 ghost use Rattle.fort_core.specs.declared.program.CoreDecl.{CoreDecl as ADecl};
 ghost use Rattle.fort_threads_law_tables.specs.Tabled.{HasOne, Runs, RunsPrimitive, RunsText, two_small};
-ghost use Rattle.fort_sound_tables.specs.Declared.{GivesWay, TakesText};
+ghost use Rattle.fort_sound_tables.specs.Lookups.{GivesWay, TakesText};
 ghost use Rattle.fort_sound_tables.specs.Threads.{IsSole, RunsDiffers, nothing_type};
 
 use fort_base::{DeclId, List, SetId, Ty};

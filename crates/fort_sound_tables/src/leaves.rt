@@ -56,7 +56,6 @@ fn is_whole(span: Span) -> bool
 /// Whether a term leaves the prelude's own names alone, by the numbers of a program. It goes down
 /// the term by calls.
 #[cycle(leaves)]
-#[tactic(none)]
 pub(crate) fn leaves(program: &Program, x: &Numbers, term: &Term) -> bool
     ensures { IsTrue result → Leaves program.now x.now term.now }
 {
@@ -83,7 +82,6 @@ pub(crate) fn leaves(program: &Program, x: &Numbers, term: &Term) -> bool
 
 // The same of a form with two parts and more.
 #[cycle(leaves)]
-#[tactic(none)]
 fn two_leave(program: &Program, x: &Numbers, term: &Term) -> bool
     ensures { IsTrue result → Leaves program.now x.now term.now }
 {
@@ -123,7 +121,6 @@ fn two_leave(program: &Program, x: &Numbers, term: &Term) -> bool
 }
 
 #[cycle(leaves)]
-#[tactic(none)]
 fn both_leave(program: &Program, x: &Numbers, a: &Shared<Term>, b: &Shared<Term>) -> bool
     ensures { IsTrue result → Leaves program.now x.now a.now × Leaves program.now x.now b.now }
 {
@@ -131,7 +128,6 @@ fn both_leave(program: &Program, x: &Numbers, a: &Shared<Term>, b: &Shared<Term>
 }
 
 #[cycle(leaves)]
-#[tactic(none)]
 fn all_leave(program: &Program, x: &Numbers, terms: &List<Shared<Term>>) -> bool
     ensures { IsTrue result → AllLeave program.now x.now terms.now }
 {
@@ -144,7 +140,6 @@ fn all_leave(program: &Program, x: &Numbers, terms: &List<Shared<Term>>) -> bool
 }
 
 #[cycle(leaves)]
-#[tactic(none)]
 fn clauses_leave(program: &Program, x: &Numbers, clauses: &List<(Shared<Term>, Shared<Ty>)>) -> bool
     ensures { IsTrue result → AllLeave program.now x.now (in_clauses clauses.now) }
 {
@@ -158,7 +153,6 @@ fn clauses_leave(program: &Program, x: &Numbers, clauses: &List<(Shared<Term>, S
 
 // A function leaves them alone where it holds nothing, and its body does.
 #[cycle(leaves)]
-#[tactic(none)]
 fn body_leaves(program: &Program, x: &Numbers, closure: &Closure) -> bool
     ensures held { IsTrue result → closure.now.held ≡ [] }
     ensures body { IsTrue result → Leaves program.now x.now closure.now.body }
@@ -168,7 +162,6 @@ fn body_leaves(program: &Program, x: &Numbers, closure: &Closure) -> bool
 
 /// Whether a value leaves the prelude's own names alone.
 #[cycle(leaves)]
-#[tactic(none)]
 pub(crate) fn value_leaves(program: &Program, x: &Numbers, value: &Value) -> bool
     ensures { IsTrue result → LeavesValue program.now x.now value.now }
 {
@@ -186,7 +179,6 @@ pub(crate) fn value_leaves(program: &Program, x: &Numbers, value: &Value) -> boo
 }
 
 #[cycle(leaves)]
-#[tactic(none)]
 fn values_leave(program: &Program, x: &Numbers, values: &List<Value>) -> bool
     ensures { IsTrue result → AllLeaveValues program.now x.now values.now }
 {

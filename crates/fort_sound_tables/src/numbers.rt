@@ -4,7 +4,7 @@ use fort_base::{DeclId, Loc, Memory, NameId, SetId, TypeId};
 use fort_core::{CoreBody, CoreDecl, CoreKind, Program, Term, Value};
 
 /// The sets of what the prelude declares and calls, and of the component's own `run`.
-#[derive(Clone, Copy, Debug, PartialEq, Eq)]
+#[derive(Clone, Copy)]
 pub(crate) struct Sets {
     pub serve: SetId,
     pub take: SetId,
@@ -25,7 +25,7 @@ pub(crate) struct Sets {
 }
 
 /// The prelude's declarations, and the component's own `run`.
-#[derive(Clone, Copy, Debug, PartialEq, Eq)]
+#[derive(Clone, Copy)]
 pub(crate) struct Declarations {
     pub serve: DeclId,
     pub take: DeclId,
@@ -41,7 +41,7 @@ pub(crate) struct Declarations {
 }
 
 /// The fields of `Thread'`.
-#[derive(Clone, Copy, Debug, PartialEq, Eq)]
+#[derive(Clone, Copy)]
 pub(crate) struct Fields {
     pub body: NameId,
     pub state: NameId,
@@ -50,7 +50,7 @@ pub(crate) struct Fields {
 }
 
 /// Where the prelude's variables stand, and the object `TooManyThreads`.
-#[derive(Clone, Copy, Debug, PartialEq, Eq)]
+#[derive(Clone, Copy)]
 pub(crate) struct Places {
     pub queue: Loc,
     pub unended: Loc,
@@ -60,7 +60,7 @@ pub(crate) struct Places {
 }
 
 /// The types `TooManyThreads` and `Thread'`.
-#[derive(Clone, Copy, Debug, PartialEq, Eq)]
+#[derive(Clone, Copy)]
 pub(crate) struct Types {
     pub refusal: TypeId,
     pub thread: TypeId,

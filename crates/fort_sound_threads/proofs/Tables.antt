@@ -30,11 +30,11 @@ differ a b h e =
     let z : (b.0 == b.0) ≡ false = ap (λ (x : TypeId). x.0 == b.0) (sym e) ∙ h in
     let w : true ≡ false = sym (self_equal b.0) ∙ z in cc
 
-pub tables : (p : Program) (h : HasThreads p) → Tables p h.names h.start h.own
+pub tables : (p : Program) (h : HasThreads p) → Tables p h.called h.begun h.owned
 tables p h = record {
   exception = h.exception.exception;
   itself = h.exception.itself;
-  other = differ h.names.thread p.built_in.exception h.exception.other;
+  other = differ h.called.thread p.built_in.exception h.exception.other;
   apart = h.exception.apart;
   differs = record {
     number = h.differs.runs.number;
@@ -49,8 +49,8 @@ tables p h = record {
     takes = h.differs.takes;
     gives = h.differs.gives;
   };
-  main = gives p h.start.main h.main;
-  own = gives p h.own.set h.own_run;
+  main = gives p h.begun.main h.main;
+  own = gives p h.owned.set h.own_run;
   function = h.function.function;
   is_function = h.function.is_function;
   gives_unit = h.function.gives;

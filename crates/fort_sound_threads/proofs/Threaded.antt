@@ -45,20 +45,20 @@ pub record Laws : Type 0 where
   pub run : EachRunIsThreaded
 
 module _ (w : Laws) (p : Program) (sound : Sound p) (all : Complete p) (h : HasThreads p) where
-  own_bare : Bare h.own.text
+  own_bare : Bare h.owned.text
   own_bare =
-      w.bare h.own.text
-      (body_written p all.written h.known.own_run h.own_text.declared h.own.text h.own_text.is_decl
+      w.bare h.owned.text
+      (body_written p all.written h.shared.own_run h.own_text.declared h.owned.text h.own_text.is_decl
       h.own_text.text)
 
-  around : TabledAround p h.names h.start h.own h.known
+  around : TabledAround p h.called h.begun h.owned h.shared
   around = h.around own_bare
 
-  has_prelude : HasPrelude p h.names × Counts p h.names
-  has_prelude = w.prelude p h.names h.tabled
+  has_prelude : HasPrelude p h.called × Counts p h.called
+  has_prelude = w.prelude p h.called h.tabled
 
-  same : AreSame p h.names h.start h.own h.known
-  same = w.same p h.names h.start h.own h.known h.tabled around
+  same : AreSame p h.called h.begun h.owned h.shared
+  same = w.same p h.called h.begun h.owned h.shared h.tabled around
 
   -- an object of a thread has its type
   named_below : (a b : Ty) → relation p.types.below a true b
@@ -69,18 +69,18 @@ module _ (w : Laws) (p : Program) (sound : Sound p) (all : Complete p) (h : HasT
       (fold_out-Ty Relation (λ layer up b. below_at p.types.below layer up (out-Ty b)) a)
 
   abbrev X : Ty
-  X = Named h.names.thread
+  X = Named h.called.thread
 
-  is_object : (l : ℕ) → has_type p (object_of h.names l) (Named h.names.thread) ≡ true
+  is_object : (l : ℕ) → has_type p (object_of h.called l) (Named h.called.thread) ≡ true
   is_object l =
-      ap (λ t. below p t X) (object_is p h.names.thread (location l)) ∙ named_below X X
+      ap (λ t. below p t X) (object_is p h.called.thread (location l)) ∙ named_below X X
       ∙ ap (λ z. below_at p.types.below (map-Ty Ty Relation (relation p.types.below) z) true
-      (out-Ty X)) (outs-Named h.names.thread)
-      ∙ ap (λ z. below_at p.types.below (Ty-F.Named h.names.thread) true z)
-      (outs-Named h.names.thread)
+      (out-Ty X)) (outs-Named h.called.thread)
+      ∙ ap (λ z. below_at p.types.below (Ty-F.Named h.called.thread) true z)
+      (outs-Named h.called.thread)
       ∙ h.tabled.stands.itself
 
-  threaded_is : IsThreaded p h.names h.start h.own h.known (ground p h.names h.start)
+  threaded_is : IsThreaded p h.called h.begun h.owned h.shared (ground p h.called h.begun)
   threaded_is = record {
     written = all.written;
     prelude = has_prelude.0;
@@ -89,55 +89,55 @@ module _ (w : Laws) (p : Program) (sound : Sound p) (all : Complete p) (h : HasT
     apart = h.apart;
     own = h.leaves;
     own_open = h.is_open;
-    throws = w.finely p h.names h.start h.own sound all (tables p h);
+    throws = w.finely p h.called h.begun h.owned sound all (tables p h);
     are_objects = is_object;
   }
 
   -- `val` is the prelude's
   gets_last : (l : ℕ)
-      → LeadsTo p h.names.val (object_of h.names l ∷ [])
-      (getting h.names l (Call h.names.wait (term.Value (object_of h.names l) ∷ [])))
+      → LeadsTo p h.called.val (object_of h.called l ∷ [])
+      (getting h.called l (Call h.called.wait (term.Value (object_of h.called l) ∷ [])))
   gets_last l c d r =
-      let q = runs_one p h.names.val _ h.known.val h.begins.gets (object_of h.names l ∷ [])
-      (objects_are p h.names l) h.begins.val c d r in
+      let q = runs_one p h.called.val _ h.shared.val h.begins.gets (object_of h.called l ∷ [])
+      (objects_are p h.called l) h.begins.val c d r in
       let b = same.gets l in
       let e : d ≡ b.declared =
       q.1 ∙ some_is h.begins.gets b.declared (sym h.begins.val.is_decl ∙ b.is_declared) in (
         b.text,
-        ap (λ (y : CoreDecl). by_body p y.body (object_of h.names l ∷ [])) e ∙ b.is_body,
+        ap (λ (y : CoreDecl). by_body p y.body (object_of h.called l ∷ [])) e ∙ b.is_body,
       )
 
-  runs_first : (c : DeclId) (d : CoreDecl) → Dispatches p h.start.run [] c d → c ≡ h.known.run
+  runs_first : (c : DeclId) (d : CoreDecl) → Dispatches p h.begun.run [] c d → c ≡ h.shared.run
   runs_first c d r =
-      (one_runs p h.start.run h.known.run h.begins.declared h.begins.run [] c d r).0
+      (one_runs p h.begun.run h.shared.run h.begins.declared h.begins.run [] c d r).0
 
-  beginning : IsBeginning p h.names h.start h.known (ground p h.names h.start)
+  beginning : IsBeginning p h.called h.begun h.shared (ground p h.called h.begun)
   beginning = record {
     queue = h.begins.queue;
     unended = (Small (pos 0), h.begins.unended);
     count = h.begins.count;
-    is_open = open_or_not p h.names h.start;
-    open_there = open_stands p h.names h.start;
-    shut = variables_shut p h.names h.start;
+    is_open = open_or_not p h.called h.begun;
+    open_there = open_stands p h.called h.begun;
+    shut = variables_shut p h.called h.begun;
     no_object = λ l. refl;
     runs_first = runs_first;
     gets_last = gets_last;
-    exceptions = w.exceptions p h.names h.start h.own sound all (tables p h);
+    exceptions = w.exceptions p h.called h.begun h.owned sound all (tables p h);
   }
 
-  starts : Starts p h.names h.start
+  starts : Starts p h.called h.begun
   starts = record {
     is_first = h.begins.first;
     runs_main = λ c d r.
-        (same.runs_main h.start.run [] d
-        (subst (λ (x : DeclId). Dispatches p h.start.run [] x d) (runs_first c d r) r)).1;
+        (same.runs_main h.begun.run [] d
+        (subst (λ (x : DeclId). Dispatches p h.begun.run [] x d) (runs_first c d r) r)).1;
     is_main = same.is_main;
     not_started = h.begins.started;
   }
 
 pub threaded : Laws → SoundRunsAreThreaded
 threaded w p sound all h = (
-  h.known,
-  w.run p h.names h.start h.own h.known (ground p h.names h.start) (threaded_is w p sound all h)
+  h.shared,
+  w.run p h.called h.begun h.owned h.shared (ground p h.called h.begun) (threaded_is w p sound all h)
       (beginning w p sound all h) (starts w p sound all h),
 )

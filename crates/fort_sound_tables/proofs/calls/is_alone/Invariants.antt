@@ -1,6 +1,6 @@
 use Rattle.std.proofs.Common.{drop}
 use Rattle.std.specs.List.{AllByRecursion}
-use Rattle.fort_sound_tables.specs.Declared.{GivesWay}
+use Rattle.fort_sound_tables.specs.Lookups.{GivesWay}
 use Rattle.fort_sound_tables.proofs.calls.is_alone.Given as goal
 
 abbrev pub invariant-loop-member : goal.invariant-loop-member

@@ -16,7 +16,7 @@ use Rattle.fort_core.specs.declared.program.Program.{Program}
 use Rattle.fort_core.specs.declared.term.Term.{Term}
 use Rattle.fort_machine.specs.Types.{all_below}
 use Rattle.fort_threads_law_tables.specs.Tabled.{HasOne, Runs, RunsPrimitive, RunsText, two_small}
-use Rattle.fort_sound_tables.specs.Declared.{GivesWay, TakesText}
+use Rattle.fort_sound_tables.specs.Lookups.{GivesWay, TakesText}
 use Rattle.fort_sound_tables.specs.Threads.{IsSole, RunsDiffers, nothing_type}
 use Rattle.fort_sound_tables.proofs.Lists.{some_is, at_item}
 
@@ -123,3 +123,23 @@ sole_by p set d types t h one gives = record {
   gives = gives h.declared h.is_decl;
   text = h.text;
 }
+
+-- the same for equal types and terms
+pub runs_as : (p : Program) (set : SetId) (ts us : List Ty) (t u : Term) → ts ≡ us → t ≡ u
+    → RunsText p set ts t → RunsText p set us u
+runs_as p set ts us t u e f r =
+    subst (λ s. RunsText p set us s) f (subst (λ ws. RunsText p set ws t) e r)
+
+pub takes_as : (p : Program) (d : DeclId) (ts us : List Ty) (t u : Term) → ts ≡ us → t ≡ u
+    → TakesText p d ts t → TakesText p d us u
+takes_as p d ts us t u e f r =
+    subst (λ s. TakesText p d us s) f (subst (λ ws. TakesText p d ws t) e r)
+
+pub sole_as : (p : Program) (set : SetId) (d : DeclId) (ts us : List Ty) (t u : Term) → ts ≡ us
+    → t ≡ u → IsSole p set d ts t → IsSole p set d us u
+sole_as p set d ts us t u e f r =
+    subst (λ s. IsSole p set d us s) f (subst (λ ws. IsSole p set d ws t) e r)
+
+pub primitive_as : (p : Program) (set : SetId) (ts us : List Ty) (f : Primitive) → ts ≡ us
+    → RunsPrimitive p set ts f → RunsPrimitive p set us f
+primitive_as p set ts us f e r = subst (λ ws. RunsPrimitive p set ws f) e r

@@ -1,0 +1,262 @@
+use Rattle.std.proofs.Common.{◌≡◌, [], drop, add-one, sym, ◌∙◌, subst}
+use Rattle.fort_core.specs.declared.value.Closure.{Closure}
+use Rattle.fort_machine.specs.Parts.{in_clauses}
+use Rattle.fort_sound_tables.specs.Leaves.{AllLeave, AllLeaveValues, Leaves}
+use Rattle.fort_sound_tables.proofs.FormsLeave.{terms_more, clauses_more, values_more, also_at, apply_at, as_is, as_value, atomic_at, call_at, fill_at, for_at, for_halves_at, function_at, function_value_at, group_at, if_at, large_at, let_at, mutable_at, object_at, operator_at, range_at, read_at, read_element_at, read_field_at, reduce_at, reduce_halves_at, size_at, small_at, stepped_at, text_at, then_at, throw_at, truth_at, try_at, try_last_at, tuple_at, typecase_at, value_at, variable_at, while_at, write_at, write_element_at, write_field_at}
+use Rattle.fort_sound_tables.proofs.leaves.+leaves.Goals as goal
+
+pub leaves-returns-in-Value : goal.leaves-returns-in-Value
+leaves-returns-in-Value t c ok =
+    as_is c.args.program.now c.args.x.now _ _ c.in-Value.is
+    (value_at c.args.program.now c.args.x.now c.in-Value.value (c.value_leaves.ensures ok))
+
+pub leaves-returns-in-Variable : goal.leaves-returns-in-Variable
+leaves-returns-in-Variable t c ok =
+    as_is c.args.program.now c.args.x.now _ _ c.in-Variable.is
+    (variable_at c.args.program.now c.args.x.now _)
+
+pub leaves-returns-in-Read : goal.leaves-returns-in-Read
+leaves-returns-in-Read t c ok =
+    as_is c.args.program.now c.args.x.now _ _ c.in-Read.is
+    (read_at c.args.program.now c.args.x.now _ (c.slot_is_open.ensures ok))
+
+pub leaves-returns-in-Fn : goal.leaves-returns-in-Fn
+leaves-returns-in-Fn t c ok =
+    as_is c.args.program.now c.args.x.now _ _ c.in-Fn.is
+    (function_at c.args.program.now c.args.x.now _
+    (subst (λ (z : Closure). z.held ≡ []) c.get.ensures (c.body_leaves.ensures.held ok))
+    (subst (λ (z : Closure). Leaves c.args.program.now c.args.x.now z.body) c.get.ensures (c.body_leaves.ensures.body ok)))
+
+pub leaves-returns-in-Throw : goal.leaves-returns-in-Throw
+leaves-returns-in-Throw t c ok =
+    as_is c.args.program.now c.args.x.now _ _ c.in-Throw.is
+    (throw_at c.args.program.now c.args.x.now _ (as_is c.args.program.now c.args.x.now _ _ (sym c.get-in-Throw.ensures) (c.leaves.ensures ok)))
+
+pub leaves-returns-in-Size : goal.leaves-returns-in-Size
+leaves-returns-in-Size t c ok =
+    as_is c.args.program.now c.args.x.now _ _ c.in-Size.is
+    (size_at c.args.program.now c.args.x.now _ (as_is c.args.program.now c.args.x.now _ _ (sym c.get-in-Size.ensures) (c.leaves-in-Size.ensures ok)))
+
+pub leaves-returns-in-Stepped : goal.leaves-returns-in-Stepped
+leaves-returns-in-Stepped t c ok =
+    as_is c.args.program.now c.args.x.now _ _ c.in-Stepped.is
+    (stepped_at c.args.program.now c.args.x.now _ (as_is c.args.program.now c.args.x.now _ _ (sym c.get-in-Stepped.ensures) (c.leaves-in-Stepped.ensures ok)))
+
+pub leaves-returns-in-Atomic : goal.leaves-returns-in-Atomic
+leaves-returns-in-Atomic t c ok =
+    as_is c.args.program.now c.args.x.now _ _ c.in-Atomic.is
+    (atomic_at c.args.program.now c.args.x.now _ _ (as_is c.args.program.now c.args.x.now _ _ (sym c.get-in-Atomic.ensures) (c.leaves-in-Atomic.ensures ok)))
+
+pub leaves-returns-then-slot_is_open : goal.leaves-returns-then-slot_is_open
+leaves-returns-then-slot_is_open t c ok =
+    as_is c.args.program.now c.args.x.now _ _ c.in-Write.is
+    (write_at c.args.program.now c.args.x.now _ _
+    (c.slot_is_open-in-Write.ensures c.if-slot_is_open.true)
+    (as_is c.args.program.now c.args.x.now _ _ (sym c.get-then-slot_is_open.ensures) (c.leaves-then-slot_is_open.ensures ok)))
+
+pub leaves-returns-then-not-is_own_field : goal.leaves-returns-then-not-is_own_field
+leaves-returns-then-not-is_own_field t c ok =
+    as_is c.args.program.now c.args.x.now _ _ c.in-ReadField.is
+    (read_field_at c.args.program.now c.args.x.now _ _
+    (sym c.is_own_field.ensures ∙ c.if-not-is_own_field.true)
+    (as_is c.args.program.now c.args.x.now _ _ (sym c.get-then-not-is_own_field.ensures) (c.leaves-then-not-is_own_field.ensures ok)))
+
+pub leaves-returns-in-Group : goal.leaves-returns-in-Group
+leaves-returns-in-Group t c ok =
+    as_is c.args.program.now c.args.x.now _ _ c.in-Group.is
+    (group_at c.args.program.now c.args.x.now _ (c.all_leave.ensures ok))
+
+pub leaves-returns-in-Also : goal.leaves-returns-in-Also
+leaves-returns-in-Also t c ok =
+    as_is c.args.program.now c.args.x.now _ _ c.in-Also.is
+    (also_at c.args.program.now c.args.x.now _ (c.all_leave-in-Also.ensures ok))
+
+pub leaves-returns-then-not-is_own_set : goal.leaves-returns-then-not-is_own_set
+leaves-returns-then-not-is_own_set t c ok =
+    as_is c.args.program.now c.args.x.now _ _ c.in-Call.is
+    (call_at c.args.program.now c.args.x.now _ _
+    (sym c.is_own_set.ensures ∙ c.if-not-is_own_set.true) (c.all_leave-then-not-is_own_set.ensures ok))
+
+pub leaves-returns-then-not-is_own_set-2 : goal.leaves-returns-then-not-is_own_set-2
+leaves-returns-then-not-is_own_set-2 t c ok =
+    as_is c.args.program.now c.args.x.now _ _ c.in-Operator.is
+    (operator_at c.args.program.now c.args.x.now _ _
+    (sym c.is_own_set-in-Operator.ensures ∙ c.if-not-is_own_set-2.true)
+    (c.all_leave-then-not-is_own_set-2.ensures ok))
+
+pub two_leave-returns-in-Apply : goal.two_leave-returns-in-Apply
+two_leave-returns-in-Apply t c ok =
+    as_is c.args.program.now c.args.x.now _ _ c.in-Apply.is
+    (apply_at c.args.program.now c.args.x.now _ _ (c.both_leave.ensures ok))
+
+pub two_leave-returns-in-Fill : goal.two_leave-returns-in-Fill
+two_leave-returns-in-Fill t c ok =
+    as_is c.args.program.now c.args.x.now _ _ c.in-Fill.is
+    (fill_at c.args.program.now c.args.x.now _ _ _ (c.both_leave-in-Fill.ensures ok))
+
+pub two_leave-returns-in-Let : goal.two_leave-returns-in-Let
+two_leave-returns-in-Let t c ok =
+    as_is c.args.program.now c.args.x.now _ _ c.in-Let.is
+    (let_at c.args.program.now c.args.x.now _ _ _ (c.both_leave-in-Let.ensures ok))
+
+pub two_leave-returns-in-Mutable : goal.two_leave-returns-in-Mutable
+two_leave-returns-in-Mutable t c ok =
+    as_is c.args.program.now c.args.x.now _ _ c.in-Mutable.is
+    (mutable_at c.args.program.now c.args.x.now _ _ _ _ (c.both_leave-in-Mutable.ensures ok))
+
+pub two_leave-returns-then-not-is_own_field : goal.two_leave-returns-then-not-is_own_field
+two_leave-returns-then-not-is_own_field t c ok =
+    as_is c.args.program.now c.args.x.now _ _ c.in-WriteField.is
+    (write_field_at c.args.program.now c.args.x.now _ _ _
+    (sym c.is_own_field.ensures ∙ c.if-not-is_own_field.true)
+    (c.both_leave-then-not-is_own_field.ensures ok))
+
+pub two_leave-returns-in-ReadElement : goal.two_leave-returns-in-ReadElement
+two_leave-returns-in-ReadElement t c ok =
+    as_is c.args.program.now c.args.x.now _ _ c.in-ReadElement.is
+    (read_element_at c.args.program.now c.args.x.now _ _ (c.both_leave-in-ReadElement.ensures ok))
+
+pub two_leave-returns-in-Then : goal.two_leave-returns-in-Then
+two_leave-returns-in-Then t c ok =
+    as_is c.args.program.now c.args.x.now _ _ c.in-Then.is
+    (then_at c.args.program.now c.args.x.now _ _ (c.both_leave-in-Then.ensures ok))
+
+pub two_leave-returns-in-While : goal.two_leave-returns-in-While
+two_leave-returns-in-While t c ok =
+    as_is c.args.program.now c.args.x.now _ _ c.in-While.is
+    (while_at c.args.program.now c.args.x.now _ _ (c.both_leave-in-While.ensures ok))
+
+pub two_leave-returns-then-is_whole : goal.two_leave-returns-then-is_whole
+two_leave-returns-then-is_whole t c ok =
+    as_is c.args.program.now c.args.x.now _ _ c.in-For.is
+    (for_at c.args.program.now c.args.x.now _ _ _ _ _
+    (c.is_whole.ensures c.if-is_whole.true) (c.both_leave-then-is_whole.ensures ok))
+
+pub two_leave-returns-in-ForHalves : goal.two_leave-returns-in-ForHalves
+two_leave-returns-in-ForHalves t c ok =
+    as_is c.args.program.now c.args.x.now _ _ c.in-ForHalves.is
+    (for_halves_at c.args.program.now c.args.x.now _ _ (c.both_leave-in-ForHalves.ensures ok))
+
+pub two_leave-returns-then-not-is_own_set : goal.two_leave-returns-then-not-is_own_set
+two_leave-returns-then-not-is_own_set t c ok =
+    as_is c.args.program.now c.args.x.now _ _ c.in-ReduceHalves.is
+    (reduce_halves_at c.args.program.now c.args.x.now _ _ _
+    (sym c.is_own_set.ensures ∙ c.if-not-is_own_set.true)
+    (c.both_leave-then-not-is_own_set.ensures ok))
+
+pub two_leave-returns-then-both_leave : goal.two_leave-returns-then-both_leave
+two_leave-returns-then-both_leave t c ok =
+    as_is c.args.program.now c.args.x.now _ _ c.in-WriteElement.is
+    (write_element_at c.args.program.now c.args.x.now _ _ _
+    (c.both_leave-in-WriteElement.ensures c.if-both_leave.true)
+    (as_is c.args.program.now c.args.x.now _ _ (sym c.get.ensures) (c.leaves.ensures ok)))
+
+pub two_leave-returns-then-both_leave-2 : goal.two_leave-returns-then-both_leave-2
+two_leave-returns-then-both_leave-2 t c ok =
+    as_is c.args.program.now c.args.x.now _ _ c.in-If.is
+    (if_at c.args.program.now c.args.x.now _ _ _
+    (c.both_leave-in-If.ensures c.if-both_leave-2.true)
+    (as_is c.args.program.now c.args.x.now _ _ (sym c.get-then-both_leave-2.ensures) (c.leaves-then-both_leave-2.ensures ok)))
+
+pub two_leave-returns-then-both_leave-3 : goal.two_leave-returns-then-both_leave-3
+two_leave-returns-then-both_leave-3 t c ok =
+    as_is c.args.program.now c.args.x.now _ _ c.in-Reduce.is
+    (reduce_at c.args.program.now c.args.x.now _ _ _ _ _ _ _
+    (c.is_whole-in-Reduce.ensures c.if-is_whole-2.true)
+    (sym c.is_own_set-then-is_whole-2.ensures ∙ c.if-not-is_own_set-2.true)
+    (c.both_leave-then-not-is_own_set-2.ensures c.if-both_leave-3.true)
+    (as_is c.args.program.now c.args.x.now _ _ (sym c.get-then-both_leave-3.ensures) (c.leaves-then-both_leave-3.ensures ok)))
+
+pub two_leave-returns-then-both_leave-4 : goal.two_leave-returns-then-both_leave-4
+two_leave-returns-then-both_leave-4 t c ok =
+    as_is c.args.program.now c.args.x.now _ _ c.in-Typecase.is
+    (typecase_at c.args.program.now c.args.x.now _ _ _ _
+    (c.both_leave-in-Typecase.ensures c.if-both_leave-4.true) (c.clauses_leave.ensures ok))
+
+pub two_leave-returns-then-leaves : goal.two_leave-returns-then-leaves
+two_leave-returns-then-leaves t c ok =
+    as_is c.args.program.now c.args.x.now _ _ c.in-Try-default-default-default-None.is
+    (try_at c.args.program.now c.args.x.now _ _ _
+    (as_is c.args.program.now c.args.x.now _ _ (sym c.get-in-Try-default-default-default-None.ensures)
+    (c.leaves-in-Try-default-default-default-None.ensures c.if-leaves.true))
+    (c.clauses_leave-then-leaves.ensures ok))
+
+pub two_leave-returns-then-both_leave-5 : goal.two_leave-returns-then-both_leave-5
+two_leave-returns-then-both_leave-5 t c ok =
+    as_is c.args.program.now c.args.x.now _ _ c.in-Try-default-default-default-Some.is
+    (try_last_at c.args.program.now c.args.x.now _ _ _ _
+    (c.both_leave-in-Try-default-default-default-Some.ensures c.if-both_leave-5.true)
+    (c.clauses_leave-then-both_leave-5.ensures ok))
+
+pub value_leaves-returns-in-Small : goal.value_leaves-returns-in-Small
+value_leaves-returns-in-Small t c ok =
+    as_value c.args.program.now c.args.x.now _ _ c.in-Small.is
+    (small_at c.args.program.now c.args.x.now _)
+
+pub value_leaves-returns-in-Large : goal.value_leaves-returns-in-Large
+value_leaves-returns-in-Large t c ok =
+    as_value c.args.program.now c.args.x.now _ _ c.in-Large.is
+    (large_at c.args.program.now c.args.x.now _)
+
+pub value_leaves-returns-in-Truth : goal.value_leaves-returns-in-Truth
+value_leaves-returns-in-Truth t c ok =
+    as_value c.args.program.now c.args.x.now _ _ c.in-Truth.is
+    (truth_at c.args.program.now c.args.x.now _)
+
+pub value_leaves-returns-in-Text : goal.value_leaves-returns-in-Text
+value_leaves-returns-in-Text t c ok =
+    as_value c.args.program.now c.args.x.now _ _ c.in-Text.is
+    (text_at c.args.program.now c.args.x.now _)
+
+pub value_leaves-returns-in-Range : goal.value_leaves-returns-in-Range
+value_leaves-returns-in-Range t c ok =
+    as_value c.args.program.now c.args.x.now _ _ c.in-Range.is
+    (range_at c.args.program.now c.args.x.now _ _)
+
+pub value_leaves-returns-in-Tuple : goal.value_leaves-returns-in-Tuple
+value_leaves-returns-in-Tuple t c ok =
+    as_value c.args.program.now c.args.x.now _ _ c.in-Tuple.is
+    (tuple_at c.args.program.now c.args.x.now _
+    (subst (λ z. AllLeaveValues c.args.program.now c.args.x.now z) c.get.ensures (c.values_leave.ensures ok)))
+
+pub value_leaves-returns-in-Object : goal.value_leaves-returns-in-Object
+value_leaves-returns-in-Object t c ok =
+    as_value c.args.program.now c.args.x.now _ _ c.in-Object.is
+    (object_at c.args.program.now c.args.x.now _ _ (c.object_leaves.ensures ok))
+
+pub value_leaves-returns-in-Function : goal.value_leaves-returns-in-Function
+value_leaves-returns-in-Function t c ok =
+    as_value c.args.program.now c.args.x.now _ _ c.in-Function.is
+    (function_value_at c.args.program.now c.args.x.now _
+    (subst (λ (z : Closure). z.held ≡ []) c.get-in-Function.ensures (c.body_leaves.ensures.held ok))
+    (subst (λ (z : Closure). Leaves c.args.program.now c.args.x.now z.body) c.get-in-Function.ensures
+    (c.body_leaves.ensures.body ok)))
+
+pub all_leave-loop-term-preserved : goal.all_leave-loop-term-preserved
+all_leave-loop-term-preserved t c rest =
+    c.loop-term.invariant
+    (terms_more c.args.program.now c.args.x.now _ c.loop-term.term-index _ c.loop-term-test.true
+    c.term-item.is
+    (as_is c.args.program.now c.args.x.now _ _ (sym c.get.ensures)
+    (c.leaves.ensures c.if-not-leaves.false))
+    (subst (λ n. AllLeave c.args.program.now c.args.x.now
+    (drop n c.as_slice-term-items.result.now)) (add-one c.loop-term.term-index) rest))
+
+pub clauses_leave-loop-clause-preserved : goal.clauses_leave-loop-clause-preserved
+clauses_leave-loop-clause-preserved t c rest =
+    c.loop-clause.invariant
+    (clauses_more c.args.program.now c.args.x.now _ c.loop-clause.clause-index _
+    c.loop-clause-test.true c.clause-item.is
+    (as_is c.args.program.now c.args.x.now _ _ (sym c.get.ensures)
+    (c.leaves.ensures c.if-not-leaves.false))
+    (subst (λ n. AllLeave c.args.program.now c.args.x.now
+    (in_clauses (drop n c.as_slice-clause-items.result.now)))
+    (add-one c.loop-clause.clause-index) rest))
+
+pub values_leave-loop-value-preserved : goal.values_leave-loop-value-preserved
+values_leave-loop-value-preserved t c rest =
+    c.loop-value.invariant
+    (values_more c.args.program.now c.args.x.now _ c.loop-value.value-index _
+    c.loop-value-test.true c.value-item.is (c.value_leaves.ensures c.if-not-value_leaves.false)
+    (subst (λ n. AllLeaveValues c.args.program.now c.args.x.now
+    (drop n c.as_slice-value-items.result.now)) (add-one c.loop-value.value-index) rest))
