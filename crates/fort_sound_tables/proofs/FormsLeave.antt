@@ -1,5 +1,6 @@
 -- Terms and values that leave the prelude's own names alone, form by form.
-use Rattle.std.proofs.Common.{◌<◌, zero, suc, length, drop, get_or, arith, ◌≡◌, ℕ, List, [], ◌∷◌, Some, None, false, ap, sym, ◌∙◌, subst, ℤ, Bool}
+use Rattle.std.proofs.Common.{◌<◌, ◌≤◌, zero, suc, length, drop, get_or, arith, ◌≡◌, ℕ, List, [], ◌∷◌, Some, None, false, ap, sym, ◌∙◌, subst, ℤ, Bool}
+use Rattle.std.proofs.lemmas.List.{drop_all}
 use Rattle.fort_base.specs.declared.ids.Loc.{Loc}
 use Rattle.fort_base.specs.declared.ids.NameId.{NameId}
 use Rattle.fort_base.specs.declared.ids.SetId.{SetId}
@@ -261,3 +262,15 @@ module _ (p : Program) (x : Numbers) where
   values_more (u ∷ vs) zero v l e h rest =
       one_more_value (subst (λ z. LeavesValue p x z) e h) rest
   values_more (u ∷ vs) (suc i) v l e h rest = values_more vs i v (omega arith) e h rest
+
+  -- and to their ends
+  pub terms_done : (ts : List Term) (i : ℕ) → length ts ≤ i → AllLeave p x (drop i ts)
+  terms_done ts i l = subst (λ z. AllLeave p x z) (sym (drop_all i ts l)) no_terms
+
+  pub clauses_done : (cs : List (Term × Ty)) (i : ℕ) → length cs ≤ i
+      → AllLeave p x (in_clauses (drop i cs))
+  clauses_done cs i l =
+      subst (λ (z : List (Term × Ty)). AllLeave p x (in_clauses z)) (sym (drop_all i cs l)) no_terms
+
+  pub values_done : (vs : List Value) (i : ℕ) → length vs ≤ i → AllLeaveValues p x (drop i vs)
+  values_done vs i l = subst (λ z. AllLeaveValues p x z) (sym (drop_all i vs l)) no_values

@@ -1,10 +1,11 @@
 -- Of all items of a list.
-use Rattle.std.proofs.Common.{map, ◌||◌, ◌⊎◌, inl, inr, rules, ◌≡◌, ℕ, zero, suc, ◌+◌, ◌<◌, ◌==◌, Bool, true, false, if◌then◌else◌, List, [], ◌∷◌, length, drop, get_or, Option, Some, None, refl, ap, sym, ◌∙◌, subst, arith}
+use Rattle.std.proofs.Common.{◌≤◌, map, ◌||◌, ◌⊎◌, inl, inr, rules, ◌≡◌, ℕ, zero, suc, ◌+◌, ◌<◌, ◌==◌, Bool, true, false, if◌then◌else◌, List, [], ◌∷◌, length, drop, get_or, Option, Some, None, refl, ap, sym, ◌∙◌, subst, arith}
 use Rattle.std.specs.Prelude.{Contains}
 use Rattle.fort_machine.specs.Parts.{IsOneOf}
 use Rattle.fort_machine.specs.Scopes.{is_among}
 use Rattle.std.specs.List.{AllByRecursion, slice_index_or}
 use Rattle.std.proofs.lemmas.Bool.Decides.{Decides-eqb}
+use Rattle.std.proofs.lemmas.List.{drop_all}
 
 pub some_is : {A : Type 0} (x y : A) → Some x ≡ Some y → x ≡ y
 some_is x y e = cc
@@ -59,3 +60,9 @@ one_of {A} f k a (y ∷ xs) h = go (f a == f y) refl h
         → IsOneOf a (y ∷ xs)
     go true q z = inl (k a y (equal_is (f a) (f y) q))
     go false q z = inr (one_of f k a xs z)
+
+-- and to its end
+pub all_done : {A : Type 0} (P : A → Type 0) (xs : List A) (i : ℕ) → length xs ≤ i
+    → AllByRecursion P (drop i xs)
+all_done {A} P xs i l =
+    subst (λ (z : List A). AllByRecursion P z) (sym (drop_all i xs l)) tt

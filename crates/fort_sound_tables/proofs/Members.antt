@@ -1,24 +1,29 @@
 -- What a program's tables say one by one, from what single lookups say.
 use Rattle.std.proofs.Common.{◌≡◌, ℕ, ◌+◌, ◌<◌, ◌≤◌, ◌==◌, Bool, true, false, List, [], ◌∷◌, ◌++◌, length, Option, Some, None, refl, ap, sym, ◌∙◌, subst, ◌⊎◌, inl, inr, arith}
-use Rattle.std.specs.Prelude.{slice_get, filter_map}
+use Rattle.std.specs.Prelude.{slice_get, filter_map, option_and_then, pos}
 use Rattle.std.specs.List.{AllByRecursion, cons_option}
 use Rattle.std.proofs.lemmas.Bool.{cases_lt}
 use Rattle.std.proofs.lemmas.Option.{slice_get_past}
 use Rattle.fort_base.specs.declared.ids.DeclId.{DeclId}
+use Rattle.fort_base.specs.declared.ids.SetId.{SetId}
 use Rattle.fort_base.specs.declared.ids.TypeId.{TypeId}
 use Rattle.fort_base.specs.declared.ids.Loc.{Loc}
 use Rattle.fort_core.specs.declared.program.CoreBody.{CoreBody}
 use Rattle.fort_core.specs.declared.program.CoreDecl.{CoreDecl}
 use Rattle.fort_core.specs.declared.program.CoreField.{CoreField}
+use Rattle.fort_core.specs.declared.program.CoreKind.{CoreKind}
+use Rattle.fort_core.specs.declared.program.CoreKind.TheVariants as kind
 use Rattle.fort_core.specs.declared.program.CoreSet.{CoreSet}
 use Rattle.fort_core.specs.declared.program.CoreShape.{CoreShape}
 use Rattle.fort_core.specs.declared.program.Program.{Program}
-use Rattle.fort_core.specs.declared.value.Value.{Value}
+use Rattle.fort_core.specs.declared.value.Value.{Value, Small, Object}
 use Rattle.fort_types.specs.Table.{is_set}
-use Rattle.fort_machine.specs.Acts.{object_of}
+use Rattle.fort_machine.specs.Acts.{unit, object_of, single}
 use Rattle.fort_machine.specs.Calls.{constants}
 use Rattle.fort_machine.specs.Scopes.{is_among}
 use Rattle.fort_threads.specs.Known as threads
+use Rattle.fort_threads_law_servers.specs.Prelude.{Names}
+use Rattle.fort_threads_law_tables.specs.Tabled.{HasOne, HasFields, IsField, HasConstant}
 use Rattle.fort_threads_law_private.specs.Private.{no_values, one_more_value}
 use Rattle.fort_sound_tables.specs.declared.numbers.Numbers.{Numbers}
 use Rattle.fort_sound_tables.specs.Numbers.{known}
@@ -91,3 +96,50 @@ module _ (p : Program) (x : Numbers) where
       subst (λ (s : CoreShape). AllLeaveValues p x (constants s)
       × ((v : Value) → object_of (record { 0 = i }) s ≡ Some v → LeavesValue p x v))
       (some_is found s (sym h ∙ q)) (held found.fields a, b)
+
+-- the only declaration of a set
+pub one_by : (p : Program) (set : SetId) (d : DeclId) (members : CoreSet) (o : DeclId)
+    → slice_get p.sets set.0 ≡ Some members → members.decls ≡ o ∷ [] → o ≡ d → (x : CoreDecl)
+    → slice_get p.decls d.0 ≡ Some x → HasOne p set d x
+one_by p set d members o e q w x k =
+    record { is_set = e ∙ ap (λ ds. Some (made ds)) (q ∙ ap (λ (z : DeclId). z ∷ []) w); is_decl = k }
+  where
+    made : List DeclId → CoreSet
+    made ds = record { decls = ds }
+
+-- the fields of `Thread'`
+pub fields_by : (p : Program) (n : Names) (s : CoreShape) (a b c d : CoreField)
+    → slice_get p.shapes n.thread.0 ≡ Some s → s.fields ≡ a ∷ b ∷ c ∷ d ∷ []
+    → IsField a n.body → HasConstant b n.state (Small (pos 0)) → HasConstant c n.value unit
+    → HasConstant d n.next unit
+    → ((n.body.0 == n.state.0) ≡ false) × ((n.body.0 == n.value.0) ≡ false)
+    × ((n.body.0 == n.next.0) ≡ false) × ((n.state.0 == n.value.0) ≡ false)
+    × ((n.state.0 == n.next.0) ≡ false) × ((n.value.0 == n.next.0) ≡ false)
+    → HasFields p n
+fields_by p n s a b c d e q f g h i k = record {
+  shape = s;
+  is_shape = e;
+  body = a;
+  state = b;
+  value = c;
+  next = d;
+  are_fields = q;
+  is_body = f;
+  is_state = g;
+  is_value = h;
+  is_next = i;
+  apart = k;
+}
+
+-- the value of a single object's type
+pub object_is : (id : TypeId) (s : CoreShape) (base : Loc) → s.kind ≡ kind.Single base
+    → object_of id s ≡ Some (Object id base)
+object_is id s base e = ap (λ (k : CoreKind). object_of id (made k)) e
+  where
+    made : CoreKind → CoreShape
+    made k = record { kind = k; fields = s.fields }
+
+pub single_by : (p : Program) (id : TypeId) (s : CoreShape) (base : Loc)
+    → slice_get p.shapes id.0 ≡ Some s → s.kind ≡ kind.Single base
+    → single p id ≡ Some (Object id base)
+single_by p id s base e q = ap (option_and_then (object_of id)) e ∙ object_is id s base q

@@ -113,7 +113,9 @@ fn single_leaves(program: &Program, x: &Numbers, ty: TypeId, shape: &CoreShape) 
 {
     match shape.kind {
         CoreKind::Single(base) => object_leaves(program, x, ty, base),
-        _ => true,
+        CoreKind::Trait => true,
+        CoreKind::Leaf => true,
+        CoreKind::Object => true,
     }
 }
 

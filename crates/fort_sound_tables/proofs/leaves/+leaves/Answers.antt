@@ -2,7 +2,7 @@ use Rattle.std.proofs.Common.{◌≡◌, [], drop, add-one, sym, ◌∙◌, subs
 use Rattle.fort_core.specs.declared.value.Closure.{Closure}
 use Rattle.fort_machine.specs.Parts.{in_clauses}
 use Rattle.fort_sound_tables.specs.Leaves.{AllLeave, AllLeaveValues, Leaves}
-use Rattle.fort_sound_tables.proofs.FormsLeave.{terms_more, clauses_more, values_more, also_at, apply_at, as_is, as_value, atomic_at, call_at, fill_at, for_at, for_halves_at, function_at, function_value_at, group_at, if_at, large_at, let_at, mutable_at, object_at, operator_at, range_at, read_at, read_element_at, read_field_at, reduce_at, reduce_halves_at, size_at, small_at, stepped_at, text_at, then_at, throw_at, truth_at, try_at, try_last_at, tuple_at, typecase_at, value_at, variable_at, while_at, write_at, write_element_at, write_field_at}
+use Rattle.fort_sound_tables.proofs.FormsLeave.{terms_done, clauses_done, values_done, terms_more, clauses_more, values_more, also_at, apply_at, as_is, as_value, atomic_at, call_at, fill_at, for_at, for_halves_at, function_at, function_value_at, group_at, if_at, large_at, let_at, mutable_at, object_at, operator_at, range_at, read_at, read_element_at, read_field_at, reduce_at, reduce_halves_at, size_at, small_at, stepped_at, text_at, then_at, throw_at, truth_at, try_at, try_last_at, tuple_at, typecase_at, value_at, variable_at, while_at, write_at, write_element_at, write_field_at}
 use Rattle.fort_sound_tables.proofs.leaves.+leaves.Goals as goal
 
 pub leaves-returns-in-Value : goal.leaves-returns-in-Value
@@ -260,3 +260,24 @@ values_leave-loop-value-preserved t c rest =
     c.loop-value-test.true c.value-item.is (c.value_leaves.ensures c.if-not-value_leaves.false)
     (subst (λ n. AllLeaveValues c.args.program.now c.args.x.now
     (drop n c.as_slice-value-items.result.now)) (add-one c.loop-value.value-index) rest))
+
+pub all_leave-returns : goal.all_leave-returns
+all_leave-returns t c ok =
+    subst (λ z. AllLeave c.args.program.now c.args.x.now z) c.as_slice-term-items.ensures
+    (c.loop-term.invariant
+    (terms_done c.args.program.now c.args.x.now _ c.loop-term.term-index c.loop-term-test.false))
+
+pub clauses_leave-returns : goal.clauses_leave-returns
+clauses_leave-returns t c ok =
+    subst (λ z. AllLeave c.args.program.now c.args.x.now (in_clauses z))
+    c.as_slice-clause-items.ensures
+    (c.loop-clause.invariant
+    (clauses_done c.args.program.now c.args.x.now _ c.loop-clause.clause-index
+    c.loop-clause-test.false))
+
+pub values_leave-returns : goal.values_leave-returns
+values_leave-returns t c ok =
+    subst (λ z. AllLeaveValues c.args.program.now c.args.x.now z) c.as_slice-value-items.ensures
+    (c.loop-value.invariant
+    (values_done c.args.program.now c.args.x.now _ c.loop-value.value-index
+    c.loop-value-test.false))
