@@ -73,11 +73,12 @@ module _ (p : Program) (n : Names) (h : HasFields p n) (f : NameId)
 stands : (p : Program) (x : Numbers) (es : List (Loc × Value)) → AllByRecursion (LeavesPair p x) es
     → (l : ℕ) (v : Value) → value_in es l ≡ Some v → LeavesValue p x v
 stands p x [] h l v e = absurd cc
-stands p x (d ∷ es) h l v e = go (d.0.0 == l) e
+stands p x (d ∷ es) h l v e = go (d.0.0 == l) e (λ q. stands p x es h.1 l v q)
   where
-    go : (b : Bool) → (if b then Some d.1 else value_in es l) ≡ Some v → LeavesValue p x v
-    go true q = subst (LeavesValue p x) (some_is d.1 v q) h.0
-    go false q = stands p x es h.1 l v q
+    go : (b : Bool) → (if b then Some d.1 else value_in es l) ≡ Some v
+        → (value_in es l ≡ Some v → LeavesValue p x v) → LeavesValue p x v
+    go true q r = subst (λ z. LeavesValue p x z) (some_is d.1 v q) h.0
+    go false q r = r q
 
 -- a set that isn't the prelude's own, by its number
 spared : (p : Program) (x : Numbers) (set : SetId) → (IsSecretSet (names x) (start x) set → ⊥)

@@ -54,12 +54,12 @@ not_one_of f a xs e i = let z : true ≡ false = sym (among f a xs i) ∙ e in c
 pub one_of : {A : Type 0} (f : A → ℕ) → ((a b : A) → f a ≡ f b → a ≡ b) → (a : A) (xs : List A)
     → is_among (f a) (map f xs) ≡ true → IsOneOf a xs
 one_of f k a [] h = absurd cc
-one_of {A} f k a (y ∷ xs) h = go (f a == f y) refl h
+one_of {A} f k a (y ∷ xs) h = go (f a == f y) refl h (λ z. one_of f k a xs z)
   where
     go : (b : Bool) → (f a == f y) ≡ b → (b || is_among (f a) (map f xs)) ≡ true
-        → IsOneOf a (y ∷ xs)
-    go true q z = inl (k a y (equal_is (f a) (f y) q))
-    go false q z = inr (one_of f k a xs z)
+        → (is_among (f a) (map f xs) ≡ true → IsOneOf a xs) → IsOneOf a (y ∷ xs)
+    go true q z r = inl (k a y (equal_is (f a) (f y) q))
+    go false q z r = inr (r z)
 
 -- and to its end
 pub all_done : {A : Type 0} (P : A → Type 0) (xs : List A) (i : ℕ) → length xs ≤ i

@@ -19,16 +19,17 @@ use Rattle.fort_sound_tables.proofs.Lists.{some_is}
 -- the place of a field is one of its type
 place_within : (f : NameId) (cs : List CoreField) (n : ℕ) → place_of f cs ≡ Some n → n < length cs
 place_within f [] n e = absurd cc
-place_within f (c ∷ cs) n e = go (c.name.0 == f.0) (place_of f cs) refl e
+place_within f (c ∷ cs) n e =
+    go (c.name.0 == f.0) (place_of f cs) refl e (λ k q. place_within f cs k q)
   where
     go : (b : Bool) (o : Option ℕ) → place_of f cs ≡ o
         → (if b then Some 0 else option_map (λ (k : ℕ). k + 1) o) ≡ Some n
-        → n < length (c ∷ cs)
-    go true o q w = let z : 0 ≡ n = some_is 0 n w in omega (arith, z)
-    go false None q w = absurd cc
-    go false (Some k) q w =
+        → ((k : ℕ) → place_of f cs ≡ Some k → k < length cs) → n < length (c ∷ cs)
+    go true o q w r = let z : 0 ≡ n = some_is 0 n w in omega (arith, z)
+    go false None q w r = absurd cc
+    go false (Some k) q w r =
         let z : k + 1 ≡ n = some_is (k + 1) n w in
-        omega (arith, z, place_within f cs k q)
+        omega (arith, z, r k q)
 
 module _ (p : Program) (x : Numbers) (ty : TypeId) (base : Loc) where
   placed : (s : CoreShape) → AreOpen (ground_of p x) base.0 (length s.fields) → (f : NameId) (l : ℕ)

@@ -15,11 +15,12 @@ use Rattle.fort_sound_threads.proofs.Lookups.{equal_is, self_equal}
 -- one of a list of numbers
 one_of : (l : ℕ) (ns : List ℕ) → is_among l ns ≡ true → IsOneOf l ns
 one_of l [] h = absurd cc
-one_of l (n ∷ ns) h = go (l == n) refl h
+one_of l (n ∷ ns) h = go (l == n) refl h (λ k. one_of l ns k)
   where
-    go : (b : Bool) → (l == n) ≡ b → (b || is_among l ns) ≡ true → IsOneOf l (n ∷ ns)
-    go true q k = inl (equal_is l n q)
-    go false q k = inr (one_of l ns k)
+    go : (b : Bool) → (l == n) ≡ b → (b || is_among l ns) ≡ true
+        → (is_among l ns ≡ true → IsOneOf l ns) → IsOneOf l (n ∷ ns)
+    go true q k r = inl (equal_is l n q)
+    go false q k r = inr (r k)
 
 among : (l : ℕ) (ns : List ℕ) → IsOneOf l ns → is_among l ns ≡ true
 among l [] i = absurd i
