@@ -1,5 +1,5 @@
 -- Terms and values that leave the prelude's own names alone, form by form.
-use Rattle.std.proofs.Common.{◌<◌, ◌≤◌, zero, suc, length, drop, get_or, arith, ◌≡◌, ℕ, List, [], ◌∷◌, Some, None, false, ap, sym, ◌∙◌, subst, ℤ, Bool}
+use Rattle.std.proofs.Common.{◌<◌, ◌≤◌, zero, suc, length, drop, get_or, arith, ◌≡◌, ℕ, List, [], ◌∷◌, Option, Some, None, false, ap, sym, ◌∙◌, subst, ℤ, Bool}
 use Rattle.std.proofs.lemmas.List.{drop_all}
 use Rattle.fort_base.specs.declared.ids.Loc.{Loc}
 use Rattle.fort_base.specs.declared.ids.NameId.{NameId}
@@ -202,6 +202,17 @@ module _ (p : Program) (x : Numbers) where
   try_last_at a n cs b h k =
       form_at (term.Try a n cs (Some b)) _ (outs-Try a n cs (Some b)) tt
       (one_more h.0 (one_more h.1 k)) no_values
+
+  pub try_by : (a : Term) (n : ℕ) (cs : List (Term × Ty)) (last : Option Term) → last ≡ None
+      → Leaves p x a → AllLeave p x (in_clauses cs) → Leaves p x (term.Try a n cs last)
+  try_by a n cs last e h k =
+      subst (λ l. Leaves p x (term.Try a n cs l)) (sym e) (try_at a n cs h k)
+
+  pub try_last_by : (a : Term) (n : ℕ) (cs : List (Term × Ty)) (last : Option Term) (b : Term)
+      → last ≡ Some b → Both a b → AllLeave p x (in_clauses cs)
+      → Leaves p x (term.Try a n cs last)
+  try_last_by a n cs last b e h k =
+      subst (λ l. Leaves p x (term.Try a n cs l)) (sym e) (try_last_at a n cs b h k)
 
   -- values
   abbrev Leads : Value-F Term Value Closure → Type 0

@@ -61,6 +61,25 @@ one_of {A} f k a (y ∷ xs) h = go (f a == f y) refl h (λ z. one_of f k a xs z)
     go true q z r = inl (k a y (equal_is (f a) (f y) q))
     go false q z r = inr (r z)
 
+pub one_more_at : {A : Type 0} (P : A → Type 0) (xs : List A) (i : ℕ) (d : A) → i < length xs
+    → P (slice_index_or xs i d) → AllByRecursion P (drop (suc i) xs)
+    → AllByRecursion P (drop i xs)
+one_more_at P [] i d l h rest = absurd (omega arith)
+one_more_at P (y ∷ xs) zero d l h rest = (h, rest)
+one_more_at P (y ∷ xs) (suc i) d l h rest = one_more_at P xs i d (omega arith) h rest
+
+-- four items are all of a list of so many
+pub four_items : {A : Type 0} (xs : List A) (a b c d : A) → length xs ≡ 4 → a ≡ get_or xs 0 a
+    → b ≡ get_or xs 1 b → c ≡ get_or xs 2 c → d ≡ get_or xs 3 d → xs ≡ a ∷ b ∷ c ∷ d ∷ []
+four_items [] a b c d l e f g h = absurd (omega (arith, l))
+four_items (w ∷ []) a b c d l e f g h = absurd (omega (arith, l))
+four_items (w ∷ x ∷ []) a b c d l e f g h = absurd (omega (arith, l))
+four_items (w ∷ x ∷ y ∷ []) a b c d l e f g h = absurd (omega (arith, l))
+four_items (w ∷ x ∷ y ∷ z ∷ []) a b c d l e f g h =
+    let i : w ≡ a = sym e in let j : x ≡ b = sym f in let k : y ≡ c = sym g in
+    let m : z ≡ d = sym h in cc
+four_items (w ∷ x ∷ y ∷ z ∷ v ∷ xs) a b c d l e f g h = absurd (omega (arith, l))
+
 -- and to its end
 pub all_done : {A : Type 0} (P : A → Type 0) (xs : List A) (i : ℕ) → length xs ≤ i
     → AllByRecursion P (drop i xs)

@@ -65,6 +65,15 @@ module _ (p : Program) (x : Numbers) where
       go (inl q) = h k q
       go (inr q) = set_none k (slice_get_past p.sets k (omega (arith, l, q)))
 
+  pub shapes_more : (n : ℕ) → ((k : ℕ) → k < n → LeavesShape p x k) → LeavesShape p x n → (k : ℕ)
+      → k < n + 1 → LeavesShape p x k
+  shapes_more n h e k l = go (cases_lt k n)
+    where
+      go : (k < n) ⊎ (n ≤ k) → LeavesShape p x k
+      go (inl q) = h k q
+      go (inr q) =
+          let w : n ≡ k = omega (arith, l, q) in subst (λ m. LeavesShape p x m) w e
+
   pub shape_none : (i : ℕ) → slice_get p.shapes i ≡ None → LeavesShape p x i
   shape_none i h s q = let z : None ≡ Some s = sym h ∙ q in absurd cc
 

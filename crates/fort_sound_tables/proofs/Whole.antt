@@ -36,7 +36,7 @@ module _ (p : Program) (x : Numbers) (t : Term) (a : RunsPrelude p x) (b : RunsN
     apart = f.apart.count_unended;
   }
 
-  own_text : HasText p x.declarations.own t
+  abbrev own_text : HasText p x.declarations.own t
   own_text =
       record {
         declared = h.sole.declared;

@@ -1,5 +1,5 @@
 //! Whether a program keeps the prelude's own names to the prelude.
-ghost use Rattle.std.specs.Prelude.{◌≡◌, ℕ, IsTrue, Some};
+ghost use Rattle.std.specs.Prelude.{◌≡◌, ◌↔◌, ℕ, IsTrue, Some, slice_get};
 ghost use Rattle.std.specs.List.{AllByRecursion};
 ghost use Rattle.fort_core.specs.declared.value.Value.{Value as AValue};
 ghost use Rattle.fort_machine.specs.Acts.{object_of};
@@ -7,9 +7,9 @@ ghost use Rattle.fort_machine.specs.Scopes.{is_among};
 ghost use Rattle.fort_sound_tables.specs.Leaves.{LeavesBody, LeavesValue, known_decls};
 ghost use Rattle.fort_sound_tables.specs.Threads.{AllStandsApart, LeavesField, LeavesMember, LeavesPair, LeavesSet, LeavesShape};
 
-use crate::leaves::{is_own_set, leaves, object_leaves, value_leaves};
+use crate::leaves::{are_open, is_own_set, leaves, value_leaves};
 use crate::numbers::Numbers;
-use fort_base::{DeclId, Loc, SetId, TypeId};
+use fort_base::{DeclId, Loc, SetId};
 use fort_core::{CoreBody, CoreField, CoreKind, CoreShape, Program, Value};
 
 // Whether a declaration is one whose calls are steps of threads.
@@ -106,13 +106,24 @@ fn constants_leave(program: &Program, x: &Numbers, fields: &[CoreField]) -> bool
     true
 }
 
+// Whether a type is `Thread'`.
+fn is_thread(x: &Numbers, at: usize) -> bool
+    ensures { IsTrue result ↔ (at ≡ x.now.types.thread.0) }
+{
+    at == x.types.thread.0 as usize
+}
+
 // Whether the value of a type that has one leaves the names alone.
-fn single_leaves(program: &Program, x: &Numbers, ty: TypeId, shape: &CoreShape) -> bool
-    ensures { IsTrue result → (v : AValue) → object_of ty shape.now ≡ Some v
+fn single_leaves(program: &Program, x: &Numbers, at: usize, shape: &CoreShape) -> bool
+    requires { slice_get program.now.shapes at ≡ Some shape.now }
+    ensures { IsTrue result → (v : AValue) → object_of (record { 0 = at }) shape.now ≡ Some v
         → LeavesValue program.now x.now v }
 {
+    if is_thread(x, at) {
+        return false;
+    }
     match shape.kind {
-        CoreKind::Single(base) => object_leaves(program, x, ty, base),
+        CoreKind::Single(base) => are_open(program, x, base.0, shape.fields.len()),
         CoreKind::Trait => true,
         CoreKind::Leaf => true,
         CoreKind::Object => true,
@@ -126,13 +137,7 @@ fn shape_leaves(program: &Program, x: &Numbers, at: usize) -> bool
     let Some(shape) = program.shapes.get(at) else {
         return true;
     };
-    match u32::try_from(at) {
-        Err(_) => false,
-        Ok(number) => {
-            constants_leave(program, x, shape.fields.as_slice())
-                && single_leaves(program, x, TypeId(number), shape)
-        }
-    }
+    constants_leave(program, x, shape.fields.as_slice()) && single_leaves(program, x, at, shape)
 }
 
 fn shapes_leave(program: &Program, x: &Numbers) -> bool
@@ -162,7 +167,11 @@ fn opening_leaves(program: &Program, x: &Numbers, opening: &[(Loc, Value)]) -> b
 pub(crate) fn all_stands_apart(program: &Program, x: &Numbers) -> bool
     ensures { IsTrue result → AllStandsApart program.now x.now }
 {
-    sets_leave(program, x)
-        && shapes_leave(program, x)
-        && opening_leaves(program, x, program.opening.as_slice())
+    if !sets_leave(program, x) {
+        return false;
+    }
+    if !shapes_leave(program, x) {
+        return false;
+    }
+    opening_leaves(program, x, program.opening.as_slice())
 }

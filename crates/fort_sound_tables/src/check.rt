@@ -1,9 +1,12 @@
 //! Whether a program has all that the laws on runs with threads take of it.
-ghost use Rattle.std.specs.Prelude.{◌≡◌, [], false, IsTrue, IfOk, IfSome};
+ghost use Rattle.std.specs.Prelude.{◌≡◌, ◌∷◌, [], false, IsTrue, IfOk, IfSome};
 ghost use Rattle.fort_core.specs.declared.term.Term as a_term;
 ghost use Rattle.fort_machine.specs.Ends.{is_thrown};
 ghost use Rattle.fort_sound_tables.specs.Threads.{CallsOwn, HasThreads, RunsNumbers, RunsOwn, RunsPrelude, StandApart, StandPlaces, StartsTexts, TakesTexts, MakesThreads};
+ghost use Rattle.fort_threads_law_tables.specs.Texts as text;
+ghost use Rattle.fort_sound_tables.specs.Numbers.{names, start};
 ghost use Rattle.fort_sound_tables.specs.Threads as threads;
+ghost use Rattle.fort_sound_tables.specs.Threads.{IsSole, nothing_type};
 
 use crate::apart::all_stands_apart;
 use crate::calls::{
@@ -19,7 +22,7 @@ use crate::texts::{
 };
 use crate::types::types_stand;
 use fort_base::{Boxed, List, Memory, SetId, Ty};
-use fort_core::{CoreBody, Primitive, Program, Term, Value};
+use fort_core::{Closure, CoreBody, Primitive, Program, Term, Value};
 use std::alloc::Global;
 
 // Whether calls of the prelude's own sets and of `wait` run the prelude's bodies.
@@ -131,24 +134,35 @@ fn one_action(alloc: Global) -> Result<List<Ty>, Memory>
     one_type(alloc, Ty::Arrow(unit, gives))
 }
 
+// Whether `main'` is the prelude's.
+fn main_is_sole(alloc: Global, program: &Program, x: &Numbers) -> Result<bool, Memory>
+    ensures { IfOk result (λ is. IsTrue is → IsSole program.now x.now.sets.main
+        x.now.declarations.main threads.one_action (text.main_text (names x.now) (start x.now))) }
+{
+    let action = one_action(alloc)?;
+    let main = main_text(alloc, x)?;
+    Ok(is_sole(program, x.sets.main, x.declarations.main, &action, &main))
+}
+
+// Whether `run` is the prelude's.
+fn run_is_sole(alloc: Global, program: &Program, x: &Numbers) -> Result<bool, Memory>
+    ensures { IfOk result (λ is. IsTrue is → IsSole program.now x.now.sets.run
+        x.now.declarations.run []
+        (a_term.Call x.now.sets.main (a_term.Value x.now.function ∷ []))) }
+{
+    let none = List::new(alloc);
+    let run = run_text(alloc, x)?;
+    Ok(is_sole(program, x.sets.run, x.declarations.run, &none, &run))
+}
+
 // Whether `main'` and `run` are the prelude's, and `Thread'` makes its objects.
 fn starts_texts(alloc: Global, program: &Program, x: &Numbers) -> Result<bool, Memory>
     ensures { IfOk result (λ starts. IsTrue starts → StartsTexts program.now x.now) }
 {
-    let none = List::new(alloc);
-    let action = one_action(alloc)?;
-    let sets = &x.sets;
-    let decls = &x.declarations;
-    if !is_sole(
-        program,
-        sets.main,
-        decls.main,
-        &action,
-        &main_text(alloc, x)?,
-    ) {
+    if !main_is_sole(alloc, program, x)? {
         return Ok(false);
     }
-    if !is_sole(program, sets.run, decls.run, &none, &run_text(alloc, x)?) {
+    if !run_is_sole(alloc, program, x)? {
         return Ok(false);
     }
     Ok(makes_threads(program, x))
@@ -164,18 +178,25 @@ fn is_call(term: &Term, set: SetId) -> bool
     }
 }
 
+// Whether a function takes and holds nothing, gives `()`, and calls a set.
+fn is_own_call(function: &Closure, own: SetId) -> bool
+    ensures takes { IsTrue result → function.now.parameters ≡ [] }
+    ensures held { IsTrue result → function.now.held ≡ [] }
+    ensures gives { IsTrue result → function.now.result ≡ nothing_type }
+    ensures calls { IsTrue result → function.now.body ≡ a_term.Call own [] }
+{
+    function.parameters.get().is_empty()
+        && function.held.is_empty()
+        && is_nothing(function.result.get())
+        && is_call(function.body.get(), own)
+}
+
 // Whether the function that `main'` is given calls the component's own `run`.
 fn calls_own(x: &Numbers) -> bool
     ensures { IsTrue result → CallsOwn x.now }
 {
     match &x.function {
-        Value::Function(closure) => {
-            let function = closure.get();
-            function.parameters.get().is_empty()
-                && function.held.is_empty()
-                && is_nothing(function.result.get())
-                && is_call(function.body.get(), x.sets.own)
-        }
+        Value::Function(closure) => is_own_call(closure.get(), x.sets.own),
         _ => false,
     }
 }
@@ -236,11 +257,10 @@ fn own_body<'a>(alloc: Global, program: &'a Program, x: &Numbers) -> Option<&'a 
     if !is_sole(program, x.sets.own, x.declarations.own, &none, text) {
         return None;
     }
-    if leaves(program, x, text) && is_no_throw(text) {
-        Some(text)
-    } else {
-        None
+    if !leaves(program, x, text) {
+        return None;
     }
+    if is_no_throw(text) { Some(text) } else { None }
 }
 
 /// Whether a program has the prelude's declarations, and keeps the prelude's own names to them: all

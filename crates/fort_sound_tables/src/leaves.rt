@@ -1,5 +1,5 @@
 //! Whether terms and values leave the prelude's own names alone.
-ghost use Rattle.std.specs.Prelude.{◌≡◌, IsTrue, []};
+ghost use Rattle.std.specs.Prelude.{◌≡◌, IsTrue, false, []};
 ghost use Rattle.fort_core.specs.declared.term.Term.TheOpen.{Value-F};
 ghost use Rattle.fort_machine.specs.Parts.{in_clauses};
 ghost use Rattle.fort_machine.specs.Scopes.{is_among};
@@ -53,6 +53,14 @@ fn is_whole(span: Span) -> bool
     }
 }
 
+// Whether a reduction is over all its items, by another set than the prelude's own.
+fn is_free(x: &Numbers, span: Span, set: SetId) -> bool
+    ensures whole { IsTrue result → span ≡ Span.Whole }
+    ensures other { IsTrue result → is_among set.0 (own_sets x.now) ≡ false }
+{
+    is_whole(span) && !is_own_set(x, set)
+}
+
 /// Whether a term leaves the prelude's own names alone, by the numbers of a program. It goes down
 /// the term by calls.
 #[cycle(leaves)]
@@ -102,10 +110,10 @@ fn two_leave(program: &Program, x: &Numbers, term: &Term) -> bool
         }
         Term::If(a, b, c) => both_leave(program, x, a, b) && leaves(program, x, c.get()),
         Term::Reduce(_, span, set, a, _, b, c) => {
-            is_whole(*span)
-                && !is_own_set(x, *set)
-                && both_leave(program, x, a, b)
-                && leaves(program, x, c.get())
+            if !is_free(x, *span, *set) {
+                return false;
+            }
+            both_leave(program, x, a, b) && leaves(program, x, c.get())
         }
         Term::Typecase(_, a, clauses, b) => {
             both_leave(program, x, a, b) && clauses_leave(program, x, clauses)
@@ -190,9 +198,9 @@ fn values_leave(program: &Program, x: &Numbers, values: &List<Value>) -> bool
     true
 }
 
-/// Whether the object of a type at a location is none of a thread, and all its fields are for the
-/// component.
-pub(crate) fn object_leaves(program: &Program, x: &Numbers, ty: TypeId, base: Loc) -> bool
+// Whether the object of a type at a location is none of a thread, and all its fields are for the
+// component.
+fn object_leaves(program: &Program, x: &Numbers, ty: TypeId, base: Loc) -> bool
     ensures { IsTrue result → LeadsToOpen program.now (names x.now) (ground_of program.now x.now)
         (Value-F.Object ty base) }
 {
@@ -205,8 +213,8 @@ pub(crate) fn object_leaves(program: &Program, x: &Numbers, ty: TypeId, base: Lo
     }
 }
 
-// Whether as many locations from one on are for the component.
-fn are_open(program: &Program, x: &Numbers, from: u64, count: usize) -> bool
+/// Whether as many locations from one on are for the component.
+pub(crate) fn are_open(program: &Program, x: &Numbers, from: u64, count: usize) -> bool
     ensures { IsTrue result → AreOpen (ground_of program.now x.now) from count }
 {
     for i in 0..count {

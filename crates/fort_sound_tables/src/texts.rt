@@ -1,11 +1,13 @@
 //! The bodies of the prelude, as a program with these numbers has them.
-ghost use Rattle.std.specs.Prelude.{◌≡◌, ◌∷◌, [], IfOk, pos};
+ghost use Rattle.std.specs.Prelude.{◌≡◌, ◌∷◌, [], IfOk, None, pos};
 ghost use Rattle.fort_core.specs.declared.form.Mode.TheVariants as mode;
 ghost use Rattle.fort_core.specs.declared.form.Slot.TheVariants as slot;
 ghost use Rattle.fort_core.specs.declared.term.Term as term;
 ghost use Rattle.fort_core.specs.declared.term.Term.TheVariants.{Variable};
 ghost use Rattle.fort_core.specs.declared.value.Value.{Small};
-ghost use Rattle.fort_threads_law_servers.specs.Prelude.{adding_it, serving, taking};
+ghost use Rattle.fort_base.specs.declared.ty.Ty.TheVariants.{Any, Named};
+ghost use Rattle.fort_machine.specs.Acts.{unit};
+ghost use Rattle.fort_threads_law_servers.specs.Prelude.{adding_it, counting, linking, refusing, serving, taking, taking_else, taking_from};
 ghost use Rattle.fort_threads_law_servers.specs.Roots.{making_first};
 ghost use Rattle.fort_threads_law_servers.specs.Trees.{tree_term, unread};
 ghost use Rattle.fort_threads_law_tables.specs.Texts as text;
@@ -53,6 +55,30 @@ pub(crate) fn val_text(alloc: Global, x: &Numbers) -> Result<Term, Memory>
     then(alloc, call(alloc, x.sets.wait, Term::Variable(0))?, rest)
 }
 
+// `if count' = 64 then throw TooManyThreads end`
+fn refuses(alloc: Global, x: &Numbers) -> Result<Term, Memory>
+    ensures { IfOk result (λ t. t ≡ refusing (names x.now)
+        (term.Operator x.now.sets.equal (term.Read (slot.Location x.now.places.count)
+        ∷ term.Value (Small (pos 64)) ∷ []))) }
+{
+    let full = operator(alloc, x.sets.equal, read(x.places.count), number(64))?;
+    let refusal = Term::Value(Value::Object(x.types.refusal, x.places.refusal));
+    choice(alloc, full, throw(alloc, refusal)?, nothing(alloc)?)
+}
+
+// `t'.next' := queue'; queue' := t'`
+fn links(alloc: Global, x: &Numbers) -> Result<Term, Memory>
+    ensures { IfOk result (λ t. t ≡ linking (names x.now) (Variable 1)) }
+{
+    let queue = read(x.places.queue);
+    let behind = write_field(alloc, Term::Variable(1), x.fields.next, queue)?;
+    then(
+        alloc,
+        behind,
+        write(alloc, x.places.queue, Term::Variable(1))?,
+    )
+}
+
 // `x += 1` of a variable at the top.
 fn raise(alloc: Global, plus: SetId, x: Loc) -> Result<Term, Memory>
     ensures { IfOk result (λ t. t ≡ term.Write (slot.Location x)
@@ -65,20 +91,12 @@ fn raise(alloc: Global, plus: SetId, x: Loc) -> Result<Term, Memory>
 fn adding(alloc: Global, x: &Numbers) -> Result<Term, Memory>
     ensures { IfOk result (λ t. t ≡ adding_it (names x.now) (Variable 1)) }
 {
-    let full = operator(alloc, x.sets.equal, read(x.places.count), number(64))?;
-    let refusal = Term::Value(Value::Object(x.types.refusal, x.places.refusal));
-    let refuses = choice(alloc, full, throw(alloc, refusal)?, nothing(alloc)?)?;
+    let refused = refuses(alloc, x)?;
     let counted = raise(alloc, x.sets.plus, x.places.count)?;
     let opened = raise(alloc, x.sets.plus, x.places.unended)?;
-    let queue = read(x.places.queue);
-    let behind = write_field(alloc, Term::Variable(1), x.fields.next, queue)?;
-    let linked = then(
-        alloc,
-        behind,
-        write(alloc, x.places.queue, Term::Variable(1))?,
-    )?;
-    let rest = then(alloc, counted, then(alloc, opened, linked)?)?;
-    then(alloc, refuses, rest)
+    let last = then(alloc, opened, links(alloc, x)?)?;
+    let rest = then(alloc, counted, last)?;
+    then(alloc, refused, rest)
 }
 
 /// `spawn'`: `t': Thread' = Thread'(b'); atomic ..; t'`.
@@ -91,17 +109,35 @@ pub(crate) fn spawn_text(alloc: Global, x: &Numbers) -> Result<Term, Memory>
     local(alloc, 1, Ty::Named(x.types.thread), made, rest)
 }
 
+// `if open' > 0 then abort() end`
+fn gives_up(alloc: Global, x: &Numbers) -> Result<Term, Memory>
+    ensures { IfOk result (λ t. t ≡ taking_else (names x.now)) }
+{
+    let some = operator(alloc, x.sets.greater, read(x.places.unended), number(0))?;
+    choice(alloc, some, call_none(alloc, x.sets.abort), nothing(alloc)?)
+}
+
+// `typecase x' = q' of Thread' => queue' := x'.next'; else => .. end`
+fn takes_off(alloc: Global, x: &Numbers) -> Result<Term, Memory>
+    ensures { IfOk result (λ t. t ≡ taking_from (names x.now) (Variable 0)) }
+{
+    let next = read_field(alloc, Term::Variable(1), x.fields.next)?;
+    let goes_on = write(alloc, x.places.queue, next)?;
+    let thread = Ty::Named(x.types.thread);
+    typecase(
+        alloc,
+        Term::Variable(0),
+        goes_on,
+        thread,
+        gives_up(alloc, x)?,
+    )
+}
+
 /// `take'`: `atomic ..`.
 pub(crate) fn take_text(alloc: Global, x: &Numbers) -> Result<Term, Memory>
     ensures { IfOk result (λ t. t ≡ term.Atomic mode.Atomic (taking (names x.now))) }
 {
-    let some = operator(alloc, x.sets.greater, read(x.places.unended), number(0))?;
-    let other = choice(alloc, some, call_none(alloc, x.sets.abort), nothing(alloc)?)?;
-    let next = read_field(alloc, Term::Variable(1), x.fields.next)?;
-    let goes_on = write(alloc, x.places.queue, next)?;
-    let thread = Ty::Named(x.types.thread);
-    let chosen = typecase(alloc, Term::Variable(0), goes_on, thread, other)?;
-    let rest = then(alloc, chosen, Term::Variable(0))?;
+    let rest = then(alloc, takes_off(alloc, x)?, Term::Variable(0))?;
     atomic(alloc, local(alloc, 0, Ty::Any, read(x.places.queue), rest)?)
 }
 
@@ -116,18 +152,40 @@ fn storing(alloc: Global, x: &Numbers, a: u32, k: i32) -> Result<Term, Memory>
     then(alloc, value, state)
 }
 
-/// `go'`: `try r': Any = (t'.body')(); .. catch e' Exception => .. end; atomic open' -= 1`.
-pub(crate) fn go_text(alloc: Global, x: &Numbers) -> Result<Term, Memory>
-    ensures { IfOk result (λ t. t ≡ text.go_text (names x.now)) }
+// `try r': Any = (t'.body')(); .. catch e' Exception => .. end`
+fn tries(alloc: Global, x: &Numbers) -> Result<Term, Memory>
+    ensures { IfOk result (λ t. t ≡ term.Try
+        (term.Let ((1, Any) ∷ [])
+        (term.Apply (term.ReadField (Variable 0) x.now.fields.body) (term.Value unit))
+        (text.storing_text (names x.now) (Variable 1) 1))
+        2 ((text.storing_text (names x.now) (Variable 2) 2, Named x.now.types.exception) ∷ [])
+        None) }
 {
     let body = read_field(alloc, Term::Variable(0), x.fields.body)?;
     let called = apply(alloc, body, nothing(alloc)?)?;
     let kept = local(alloc, 1, Ty::Any, called, storing(alloc, x, 1, 1)?)?;
-    let exception = Ty::Named(x.types.exception);
-    let tried = try_with(alloc, kept, storing(alloc, x, 2, 2)?, exception)?;
+    try_with(
+        alloc,
+        kept,
+        storing(alloc, x, 2, 2)?,
+        Ty::Named(x.types.exception),
+    )
+}
+
+// `atomic open' -= 1`
+fn counts(alloc: Global, x: &Numbers) -> Result<Term, Memory>
+    ensures { IfOk result (λ t. t ≡ counting (names x.now)) }
+{
     let one_less = operator(alloc, x.sets.minus, read(x.places.unended), number(1))?;
-    let counted = atomic(alloc, write(alloc, x.places.unended, one_less)?)?;
-    then(alloc, tried, counted)
+    atomic(alloc, write(alloc, x.places.unended, one_less)?)
+}
+
+/// `go'`: `try r': Any = (t'.body')(); .. catch e' Exception => .. end; atomic open' -= 1`.
+pub(crate) fn go_text(alloc: Global, x: &Numbers) -> Result<Term, Memory>
+    ensures { IfOk result (λ t. t ≡ text.go_text (names x.now)) }
+{
+    let tried = tries(alloc, x)?;
+    then(alloc, tried, counts(alloc, x)?)
 }
 
 /// `serve'`: `q': Any = take'(); typecase x' = q' of Thread' => go'(x'); else => () end`.

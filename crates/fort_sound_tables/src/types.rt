@@ -47,6 +47,24 @@ fn differ(fields: &Fields) -> bool
         && fields.value.0 != fields.next.0
 }
 
+// Whether the mark, the value and the link of `Thread'` have their constants.
+fn hold(
+    fields: &Fields,
+    state: &CoreField,
+    value: &CoreField,
+    next: &CoreField,
+    zero: &Value,
+    unit: &Value,
+) -> bool
+    ensures state { IsTrue result → HasConstant state.now fields.now.state zero.now }
+    ensures value { IsTrue result → HasConstant value.now fields.now.value unit.now }
+    ensures next { IsTrue result → HasConstant next.now fields.now.next unit.now }
+{
+    has_constant(state, fields.state, zero)
+        && has_constant(value, fields.value, unit)
+        && has_constant(next, fields.next, unit)
+}
+
 // Whether `Thread'` has its four fields.
 fn has_fields(alloc: Global, program: &Program, x: &Numbers) -> Result<bool, Memory>
     ensures { IfOk result (λ has. IsTrue has → HasFields program.now (names x.now)) }
@@ -56,14 +74,13 @@ fn has_fields(alloc: Global, program: &Program, x: &Numbers) -> Result<bool, Mem
     let Some(shape) = program.shapes.get(x.types.thread.0 as usize) else {
         return Ok(false);
     };
+    if !differ(&x.fields) {
+        return Ok(false);
+    }
     match shape.fields.as_slice() {
-        [body, state, value, next] => Ok(
-            is_field(body, x.fields.body)
-                && has_constant(state, x.fields.state, &zero)
-                && has_constant(value, x.fields.value, &unit)
-                && has_constant(next, x.fields.next, &unit)
-                && differ(&x.fields),
-        ),
+        [body, state, value, next] => {
+            Ok(is_field(body, x.fields.body) && hold(&x.fields, state, value, next, &zero, &unit))
+        }
         _ => Ok(false),
     }
 }
