@@ -143,3 +143,7 @@ sole_as p set d ts us t u e f r =
 pub primitive_as : (p : Program) (set : SetId) (ts us : List Ty) (f : Primitive) → ts ≡ us
     → RunsPrimitive p set ts f → RunsPrimitive p set us f
 primitive_as p set ts us f e r = subst (λ ws. RunsPrimitive p set ws f) e r
+
+pub runs_at : (p : Program) (set : SetId) (ts us : List Ty) (d : DeclId) (x : CoreDecl) → ts ≡ us
+    → Runs p set ts d x → Runs p set us d x
+runs_at p set ts us d x e r = subst (λ ws. Runs p set ws d x) e r

@@ -1,5 +1,6 @@
 -- Terms and values that leave the prelude's own names alone, form by form.
-use Rattle.std.proofs.Common.{◌<◌, ◌≤◌, zero, suc, length, drop, get_or, arith, ◌≡◌, ℕ, List, [], ◌∷◌, Option, Some, None, false, ap, sym, ◌∙◌, subst, ℤ, Bool}
+use Rattle.std.proofs.Common.{◌++◌, ◌<◌, ◌≤◌, zero, suc, length, drop, get_or, arith, ◌≡◌, ℕ, List, [], ◌∷◌, Option, Some, None, false, ap, sym, ◌∙◌, subst, ℤ, Bool}
+use Rattle.std.specs.Option.{option_to_list}
 use Rattle.std.proofs.lemmas.List.{drop_all}
 use Rattle.fort_base.specs.declared.ids.Loc.{Loc}
 use Rattle.fort_base.specs.declared.ids.NameId.{NameId}
@@ -192,27 +193,22 @@ module _ (p : Program) (x : Numbers) where
       form_at (term.Typecase n a cs b) _ (outs-Typecase n a cs b) tt (one_more h.0 (one_more h.1 k))
       no_values
 
-  pub try_at : (a : Term) (n : ℕ) (cs : List (Term × Ty)) → Leaves p x a
-      → AllLeave p x (in_clauses cs) → Leaves p x (term.Try a n cs None)
-  try_at a n cs h k =
-      form_at (term.Try a n cs None) _ (outs-Try a n cs None) tt (one_more h k) no_values
+  pub try_of : (a : Term) (n : ℕ) (cs : List (Term × Ty)) (last : Option Term) → Leaves p x a
+      → AllLeave p x (option_to_list last ++ in_clauses cs) → Leaves p x (term.Try a n cs last)
+  try_of a n cs last h k =
+      form_at (term.Try a n cs last) _ (outs-Try a n cs last) tt (one_more h k) no_values
 
-  pub try_last_at : (a : Term) (n : ℕ) (cs : List (Term × Ty)) (b : Term) → Both a b
-      → AllLeave p x (in_clauses cs) → Leaves p x (term.Try a n cs (Some b))
-  try_last_at a n cs b h k =
-      form_at (term.Try a n cs (Some b)) _ (outs-Try a n cs (Some b)) tt
-      (one_more h.0 (one_more h.1 k)) no_values
+  pub rest_none : (cs : List (Term × Ty)) (last : Option Term) → last ≡ None
+      → AllLeave p x (in_clauses cs) → AllLeave p x (option_to_list last ++ in_clauses cs)
+  rest_none cs last e k =
+      subst (λ (l : Option Term). AllLeave p x (option_to_list l ++ in_clauses cs)) (sym e) k
 
-  pub try_by : (a : Term) (n : ℕ) (cs : List (Term × Ty)) (last : Option Term) → last ≡ None
-      → Leaves p x a → AllLeave p x (in_clauses cs) → Leaves p x (term.Try a n cs last)
-  try_by a n cs last e h k =
-      subst (λ l. Leaves p x (term.Try a n cs l)) (sym e) (try_at a n cs h k)
-
-  pub try_last_by : (a : Term) (n : ℕ) (cs : List (Term × Ty)) (last : Option Term) (b : Term)
-      → last ≡ Some b → Both a b → AllLeave p x (in_clauses cs)
-      → Leaves p x (term.Try a n cs last)
-  try_last_by a n cs last b e h k =
-      subst (λ l. Leaves p x (term.Try a n cs l)) (sym e) (try_last_at a n cs b h k)
+  pub rest_some : (cs : List (Term × Ty)) (last : Option Term) (b : Term) → last ≡ Some b
+      → Leaves p x b → AllLeave p x (in_clauses cs)
+      → AllLeave p x (option_to_list last ++ in_clauses cs)
+  rest_some cs last b e h k =
+      subst (λ (l : Option Term). AllLeave p x (option_to_list l ++ in_clauses cs)) (sym e)
+      (one_more h k)
 
   -- values
   abbrev Leads : Value-F Term Value Closure → Type 0

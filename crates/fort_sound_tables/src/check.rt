@@ -1,6 +1,7 @@
 //! Whether a program has all that the laws on runs with threads take of it.
 ghost use Rattle.std.specs.Prelude.{◌≡◌, ◌∷◌, [], false, IsTrue, IfOk, IfSome};
 ghost use Rattle.fort_core.specs.declared.term.Term as a_term;
+ghost use Rattle.fort_core.specs.declared.term.Term.{Term as ATerm};
 ghost use Rattle.fort_machine.specs.Ends.{is_thrown};
 ghost use Rattle.fort_sound_tables.specs.Threads.{CallsOwn, HasThreads, RunsNumbers, RunsOwn, RunsPrelude, StandApart, StandPlaces, StartsTexts, TakesTexts, MakesThreads};
 ghost use Rattle.fort_threads_law_tables.specs.Texts as text;
@@ -68,15 +69,25 @@ fn runs_numbers(alloc: Global, program: &Program, x: &Numbers) -> Result<bool, M
     let small = program.built_in.small;
     let two = two_types(alloc, Ty::Named(small), Ty::Named(small))?;
     let sets = &x.sets;
-    Ok(
-        runs_primitive(program, sets.hash, &two, Primitive::RangeCount)
-            && runs_primitive(program, sets.equal, &two, Primitive::EqualSmall)
-            && runs_differs(program, sets.differs, &two)
-            && runs_primitive(program, sets.plus, &two, Primitive::AddSmall)
-            && runs_primitive(program, sets.minus, &two, Primitive::SubtractSmall)
-            && runs_primitive(program, sets.greater, &two, Primitive::GreaterSmall)
-            && runs_primitive(program, sets.abort, &none, Primitive::Abort),
-    )
+    if !runs_primitive(program, sets.hash, &two, Primitive::RangeCount) {
+        return Ok(false);
+    }
+    if !runs_primitive(program, sets.equal, &two, Primitive::EqualSmall) {
+        return Ok(false);
+    }
+    if !runs_differs(program, sets.differs, &two) {
+        return Ok(false);
+    }
+    if !runs_primitive(program, sets.plus, &two, Primitive::AddSmall) {
+        return Ok(false);
+    }
+    if !runs_primitive(program, sets.minus, &two, Primitive::SubtractSmall) {
+        return Ok(false);
+    }
+    if !runs_primitive(program, sets.greater, &two, Primitive::GreaterSmall) {
+        return Ok(false);
+    }
+    Ok(runs_primitive(program, sets.abort, &none, Primitive::Abort))
 }
 
 // The parameters of `spawn'`: `() -> Any`.
@@ -263,6 +274,16 @@ fn own_body<'a>(alloc: Global, program: &'a Program, x: &Numbers) -> Option<&'a 
     if is_no_throw(text) { Some(text) } else { None }
 }
 
+// Whether the component's own `run` is there, and leaves the prelude's own names alone.
+fn has_own(alloc: Global, program: &Program, x: &Numbers) -> bool
+    ensures { IsTrue result → (t : ATerm) × RunsOwn program.now x.now t }
+{
+    match own_body(alloc, program, x) {
+        None => false,
+        Some(_text) => true,
+    }
+}
+
 /// Whether a program has the prelude's declarations, and keeps the prelude's own names to them: all
 /// that the laws on runs with threads take of a program by its tables. It takes time linear in the
 /// program's terms, but for a look through the opening store for each location that stands in them.
@@ -277,17 +298,29 @@ pub fn has_threads(alloc: Global, program: &Program) -> Result<bool, Memory>
     let Some(x) = found_numbers(program)? else {
         return Ok(false);
     };
-    if own_body(alloc, program, &x).is_none() {
+    if !has_own(alloc, program, &x) {
         return Ok(false);
     }
-    if !runs_prelude(alloc, program, &x)? || !runs_numbers(alloc, program, &x)? {
+    if !runs_prelude(alloc, program, &x)? {
         return Ok(false);
     }
-    if !takes_texts(alloc, program, &x)? || !starts_texts(alloc, program, &x)? {
+    if !runs_numbers(alloc, program, &x)? {
         return Ok(false);
     }
-    if !types_stand(alloc, program, &x)? || !places_stand(alloc, program, &x)? {
+    if !takes_texts(alloc, program, &x)? {
         return Ok(false);
     }
-    Ok(calls_own(&x) && all_stands_apart(program, &x))
+    if !starts_texts(alloc, program, &x)? {
+        return Ok(false);
+    }
+    if !types_stand(alloc, program, &x)? {
+        return Ok(false);
+    }
+    if !places_stand(alloc, program, &x)? {
+        return Ok(false);
+    }
+    if !calls_own(&x) {
+        return Ok(false);
+    }
+    Ok(all_stands_apart(program, &x))
 }

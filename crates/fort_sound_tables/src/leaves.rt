@@ -1,6 +1,7 @@
 //! Whether terms and values leave the prelude's own names alone.
-ghost use Rattle.std.specs.Prelude.{◌≡◌, IsTrue, false, []};
+ghost use Rattle.std.specs.Prelude.{◌≡◌, ◌++◌, IsTrue, false, []};
 ghost use Rattle.fort_core.specs.declared.term.Term.TheOpen.{Value-F};
+ghost use Rattle.std.specs.Option.{option_to_list};
 ghost use Rattle.fort_machine.specs.Parts.{in_clauses};
 ghost use Rattle.fort_machine.specs.Scopes.{is_among};
 ghost use Rattle.fort_threads_law_private.specs.Private.{LeadsToOpen, SlotIsOpen};
@@ -118,13 +119,33 @@ fn two_leave(program: &Program, x: &Numbers, term: &Term) -> bool
         Term::Typecase(_, a, clauses, b) => {
             both_leave(program, x, a, b) && clauses_leave(program, x, clauses)
         }
-        Term::Try(a, _, clauses, None) => {
-            leaves(program, x, a.get()) && clauses_leave(program, x, clauses)
-        }
-        Term::Try(a, _, clauses, Some(last)) => {
-            both_leave(program, x, a, last) && clauses_leave(program, x, clauses)
-        }
+        Term::Try(a, _, clauses, last) => try_leaves(program, x, a, clauses, last),
         _ => false,
+    }
+}
+
+// The parts of a `try`.
+#[cycle(leaves)]
+fn try_leaves(
+    program: &Program,
+    x: &Numbers,
+    a: &Shared<Term>,
+    clauses: &List<(Shared<Term>, Shared<Ty>)>,
+    last: &Option<Shared<Term>>,
+) -> bool
+    ensures first { IsTrue result → Leaves program.now x.now a.now }
+    ensures rest { IsTrue result
+        → AllLeave program.now x.now (option_to_list last.now ++ in_clauses clauses.now) }
+{
+    if !leaves(program, x, a.get()) {
+        return false;
+    }
+    if !clauses_leave(program, x, clauses) {
+        return false;
+    }
+    match last {
+        None => true,
+        Some(last) => leaves(program, x, last.get()),
     }
 }
 

@@ -2,7 +2,7 @@ use Rattle.std.proofs.Common.{◌≡◌, [], drop, add-one, sym, ◌∙◌, subs
 use Rattle.fort_core.specs.declared.value.Closure.{Closure}
 use Rattle.fort_machine.specs.Parts.{in_clauses}
 use Rattle.fort_sound_tables.specs.Leaves.{AllLeave, AllLeaveValues, Leaves}
-use Rattle.fort_sound_tables.proofs.FormsLeave.{terms_done, clauses_done, values_done, terms_more, clauses_more, values_more, also_at, apply_at, as_is, as_value, atomic_at, call_at, fill_at, for_at, for_halves_at, function_at, function_value_at, group_at, if_at, large_at, let_at, mutable_at, object_at, operator_at, range_at, read_at, read_element_at, read_field_at, reduce_at, reduce_halves_at, size_at, small_at, stepped_at, text_at, then_at, throw_at, truth_at, try_by, try_last_by, tuple_at, typecase_at, value_at, variable_at, while_at, write_at, write_element_at, write_field_at}
+use Rattle.fort_sound_tables.proofs.FormsLeave.{terms_done, clauses_done, values_done, terms_more, clauses_more, values_more, also_at, apply_at, as_is, as_value, atomic_at, call_at, fill_at, for_at, for_halves_at, function_at, function_value_at, group_at, if_at, large_at, let_at, mutable_at, object_at, operator_at, range_at, read_at, read_element_at, read_field_at, reduce_at, reduce_halves_at, size_at, small_at, stepped_at, text_at, then_at, throw_at, truth_at, try_of, rest_none, rest_some, tuple_at, typecase_at, value_at, variable_at, while_at, write_at, write_element_at, write_field_at}
 use Rattle.fort_sound_tables.proofs.leaves.+leaves.Goals as goal
 
 pub leaves-returns-in-Value : goal.leaves-returns-in-Value
@@ -174,20 +174,23 @@ two_leave-returns-then-both_leave-4 t c ok =
     (typecase_at c.args.program.now c.args.x.now _ _ _ _
     (c.both_leave-in-Typecase.ensures c.if-both_leave-4.true) (c.clauses_leave.ensures ok))
 
-pub two_leave-returns-then-leaves : goal.two_leave-returns-then-leaves
-two_leave-returns-then-leaves t c ok =
-    as_is c.args.program.now c.args.x.now _ _ c.in-Try-default-default-default-None.is
-    (try_by c.args.program.now c.args.x.now _ _ _ _ c.in-Try-default-default-default-None.field-3-is
-    (as_is c.args.program.now c.args.x.now _ _ (sym c.get-in-Try-default-default-default-None.ensures)
-    (c.leaves-in-Try-default-default-default-None.ensures c.if-leaves.true))
-    (c.clauses_leave-then-leaves.ensures ok))
+pub two_leave-returns-in-Try : goal.two_leave-returns-in-Try
+two_leave-returns-in-Try t c ok =
+    as_is c.args.program.now c.args.x.now _ _ c.in-Try.is
+    (try_of c.args.program.now c.args.x.now _ _ _ _ (c.try_leaves.ensures.first ok)
+    (c.try_leaves.ensures.rest ok))
 
-pub two_leave-returns-then-both_leave-5 : goal.two_leave-returns-then-both_leave-5
-two_leave-returns-then-both_leave-5 t c ok =
-    as_is c.args.program.now c.args.x.now _ _ c.in-Try-default-default-default-Some.is
-    (try_last_by c.args.program.now c.args.x.now _ _ _ _ _ c.in-Try-default-default-default-Some.field-3-is
-    (c.both_leave-in-Try-default-default-default-Some.ensures c.if-both_leave-5.true)
-    (c.clauses_leave-then-both_leave-5.ensures ok))
+pub try_leaves-returns-in-None-clause-rest : goal.try_leaves-returns-in-None-clause-rest
+try_leaves-returns-in-None-clause-rest t c ok =
+    rest_none c.args.program.now c.args.x.now _ _ c.in-None.is
+    (c.clauses_leave.ensures c.if-not-clauses_leave.false)
+
+pub try_leaves-returns-in-Some-clause-rest : goal.try_leaves-returns-in-Some-clause-rest
+try_leaves-returns-in-Some-clause-rest t c ok =
+    rest_some c.args.program.now c.args.x.now _ _ _ c.in-Some.is
+    (as_is c.args.program.now c.args.x.now _ _ (sym c.get-in-Some.ensures)
+    (c.leaves-in-Some.ensures ok))
+    (c.clauses_leave.ensures c.if-not-clauses_leave.false)
 
 pub value_leaves-returns-in-Small : goal.value_leaves-returns-in-Small
 value_leaves-returns-in-Small t c ok =
