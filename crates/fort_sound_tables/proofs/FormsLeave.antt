@@ -194,21 +194,24 @@ module _ (p : Program) (x : Numbers) where
       no_values
 
   pub try_of : (a : Term) (n : ℕ) (cs : List (Term × Ty)) (last : Option Term) → Leaves p x a
-      → AllLeave p x (option_to_list last ++ in_clauses cs) → Leaves p x (term.Try a n cs last)
-  try_of a n cs last h k =
-      form_at (term.Try a n cs last) _ (outs-Try a n cs last) tt (one_more h k) no_values
+      → AllLeave p x (option_to_list last) → AllLeave p x (in_clauses cs)
+      → Leaves p x (term.Try a n cs last)
+  try_of a n cs last h k more =
+      form_at (term.Try a n cs last) _ (outs-Try a n cs last) tt
+      (one_more h (joined (option_to_list last) k)) no_values
+    where
+      joined : (ts : List Term) → AllLeave p x ts → AllLeave p x (ts ++ in_clauses cs)
+      joined [] no_terms = more
+      joined (t ∷ ts) (one_more b rest) = one_more b (joined ts rest)
 
-  pub rest_none : (cs : List (Term × Ty)) (last : Option Term) → last ≡ None
-      → AllLeave p x (in_clauses cs) → AllLeave p x (option_to_list last ++ in_clauses cs)
-  rest_none cs last e k =
-      subst (λ (l : Option Term). AllLeave p x (option_to_list l ++ in_clauses cs)) (sym e) k
+  pub last_none : (last : Option Term) → last ≡ None → AllLeave p x (option_to_list last)
+  last_none last e =
+      subst (λ (l : Option Term). AllLeave p x (option_to_list l)) (sym e) no_terms
 
-  pub rest_some : (cs : List (Term × Ty)) (last : Option Term) (b : Term) → last ≡ Some b
-      → Leaves p x b → AllLeave p x (in_clauses cs)
-      → AllLeave p x (option_to_list last ++ in_clauses cs)
-  rest_some cs last b e h k =
-      subst (λ (l : Option Term). AllLeave p x (option_to_list l ++ in_clauses cs)) (sym e)
-      (one_more h k)
+  pub last_some : (last : Option Term) (b : Term) → last ≡ Some b → Leaves p x b
+      → AllLeave p x (option_to_list last)
+  last_some last b e h =
+      subst (λ (l : Option Term). AllLeave p x (option_to_list l)) (sym e) (one_more h no_terms)
 
   -- values
   abbrev Leads : Value-F Term Value Closure → Type 0

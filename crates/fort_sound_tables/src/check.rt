@@ -49,16 +49,8 @@ fn runs_prelude(alloc: Global, program: &Program, x: &Numbers) -> Result<bool, M
     if !runs_text(program, sets.go, &thread, decls.go, &go_text(alloc, x)?) {
         return Ok(false);
     }
-    if !runs_text(
-        program,
-        sets.wait,
-        &thread,
-        decls.wait,
-        &wait_text(alloc, x)?,
-    ) {
-        return Ok(false);
-    }
-    Ok(runs_text(program, sets.val, &thread, decls.val, &val_text(alloc, x)?))
+    let wait = wait_text(alloc, x)?;
+    Ok(runs_text(program, sets.wait, &thread, decls.wait, &wait))
 }
 
 // Whether the prelude's calls of operators of small numbers, and of `abort`, run the built-in ones.

@@ -1,5 +1,5 @@
 //! Whether terms and values leave the prelude's own names alone.
-ghost use Rattle.std.specs.Prelude.{◌≡◌, ◌++◌, IsTrue, false, []};
+ghost use Rattle.std.specs.Prelude.{◌≡◌, IsTrue, false, []};
 ghost use Rattle.fort_core.specs.declared.term.Term.TheOpen.{Value-F};
 ghost use Rattle.std.specs.Option.{option_to_list};
 ghost use Rattle.fort_machine.specs.Parts.{in_clauses};
@@ -95,65 +95,102 @@ fn two_leave(program: &Program, x: &Numbers, term: &Term) -> bool
     ensures { IsTrue result → Leaves program.now x.now term.now }
 {
     match term {
-        Term::Apply(a, b) => both_leave(program, x, a, b),
-        Term::Fill(_, a, b) => both_leave(program, x, a, b),
-        Term::Let(_, a, b) => both_leave(program, x, a, b),
-        Term::Mutable(_, _, a, b) => both_leave(program, x, a, b),
-        Term::WriteField(a, field, b) => !is_own_field(x, *field) && both_leave(program, x, a, b),
-        Term::ReadElement(a, b) => both_leave(program, x, a, b),
-        Term::Then(a, b) => both_leave(program, x, a, b),
-        Term::While(a, b) => both_leave(program, x, a, b),
-        Term::For(_, span, _, a, b) => is_whole(*span) && both_leave(program, x, a, b),
-        Term::ForHalves(a, b) => both_leave(program, x, a, b),
-        Term::ReduceHalves(set, a, b) => !is_own_set(x, *set) && both_leave(program, x, a, b),
-        Term::WriteElement(a, b, c) => {
-            both_leave(program, x, a, b) && leaves(program, x, c.get())
-        }
-        Term::If(a, b, c) => both_leave(program, x, a, b) && leaves(program, x, c.get()),
-        Term::Reduce(_, span, set, a, _, b, c) => {
-            if !is_free(x, *span, *set) {
+        Term::Apply(a, b) => leaves(program, x, a.get()) && leaves(program, x, b.get()),
+        Term::Fill(_, a, b) => leaves(program, x, a.get()) && leaves(program, x, b.get()),
+        Term::Let(_, a, b) => leaves(program, x, a.get()) && leaves(program, x, b.get()),
+        Term::Mutable(_, _, a, b) => leaves(program, x, a.get()) && leaves(program, x, b.get()),
+        Term::ReadElement(a, b) => leaves(program, x, a.get()) && leaves(program, x, b.get()),
+        Term::Then(a, b) => leaves(program, x, a.get()) && leaves(program, x, b.get()),
+        Term::While(a, b) => leaves(program, x, a.get()) && leaves(program, x, b.get()),
+        Term::ForHalves(a, b) => leaves(program, x, a.get()) && leaves(program, x, b.get()),
+        Term::WriteField(a, field, b) => {
+            if is_own_field(x, *field) {
                 return false;
             }
-            both_leave(program, x, a, b) && leaves(program, x, c.get())
+            leaves(program, x, a.get()) && leaves(program, x, b.get())
+        }
+        Term::For(_, span, _, a, b) => {
+            if !is_whole(*span) {
+                return false;
+            }
+            leaves(program, x, a.get()) && leaves(program, x, b.get())
+        }
+        Term::ReduceHalves(set, a, b) => {
+            if is_own_set(x, *set) {
+                return false;
+            }
+            leaves(program, x, a.get()) && leaves(program, x, b.get())
         }
         Term::Typecase(_, a, clauses, b) => {
-            both_leave(program, x, a, b) && clauses_leave(program, x, clauses)
+            if !clauses_leave(program, x, clauses) {
+                return false;
+            }
+            leaves(program, x, a.get()) && leaves(program, x, b.get())
         }
-        Term::Try(a, _, clauses, last) => try_leaves(program, x, a, clauses, last),
+        Term::Try(a, _, clauses, last) => {
+            if !clauses_leave(program, x, clauses) {
+                return false;
+            }
+            leaves(program, x, a.get()) && last_leaves(program, x, last)
+        }
+        Term::WriteElement(_, _, _) => write_element_leaves(program, x, term),
+        Term::If(_, _, _) => if_leaves(program, x, term),
+        Term::Reduce(_, _, _, _, _, _, _) => reduce_leaves(program, x, term),
         _ => false,
     }
 }
 
-// The parts of a `try`.
 #[cycle(leaves)]
-fn try_leaves(
-    program: &Program,
-    x: &Numbers,
-    a: &Shared<Term>,
-    clauses: &List<(Shared<Term>, Shared<Ty>)>,
-    last: &Option<Shared<Term>>,
-) -> bool
-    ensures first { IsTrue result → Leaves program.now x.now a.now }
-    ensures rest { IsTrue result
-        → AllLeave program.now x.now (option_to_list last.now ++ in_clauses clauses.now) }
+fn write_element_leaves(program: &Program, x: &Numbers, term: &Term) -> bool
+    ensures { IsTrue result → Leaves program.now x.now term.now }
 {
+    let Term::WriteElement(a, b, c) = term else {
+        return false;
+    };
     if !leaves(program, x, a.get()) {
         return false;
     }
-    if !clauses_leave(program, x, clauses) {
+    leaves(program, x, b.get()) && leaves(program, x, c.get())
+}
+
+#[cycle(leaves)]
+fn if_leaves(program: &Program, x: &Numbers, term: &Term) -> bool
+    ensures { IsTrue result → Leaves program.now x.now term.now }
+{
+    let Term::If(a, b, c) = term else {
+        return false;
+    };
+    if !leaves(program, x, a.get()) {
         return false;
     }
+    leaves(program, x, b.get()) && leaves(program, x, c.get())
+}
+
+#[cycle(leaves)]
+fn reduce_leaves(program: &Program, x: &Numbers, term: &Term) -> bool
+    ensures { IsTrue result → Leaves program.now x.now term.now }
+{
+    let Term::Reduce(_, span, set, a, _, b, c) = term else {
+        return false;
+    };
+    if !is_free(x, *span, *set) {
+        return false;
+    }
+    if !leaves(program, x, a.get()) {
+        return false;
+    }
+    leaves(program, x, b.get()) && leaves(program, x, c.get())
+}
+
+// Whether a `finally` does, where there is one.
+#[cycle(leaves)]
+fn last_leaves(program: &Program, x: &Numbers, last: &Option<Shared<Term>>) -> bool
+    ensures { IsTrue result → AllLeave program.now x.now (option_to_list last.now) }
+{
     match last {
         None => true,
         Some(last) => leaves(program, x, last.get()),
     }
-}
-
-#[cycle(leaves)]
-fn both_leave(program: &Program, x: &Numbers, a: &Shared<Term>, b: &Shared<Term>) -> bool
-    ensures { IsTrue result → Leaves program.now x.now a.now × Leaves program.now x.now b.now }
-{
-    leaves(program, x, a.get()) && leaves(program, x, b.get())
 }
 
 #[cycle(leaves)]

@@ -2,7 +2,7 @@ use Rattle.std.proofs.Common.{◌≡◌, [], drop, add-one, sym, ◌∙◌, subs
 use Rattle.fort_core.specs.declared.value.Closure.{Closure}
 use Rattle.fort_machine.specs.Parts.{in_clauses}
 use Rattle.fort_sound_tables.specs.Leaves.{AllLeave, AllLeaveValues, Leaves}
-use Rattle.fort_sound_tables.proofs.FormsLeave.{terms_done, clauses_done, values_done, terms_more, clauses_more, values_more, also_at, apply_at, as_is, as_value, atomic_at, call_at, fill_at, for_at, for_halves_at, function_at, function_value_at, group_at, if_at, large_at, let_at, mutable_at, object_at, operator_at, range_at, read_at, read_element_at, read_field_at, reduce_at, reduce_halves_at, size_at, small_at, stepped_at, text_at, then_at, throw_at, truth_at, try_of, rest_none, rest_some, tuple_at, typecase_at, value_at, variable_at, while_at, write_at, write_element_at, write_field_at}
+use Rattle.fort_sound_tables.proofs.FormsLeave.{terms_done, clauses_done, values_done, terms_more, clauses_more, values_more, also_at, apply_at, as_is, as_value, atomic_at, call_at, fill_at, for_at, for_halves_at, function_at, function_value_at, group_at, if_at, large_at, let_at, mutable_at, object_at, operator_at, range_at, read_at, read_element_at, read_field_at, reduce_at, reduce_halves_at, size_at, small_at, stepped_at, text_at, then_at, throw_at, truth_at, try_of, last_none, last_some, tuple_at, typecase_at, value_at, variable_at, while_at, write_at, write_element_at, write_field_at}
 use Rattle.fort_sound_tables.proofs.leaves.+leaves.Goals as goal
 
 pub leaves-returns-in-Value : goal.leaves-returns-in-Value
@@ -84,113 +84,111 @@ leaves-returns-then-not-is_own_set-2 t c ok =
     (sym c.is_own_set-in-Operator.ensures ∙ c.if-not-is_own_set-2.true)
     (c.all_leave-then-not-is_own_set-2.ensures ok))
 
-pub two_leave-returns-in-Apply : goal.two_leave-returns-in-Apply
-two_leave-returns-in-Apply t c ok =
+pub two_leave-returns-then-leaves : goal.two_leave-returns-then-leaves
+two_leave-returns-then-leaves t c ok =
     as_is c.args.program.now c.args.x.now _ _ c.in-Apply.is
-    (apply_at c.args.program.now c.args.x.now _ _ (c.both_leave.ensures ok))
+    (apply_at c.args.program.now c.args.x.now _ _
+    ((as_is c.args.program.now c.args.x.now _ _ (sym c.get.ensures) (c.leaves.ensures c.if-leaves.true)), (as_is c.args.program.now c.args.x.now _ _ (sym c.get-then-leaves.ensures) (c.leaves-then-leaves.ensures ok))))
 
-pub two_leave-returns-in-Fill : goal.two_leave-returns-in-Fill
-two_leave-returns-in-Fill t c ok =
+pub two_leave-returns-then-leaves-2 : goal.two_leave-returns-then-leaves-2
+two_leave-returns-then-leaves-2 t c ok =
     as_is c.args.program.now c.args.x.now _ _ c.in-Fill.is
-    (fill_at c.args.program.now c.args.x.now _ _ _ (c.both_leave-in-Fill.ensures ok))
+    (fill_at c.args.program.now c.args.x.now _ _ _
+    ((as_is c.args.program.now c.args.x.now _ _ (sym c.get-in-Fill.ensures) (c.leaves-in-Fill.ensures c.if-leaves-2.true)), (as_is c.args.program.now c.args.x.now _ _ (sym c.get-then-leaves-2.ensures) (c.leaves-then-leaves-2.ensures ok))))
 
-pub two_leave-returns-in-Let : goal.two_leave-returns-in-Let
-two_leave-returns-in-Let t c ok =
+pub two_leave-returns-then-leaves-3 : goal.two_leave-returns-then-leaves-3
+two_leave-returns-then-leaves-3 t c ok =
     as_is c.args.program.now c.args.x.now _ _ c.in-Let.is
-    (let_at c.args.program.now c.args.x.now _ _ _ (c.both_leave-in-Let.ensures ok))
+    (let_at c.args.program.now c.args.x.now _ _ _
+    ((as_is c.args.program.now c.args.x.now _ _ (sym c.get-in-Let.ensures) (c.leaves-in-Let.ensures c.if-leaves-3.true)), (as_is c.args.program.now c.args.x.now _ _ (sym c.get-then-leaves-3.ensures) (c.leaves-then-leaves-3.ensures ok))))
 
-pub two_leave-returns-in-Mutable : goal.two_leave-returns-in-Mutable
-two_leave-returns-in-Mutable t c ok =
+pub two_leave-returns-then-leaves-4 : goal.two_leave-returns-then-leaves-4
+two_leave-returns-then-leaves-4 t c ok =
     as_is c.args.program.now c.args.x.now _ _ c.in-Mutable.is
-    (mutable_at c.args.program.now c.args.x.now _ _ _ _ (c.both_leave-in-Mutable.ensures ok))
+    (mutable_at c.args.program.now c.args.x.now _ _ _ _
+    ((as_is c.args.program.now c.args.x.now _ _ (sym c.get-in-Mutable.ensures) (c.leaves-in-Mutable.ensures c.if-leaves-4.true)), (as_is c.args.program.now c.args.x.now _ _ (sym c.get-then-leaves-4.ensures) (c.leaves-then-leaves-4.ensures ok))))
 
-pub two_leave-returns-then-not-is_own_field : goal.two_leave-returns-then-not-is_own_field
-two_leave-returns-then-not-is_own_field t c ok =
-    as_is c.args.program.now c.args.x.now _ _ c.in-WriteField.is
-    (write_field_at c.args.program.now c.args.x.now _ _ _
-    (sym c.is_own_field.ensures ∙ c.if-not-is_own_field.true)
-    (c.both_leave-then-not-is_own_field.ensures ok))
-
-pub two_leave-returns-in-ReadElement : goal.two_leave-returns-in-ReadElement
-two_leave-returns-in-ReadElement t c ok =
+pub two_leave-returns-then-leaves-5 : goal.two_leave-returns-then-leaves-5
+two_leave-returns-then-leaves-5 t c ok =
     as_is c.args.program.now c.args.x.now _ _ c.in-ReadElement.is
-    (read_element_at c.args.program.now c.args.x.now _ _ (c.both_leave-in-ReadElement.ensures ok))
+    (read_element_at c.args.program.now c.args.x.now _ _
+    ((as_is c.args.program.now c.args.x.now _ _ (sym c.get-in-ReadElement.ensures) (c.leaves-in-ReadElement.ensures c.if-leaves-5.true)), (as_is c.args.program.now c.args.x.now _ _ (sym c.get-then-leaves-5.ensures) (c.leaves-then-leaves-5.ensures ok))))
 
-pub two_leave-returns-in-Then : goal.two_leave-returns-in-Then
-two_leave-returns-in-Then t c ok =
+pub two_leave-returns-then-leaves-6 : goal.two_leave-returns-then-leaves-6
+two_leave-returns-then-leaves-6 t c ok =
     as_is c.args.program.now c.args.x.now _ _ c.in-Then.is
-    (then_at c.args.program.now c.args.x.now _ _ (c.both_leave-in-Then.ensures ok))
+    (then_at c.args.program.now c.args.x.now _ _
+    ((as_is c.args.program.now c.args.x.now _ _ (sym c.get-in-Then.ensures) (c.leaves-in-Then.ensures c.if-leaves-6.true)), (as_is c.args.program.now c.args.x.now _ _ (sym c.get-then-leaves-6.ensures) (c.leaves-then-leaves-6.ensures ok))))
 
-pub two_leave-returns-in-While : goal.two_leave-returns-in-While
-two_leave-returns-in-While t c ok =
+pub two_leave-returns-then-leaves-7 : goal.two_leave-returns-then-leaves-7
+two_leave-returns-then-leaves-7 t c ok =
     as_is c.args.program.now c.args.x.now _ _ c.in-While.is
-    (while_at c.args.program.now c.args.x.now _ _ (c.both_leave-in-While.ensures ok))
+    (while_at c.args.program.now c.args.x.now _ _
+    ((as_is c.args.program.now c.args.x.now _ _ (sym c.get-in-While.ensures) (c.leaves-in-While.ensures c.if-leaves-7.true)), (as_is c.args.program.now c.args.x.now _ _ (sym c.get-then-leaves-7.ensures) (c.leaves-then-leaves-7.ensures ok))))
 
-pub two_leave-returns-then-is_whole : goal.two_leave-returns-then-is_whole
-two_leave-returns-then-is_whole t c ok =
-    as_is c.args.program.now c.args.x.now _ _ c.in-For.is
-    (for_at c.args.program.now c.args.x.now _ _ _ _ _
-    (c.is_whole.ensures c.if-is_whole.true) (c.both_leave-then-is_whole.ensures ok))
-
-pub two_leave-returns-in-ForHalves : goal.two_leave-returns-in-ForHalves
-two_leave-returns-in-ForHalves t c ok =
+pub two_leave-returns-then-leaves-8 : goal.two_leave-returns-then-leaves-8
+two_leave-returns-then-leaves-8 t c ok =
     as_is c.args.program.now c.args.x.now _ _ c.in-ForHalves.is
-    (for_halves_at c.args.program.now c.args.x.now _ _ (c.both_leave-in-ForHalves.ensures ok))
+    (for_halves_at c.args.program.now c.args.x.now _ _
+    ((as_is c.args.program.now c.args.x.now _ _ (sym c.get-in-ForHalves.ensures) (c.leaves-in-ForHalves.ensures c.if-leaves-8.true)), (as_is c.args.program.now c.args.x.now _ _ (sym c.get-then-leaves-8.ensures) (c.leaves-then-leaves-8.ensures ok))))
 
-pub two_leave-returns-then-not-is_own_set : goal.two_leave-returns-then-not-is_own_set
-two_leave-returns-then-not-is_own_set t c ok =
+pub two_leave-returns-then-leaves-9 : goal.two_leave-returns-then-leaves-9
+two_leave-returns-then-leaves-9 t c ok =
+    as_is c.args.program.now c.args.x.now _ _ c.in-WriteField.is
+    (write_field_at c.args.program.now c.args.x.now _ _ _ (sym c.is_own_field.ensures ∙ c.if-is_own_field.false)
+    ((as_is c.args.program.now c.args.x.now _ _ (sym c.get-in-WriteField.ensures) (c.leaves-in-WriteField.ensures c.if-leaves-9.true)), (as_is c.args.program.now c.args.x.now _ _ (sym c.get-then-leaves-9.ensures) (c.leaves-then-leaves-9.ensures ok))))
+
+pub two_leave-returns-then-leaves-10 : goal.two_leave-returns-then-leaves-10
+two_leave-returns-then-leaves-10 t c ok =
+    as_is c.args.program.now c.args.x.now _ _ c.in-For.is
+    (for_at c.args.program.now c.args.x.now _ _ _ _ _ (c.is_whole.ensures c.if-not-is_whole.false)
+    ((as_is c.args.program.now c.args.x.now _ _ (sym c.get-in-For.ensures) (c.leaves-in-For.ensures c.if-leaves-10.true)), (as_is c.args.program.now c.args.x.now _ _ (sym c.get-then-leaves-10.ensures) (c.leaves-then-leaves-10.ensures ok))))
+
+pub two_leave-returns-then-leaves-11 : goal.two_leave-returns-then-leaves-11
+two_leave-returns-then-leaves-11 t c ok =
     as_is c.args.program.now c.args.x.now _ _ c.in-ReduceHalves.is
-    (reduce_halves_at c.args.program.now c.args.x.now _ _ _
-    (sym c.is_own_set.ensures ∙ c.if-not-is_own_set.true)
-    (c.both_leave-then-not-is_own_set.ensures ok))
+    (reduce_halves_at c.args.program.now c.args.x.now _ _ _ (sym c.is_own_set.ensures ∙ c.if-is_own_set.false)
+    ((as_is c.args.program.now c.args.x.now _ _ (sym c.get-in-ReduceHalves.ensures) (c.leaves-in-ReduceHalves.ensures c.if-leaves-11.true)), (as_is c.args.program.now c.args.x.now _ _ (sym c.get-then-leaves-11.ensures) (c.leaves-then-leaves-11.ensures ok))))
 
-pub two_leave-returns-then-both_leave : goal.two_leave-returns-then-both_leave
-two_leave-returns-then-both_leave t c ok =
+pub two_leave-returns-then-leaves-12 : goal.two_leave-returns-then-leaves-12
+two_leave-returns-then-leaves-12 t c ok =
+    as_is c.args.program.now c.args.x.now _ _ c.in-Typecase.is
+    (typecase_at c.args.program.now c.args.x.now _ _ _ _ ((as_is c.args.program.now c.args.x.now _ _ (sym c.get-in-Typecase.ensures) (c.leaves-in-Typecase.ensures c.if-leaves-12.true)), (as_is c.args.program.now c.args.x.now _ _ (sym c.get-then-leaves-12.ensures) (c.leaves-then-leaves-12.ensures ok)))
+    (c.clauses_leave.ensures c.if-not-clauses_leave.false))
+
+pub two_leave-returns-then-leaves-13 : goal.two_leave-returns-then-leaves-13
+two_leave-returns-then-leaves-13 t c ok =
+    as_is c.args.program.now c.args.x.now _ _ c.in-Try.is
+    (try_of c.args.program.now c.args.x.now _ _ _ _ (as_is c.args.program.now c.args.x.now _ _ (sym c.get-in-Try.ensures) (c.leaves-in-Try.ensures c.if-leaves-13.true))
+    (c.last_leaves.ensures ok) (c.clauses_leave-in-Try.ensures c.if-not-clauses_leave-2.false))
+
+pub write_element_leaves-returns-then-leaves : goal.write_element_leaves-returns-then-leaves
+write_element_leaves-returns-then-leaves t c ok =
     as_is c.args.program.now c.args.x.now _ _ c.in-WriteElement.is
     (write_element_at c.args.program.now c.args.x.now _ _ _
-    (c.both_leave-in-WriteElement.ensures c.if-both_leave.true)
-    (as_is c.args.program.now c.args.x.now _ _ (sym c.get.ensures) (c.leaves.ensures ok)))
+    ((as_is c.args.program.now c.args.x.now _ _ (sym c.get.ensures) (c.leaves.ensures c.if-not-leaves.false)), (as_is c.args.program.now c.args.x.now _ _ (sym c.get-2.ensures) (c.leaves-2.ensures c.if-leaves.true))) (as_is c.args.program.now c.args.x.now _ _ (sym c.get-then-leaves.ensures) (c.leaves-then-leaves.ensures ok)))
 
-pub two_leave-returns-then-both_leave-2 : goal.two_leave-returns-then-both_leave-2
-two_leave-returns-then-both_leave-2 t c ok =
+pub if_leaves-returns-then-leaves : goal.if_leaves-returns-then-leaves
+if_leaves-returns-then-leaves t c ok =
     as_is c.args.program.now c.args.x.now _ _ c.in-If.is
     (if_at c.args.program.now c.args.x.now _ _ _
-    (c.both_leave-in-If.ensures c.if-both_leave-2.true)
-    (as_is c.args.program.now c.args.x.now _ _ (sym c.get-then-both_leave-2.ensures) (c.leaves-then-both_leave-2.ensures ok)))
+    ((as_is c.args.program.now c.args.x.now _ _ (sym c.get.ensures) (c.leaves.ensures c.if-not-leaves.false)), (as_is c.args.program.now c.args.x.now _ _ (sym c.get-2.ensures) (c.leaves-2.ensures c.if-leaves.true))) (as_is c.args.program.now c.args.x.now _ _ (sym c.get-then-leaves.ensures) (c.leaves-then-leaves.ensures ok)))
 
-pub two_leave-returns-then-both_leave-3 : goal.two_leave-returns-then-both_leave-3
-two_leave-returns-then-both_leave-3 t c ok =
+pub reduce_leaves-returns-then-leaves : goal.reduce_leaves-returns-then-leaves
+reduce_leaves-returns-then-leaves t c ok =
     as_is c.args.program.now c.args.x.now _ _ c.in-Reduce.is
-    (reduce_at c.args.program.now c.args.x.now _ _ _ _ _ _ _
-    (c.is_free.ensures.whole c.if-not-is_free.false)
+    (reduce_at c.args.program.now c.args.x.now _ _ _ _ _ _ _ (c.is_free.ensures.whole c.if-not-is_free.false)
     (c.is_free.ensures.other c.if-not-is_free.false)
-    (c.both_leave-in-Reduce.ensures c.if-both_leave-3.true)
-    (as_is c.args.program.now c.args.x.now _ _ (sym c.get-then-both_leave-3.ensures)
-    (c.leaves-then-both_leave-3.ensures ok)))
+    ((as_is c.args.program.now c.args.x.now _ _ (sym c.get.ensures) (c.leaves.ensures c.if-not-leaves.false)), (as_is c.args.program.now c.args.x.now _ _ (sym c.get-2.ensures) (c.leaves-2.ensures c.if-leaves.true))) (as_is c.args.program.now c.args.x.now _ _ (sym c.get-then-leaves.ensures) (c.leaves-then-leaves.ensures ok)))
 
-pub two_leave-returns-then-both_leave-4 : goal.two_leave-returns-then-both_leave-4
-two_leave-returns-then-both_leave-4 t c ok =
-    as_is c.args.program.now c.args.x.now _ _ c.in-Typecase.is
-    (typecase_at c.args.program.now c.args.x.now _ _ _ _
-    (c.both_leave-in-Typecase.ensures c.if-both_leave-4.true) (c.clauses_leave.ensures ok))
+pub last_leaves-returns-in-None : goal.last_leaves-returns-in-None
+last_leaves-returns-in-None t c ok =
+    last_none c.args.program.now c.args.x.now _ c.in-None.is
 
-pub two_leave-returns-in-Try : goal.two_leave-returns-in-Try
-two_leave-returns-in-Try t c ok =
-    as_is c.args.program.now c.args.x.now _ _ c.in-Try.is
-    (try_of c.args.program.now c.args.x.now _ _ _ _ (c.try_leaves.ensures.first ok)
-    (c.try_leaves.ensures.rest ok))
-
-pub try_leaves-returns-in-None-clause-rest : goal.try_leaves-returns-in-None-clause-rest
-try_leaves-returns-in-None-clause-rest t c ok =
-    rest_none c.args.program.now c.args.x.now _ _ c.in-None.is
-    (c.clauses_leave.ensures c.if-not-clauses_leave.false)
-
-pub try_leaves-returns-in-Some-clause-rest : goal.try_leaves-returns-in-Some-clause-rest
-try_leaves-returns-in-Some-clause-rest t c ok =
-    rest_some c.args.program.now c.args.x.now _ _ _ c.in-Some.is
-    (as_is c.args.program.now c.args.x.now _ _ (sym c.get-in-Some.ensures)
-    (c.leaves-in-Some.ensures ok))
-    (c.clauses_leave.ensures c.if-not-clauses_leave.false)
+pub last_leaves-returns-in-Some : goal.last_leaves-returns-in-Some
+last_leaves-returns-in-Some t c ok =
+    last_some c.args.program.now c.args.x.now _ _ c.in-Some.is
+    (as_is c.args.program.now c.args.x.now _ _ (sym c.get.ensures) (c.leaves.ensures ok))
 
 pub value_leaves-returns-in-Small : goal.value_leaves-returns-in-Small
 value_leaves-returns-in-Small t c ok =
