@@ -1,5 +1,5 @@
 -- Terms and values that leave the prelude's own names alone, form by form.
-use Rattle.std.proofs.Common.{◌++◌, ◌<◌, ◌≤◌, zero, suc, length, drop, get_or, arith, ◌≡◌, ℕ, List, [], ◌∷◌, Option, Some, None, false, ap, sym, ◌∙◌, subst, ℤ, Bool}
+use Rattle.std.proofs.Common.{◌++◌, ◌<◌, ◌≤◌, zero, suc, length, drop, get_or, arith, ◌≡◌, ℕ, List, [], ◌∷◌, Option, Some, None, false, sym, subst, ℤ, Bool}
 use Rattle.std.specs.Option.{option_to_list}
 use Rattle.std.proofs.lemmas.List.{drop_all}
 use Rattle.fort_base.specs.declared.ids.Loc.{Loc}
@@ -23,7 +23,7 @@ use Rattle.fort_core.specs.declared.value.Value.TheVariants as value
 use Rattle.fort_core.specs.declared.value.Value.TheVariants.{outs-Small, outs-Large, outs-Truth, outs-Text, outs-Range, outs-Tuple, outs-Object, outs-Function}
 use Rattle.fort_machine.specs.Scopes.{is_among}
 use Rattle.fort_machine.specs.Parts.{in_clauses, terms_in, held_values, values_in, values_of, bodies_of}
-use Rattle.fort_threads_law_private.specs.Private.{secret_sets, secret_fields, IsSecretSet, IsSecretField, IsWithin, SlotIsOpen, KeepsOff, LeadsToOpen, Private, private, AllPrivate, no_terms, one_more, PrivateValue, private_value, AllPrivateValues, no_values, one_more_value}
+use Rattle.fort_threads_law_private.specs.Private.{secret_sets, secret_fields, IsSecretSet, IsSecretField, IsWithin, SlotIsOpen, KeepsOff, LeadsToOpen, private, no_terms, one_more, private_value, no_values, one_more_value}
 use Rattle.fort_sound_tables.specs.declared.numbers.Numbers.{Numbers}
 use Rattle.fort_sound_tables.specs.Numbers.{names, start}
 use Rattle.fort_sound_tables.proofs.Lists.{not_one_of}

@@ -1,6 +1,6 @@
 -- Chapter "The machine with threads": on which ground a run of a program begins, and what leaves the
 -- prelude's own names alone there.
-use Rattle.std.specs.Prelude.{ℕ, Bool, not, ◌&&◌, List, [], ◌∷◌, map, None}
+use Rattle.std.specs.Prelude.{ℕ, not, ◌&&◌, List, [], ◌∷◌, map, None}
 use Rattle.std.specs.Option.{is_some}
 use Rattle.fort_base.specs.declared.ids.DeclId.{DeclId}
 use Rattle.fort_base.specs.declared.ids.NameId.{NameId}

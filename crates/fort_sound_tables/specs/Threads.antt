@@ -5,7 +5,6 @@ use Rattle.std.specs.List.{AllByRecursion}
 use Rattle.fort_base.specs.declared.ids.DeclId.{DeclId}
 use Rattle.fort_base.specs.declared.ids.Loc.{Loc}
 use Rattle.fort_base.specs.declared.ids.SetId.{SetId}
-use Rattle.fort_base.specs.declared.ids.TypeId.{TypeId}
 use Rattle.fort_base.specs.declared.ty.Ty.{Ty, Tuple, Arrow}
 use Rattle.fort_base.specs.declared.ty.Ty.TheVariants.{Any, Named}
 use Rattle.fort_core.specs.declared.form.Mode.TheVariants as mode
@@ -39,7 +38,7 @@ use Rattle.fort_threads_law_tables.specs.Tabled.{Runs, RunsText, RunsPrimitive, 
 use Rattle.fort_threads_law_tables.specs.Texts.{wait_text, ready_text, val_text, spawn_text, go_text, main_text}
 use Rattle.fort_sound_tables.specs.declared.numbers.Numbers.{Numbers}
 use Rattle.fort_sound_tables.specs.declared.numbers.Places.{Places}
-use Rattle.fort_sound_tables.specs.Numbers.{names, start, known, own}
+use Rattle.fort_sound_tables.specs.Numbers.{names, start, known}
 use Rattle.fort_sound_tables.specs.Lookups.{TakesText}
 use Rattle.fort_sound_tables.specs.Leaves.{ground, Leaves, AllLeaveValues, LeavesValue, LeavesBody, own_sets}
 
