@@ -51,9 +51,12 @@ module _ (p : Program) (n : Names) (h : HasFields p n) (f : NameId)
   nowhere : place_of f h.shape.fields ≡ None
   nowhere =
       ap (place_of f) h.are_fields
-      ∙ passes h.body (h.state ∷ h.value ∷ h.next ∷ []) (other_name n.body (λ e. inl e) h.body h.is_body.0)
-      (passes h.state (h.value ∷ h.next ∷ []) (other_name n.state (λ e. inr (inl e)) h.state h.is_state.0)
-      (passes h.value (h.next ∷ []) (other_name n.value (λ e. inr (inr (inl e))) h.value h.is_value.0)
+      ∙ passes h.body (h.state ∷ h.value ∷ h.next ∷ []) (other_name n.body (λ e. inl e) h.body
+      h.is_body.0)
+      (passes h.state (h.value ∷ h.next ∷ []) (other_name n.state (λ e. inr (inl e)) h.state
+      h.is_state.0)
+      (passes h.value (h.next ∷ []) (other_name n.value (λ e. inr (inr (inl e))) h.value
+      h.is_value.0)
       (passes h.next [] (other_name n.next (λ e. inr (inr (inr (inl e)))) h.next h.is_next.0)
       refl)))
 

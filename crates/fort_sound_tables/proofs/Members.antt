@@ -109,7 +109,11 @@ pub one_by : (p : Program) (set : SetId) (d : DeclId) (members : CoreSet) (o : D
     → slice_get p.sets set.0 ≡ Some members → members.decls ≡ o ∷ [] → o ≡ d → (x : CoreDecl)
     → slice_get p.decls d.0 ≡ Some x → HasOne p set d x
 one_by p set d members o e q w x k =
-    record { is_set = e ∙ ap (λ ds. Some (made ds)) (q ∙ ap (λ (z : DeclId). z ∷ []) w); is_decl = k }
+    record {
+      is_set = e ∙ ap (λ ds. Some (made ds)) (q ∙ ap (λ (z : DeclId). z ∷ []) w);
+      is_decl
+          = k;
+    }
   where
     made : List DeclId → CoreSet
     made ds = record { decls = ds }
