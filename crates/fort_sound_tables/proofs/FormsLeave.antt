@@ -1,5 +1,5 @@
 -- Terms and values that leave the prelude's own names alone, form by form.
-use Rattle.std.proofs.Common.{◌++◌, ◌<◌, ◌≤◌, zero, suc, length, drop, get_or, arith, ◌≡◌, ℕ, List, [], ◌∷◌, Option, Some, None, false, ap, sym, ◌∙◌, subst, ℤ, Bool}
+use Rattle.std.proofs.Common.{◌++◌, ◌<◌, ◌≤◌, zero, suc, length, drop, get_or, arith, ◌≡◌, ℕ, List, [], ◌∷◌, Option, Some, None, false, sym, subst, ℤ, Bool}
 use Rattle.std.specs.Option.{option_to_list}
 use Rattle.std.proofs.lemmas.List.{drop_all}
 use Rattle.fort_base.specs.declared.ids.Loc.{Loc}
@@ -23,7 +23,7 @@ use Rattle.fort_core.specs.declared.value.Value.TheVariants as value
 use Rattle.fort_core.specs.declared.value.Value.TheVariants.{outs-Small, outs-Large, outs-Truth, outs-Text, outs-Range, outs-Tuple, outs-Object, outs-Function}
 use Rattle.fort_machine.specs.Scopes.{is_among}
 use Rattle.fort_machine.specs.Parts.{in_clauses, terms_in, held_values, values_in, values_of, bodies_of}
-use Rattle.fort_threads_law_private.specs.Private.{secret_sets, secret_fields, IsSecretSet, IsSecretField, IsWithin, SlotIsOpen, KeepsOff, LeadsToOpen, Private, private, AllPrivate, no_terms, one_more, PrivateValue, private_value, AllPrivateValues, no_values, one_more_value}
+use Rattle.fort_threads_law_private.specs.Private.{secret_sets, secret_fields, IsSecretSet, IsSecretField, IsWithin, SlotIsOpen, KeepsOff, LeadsToOpen, private, no_terms, one_more, private_value, no_values, one_more_value}
 use Rattle.fort_sound_tables.specs.declared.numbers.Numbers.{Numbers}
 use Rattle.fort_sound_tables.specs.Numbers.{names, start}
 use Rattle.fort_sound_tables.proofs.Lists.{not_one_of}
@@ -98,7 +98,8 @@ module _ (p : Program) (x : Numbers) where
 
   pub read_field_at : (a : Term) (f : NameId) → is_among f.0 (own_fields x) ≡ false → Leaves p x a
       → Leaves p x (term.ReadField a f)
-  read_field_at a f o h = form_at (term.ReadField a f) _ (outs-ReadField a f) (no_field f o) (one_leaves h) no_values
+  read_field_at a f o h = form_at (term.ReadField a f) _ (outs-ReadField a f) (no_field f o)
+      (one_leaves h) no_values
 
   pub group_at : (ts : List Term) → AllLeave p x ts → Leaves p x (term.Group ts)
   group_at ts h = form_at (term.Group ts) _ (outs-Group ts) tt h no_values
@@ -110,9 +111,11 @@ module _ (p : Program) (x : Numbers) where
       → Leaves p x (term.Call s ts)
   call_at s ts o h = form_at (term.Call s ts) _ (outs-Call s ts) (no_set s o) h no_values
 
-  pub operator_at : (s : SetId) (ts : List Term) → is_among s.0 (own_sets x) ≡ false → AllLeave p x ts
+  pub operator_at : (s : SetId) (ts : List Term) → is_among s.0 (own_sets x) ≡ false → AllLeave
+      p x ts
       → Leaves p x (term.Operator s ts)
-  operator_at s ts o h = form_at (term.Operator s ts) _ (outs-Operator s ts) (no_set s o) h no_values
+  operator_at s ts o h = form_at (term.Operator s ts) _ (outs-Operator s ts) (no_set s o) h
+      no_values
 
   -- with two parts
   abbrev Both : Term → Term → Type 0
@@ -134,10 +137,12 @@ module _ (p : Program) (x : Numbers) where
   mutable_at n ty a b h =
       form_at (term.Mutable n ty a b) _ (outs-Mutable n ty a b) tt (two_leave h.0 h.1) no_values
 
-  pub write_field_at : (a : Term) (f : NameId) (b : Term) → is_among f.0 (own_fields x) ≡ false → Both a b
+  pub write_field_at : (a : Term) (f : NameId) (b : Term) → is_among f.0 (own_fields x) ≡ false
+      → Both a b
       → Leaves p x (term.WriteField a f b)
   write_field_at a f b o h =
-      form_at (term.WriteField a f b) _ (outs-WriteField a f b) (no_field f o) (two_leave h.0 h.1) no_values
+      form_at (term.WriteField a f b) _ (outs-WriteField a f b) (no_field f o) (two_leave h.0
+      h.1) no_values
 
   pub read_element_at : (a b : Term) → Both a b → Leaves p x (term.ReadElement a b)
   read_element_at a b h =
@@ -165,7 +170,8 @@ module _ (p : Program) (x : Numbers) where
   pub reduce_halves_at : (s : SetId) (a b : Term) → is_among s.0 (own_sets x) ≡ false → Both a b
       → Leaves p x (term.ReduceHalves s a b)
   reduce_halves_at s a b o h =
-      form_at (term.ReduceHalves s a b) _ (outs-ReduceHalves s a b) (no_set s o) (two_leave h.0 h.1) no_values
+      form_at (term.ReduceHalves s a b) _ (outs-ReduceHalves s a b) (no_set s o) (two_leave h.0
+      h.1) no_values
 
   -- with three
   three_leave : {a b c : Term} → Both a b → Leaves p x c → AllLeave p x (a ∷ b ∷ c ∷ [])
@@ -183,7 +189,10 @@ module _ (p : Program) (x : Numbers) where
       → s ≡ span.Whole → is_among set.0 (own_sets x) ≡ false → Both a b → Leaves p x c
       → Leaves p x (term.Reduce o s set a n b c)
   reduce_at o s set a n b c e f h k =
-      form_at (term.Reduce o s set a n b c) _ (outs-Reduce o s set a n b c) (whole_within s b e, no_set set f)
+      form_at (term.Reduce o s set a n b c) _ (outs-Reduce o s set a n b c) (
+        whole_within s b e,
+        no_set set f,
+      )
       (three_leave h k) no_values
 
   -- with clauses

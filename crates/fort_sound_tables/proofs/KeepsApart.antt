@@ -1,33 +1,27 @@
 -- A program whose tables say so keeps the prelude's own names to the prelude.
-use Rattle.std.proofs.Common.{◌≡◌, ℕ, ◌+◌, ◌==◌, ◌&&◌, ◌||◌, Bool, true, false, not, if◌then◌else◌, List, [], ◌∷◌, Option, Some, None, refl, ap, sym, ◌∙◌, subst, ◌⊎◌, inl, inr}
+use Rattle.std.proofs.Common.{◌≡◌, ℕ, ◌+◌, ◌==◌, Bool, true, false, if◌then◌else◌, List, [], ◌∷◌, Option, Some, None, refl, ap, sym, ◌∙◌, subst, inl, inr}
 use Rattle.std.specs.Prelude.{slice_get, option_map, option_and_then}
 use Rattle.std.specs.List.{AllByRecursion}
 use Rattle.std.proofs.lemmas.Option.{option_and_then_some}
-use Rattle.fort_base.specs.declared.ids.DeclId.{DeclId}
 use Rattle.fort_base.specs.declared.ids.Loc.{Loc}
 use Rattle.fort_base.specs.declared.ids.NameId.{NameId}
 use Rattle.fort_base.specs.declared.ids.SetId.{SetId}
-use Rattle.fort_base.specs.declared.ids.TypeId.{TypeId}
-use Rattle.fort_core.specs.declared.program.CoreDecl.{CoreDecl}
 use Rattle.fort_core.specs.declared.program.CoreField.{CoreField}
 use Rattle.fort_core.specs.declared.program.CoreShape.{CoreShape}
 use Rattle.fort_core.specs.declared.program.Program.{Program}
 use Rattle.fort_core.specs.declared.term.Term.TheOpen.{Value-F}
 use Rattle.fort_core.specs.declared.value.Value.{Value}
-use Rattle.fort_machine.specs.Acts.{object_of, single}
-use Rattle.fort_machine.specs.Calls.{Dispatches}
+use Rattle.fort_machine.specs.Acts.{object_of}
 use Rattle.fort_machine.specs.Forms.{place_of, field_of}
-use Rattle.fort_machine.specs.Journals.{opening_store, value_in}
-use Rattle.fort_machine.specs.Parts.{IsOneOf}
+use Rattle.fort_machine.specs.Journals.{value_in}
 use Rattle.fort_machine.specs.Scopes.{is_among}
-use Rattle.fort_threads.specs.Known as threads
 use Rattle.fort_threads_law_servers.specs.Prelude.{Names}
 use Rattle.fort_threads_law_private.specs.Apart.{KeepsApart}
 use Rattle.fort_threads_law_private.specs.Private.{secret_sets, IsSecretSet, IsSecretField}
 use Rattle.fort_threads_law_tables.specs.Tabled.{HasFields}
 use Rattle.fort_sound_tables.specs.declared.numbers.Numbers.{Numbers}
 use Rattle.fort_sound_tables.specs.Numbers.{names, start, known}
-use Rattle.fort_sound_tables.specs.Leaves.{ground_of, own_sets, LeavesValue, LeavesBody}
+use Rattle.fort_sound_tables.specs.Leaves.{ground_of, own_sets, LeavesValue}
 use Rattle.fort_sound_tables.specs.Threads.{LeavesPair, AllStandsApart}
 use Rattle.fort_sound_tables.proofs.Lists.{at_item, equal_is, some_is, one_of}
 
@@ -57,9 +51,12 @@ module _ (p : Program) (n : Names) (h : HasFields p n) (f : NameId)
   nowhere : place_of f h.shape.fields ≡ None
   nowhere =
       ap (place_of f) h.are_fields
-      ∙ passes h.body (h.state ∷ h.value ∷ h.next ∷ []) (other_name n.body (λ e. inl e) h.body h.is_body.0)
-      (passes h.state (h.value ∷ h.next ∷ []) (other_name n.state (λ e. inr (inl e)) h.state h.is_state.0)
-      (passes h.value (h.next ∷ []) (other_name n.value (λ e. inr (inr (inl e))) h.value h.is_value.0)
+      ∙ passes h.body (h.state ∷ h.value ∷ h.next ∷ []) (other_name n.body (λ e. inl e) h.body
+      h.is_body.0)
+      (passes h.state (h.value ∷ h.next ∷ []) (other_name n.state (λ e. inr (inl e)) h.state
+      h.is_state.0)
+      (passes h.value (h.next ∷ []) (other_name n.value (λ e. inr (inr (inl e))) h.value
+      h.is_value.0)
       (passes h.next [] (other_name n.next (λ e. inr (inr (inr (inl e)))) h.next h.is_next.0)
       refl)))
 

@@ -1,5 +1,5 @@
 -- Of all items of a list.
-use Rattle.std.proofs.Common.{◌≤◌, map, ◌||◌, ◌⊎◌, inl, inr, rules, ◌≡◌, ℕ, zero, suc, ◌+◌, ◌<◌, ◌==◌, Bool, true, false, if◌then◌else◌, List, [], ◌∷◌, length, drop, get_or, Option, Some, None, refl, ap, sym, ◌∙◌, subst, arith}
+use Rattle.std.proofs.Common.{◌≤◌, map, ◌||◌, inl, inr, rules, ◌≡◌, ℕ, zero, suc, ◌<◌, ◌==◌, Bool, true, false, List, [], ◌∷◌, length, drop, get_or, Some, refl, ap, sym, ◌∙◌, subst, arith}
 use Rattle.std.specs.Prelude.{Contains}
 use Rattle.fort_machine.specs.Parts.{IsOneOf}
 use Rattle.fort_machine.specs.Scopes.{is_among}

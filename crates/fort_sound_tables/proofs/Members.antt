@@ -1,5 +1,5 @@
 -- What a program's tables say one by one, from what single lookups say.
-use Rattle.std.proofs.Common.{◌≡◌, ℕ, ◌+◌, ◌<◌, ◌≤◌, ◌==◌, Bool, true, false, List, [], ◌∷◌, ◌++◌, length, Option, Some, None, refl, ap, sym, ◌∙◌, subst, ◌⊎◌, inl, inr, arith}
+use Rattle.std.proofs.Common.{◌≡◌, ℕ, ◌+◌, ◌<◌, ◌≤◌, ◌==◌, true, false, List, [], ◌∷◌, length, Option, Some, None, refl, ap, sym, ◌∙◌, subst, ◌⊎◌, inl, inr, arith}
 use Rattle.std.specs.Prelude.{slice_get, filter_map, option_and_then, pos}
 use Rattle.std.specs.List.{AllByRecursion, cons_option}
 use Rattle.std.proofs.lemmas.Bool.{cases_lt}
@@ -8,7 +8,6 @@ use Rattle.fort_base.specs.declared.ids.DeclId.{DeclId}
 use Rattle.fort_base.specs.declared.ids.SetId.{SetId}
 use Rattle.fort_base.specs.declared.ids.TypeId.{TypeId}
 use Rattle.fort_base.specs.declared.ids.Loc.{Loc}
-use Rattle.fort_core.specs.declared.program.CoreBody.{CoreBody}
 use Rattle.fort_core.specs.declared.program.CoreDecl.{CoreDecl}
 use Rattle.fort_core.specs.declared.program.CoreField.{CoreField}
 use Rattle.fort_core.specs.declared.program.CoreKind.{CoreKind}
@@ -17,7 +16,6 @@ use Rattle.fort_core.specs.declared.program.CoreSet.{CoreSet}
 use Rattle.fort_core.specs.declared.program.CoreShape.{CoreShape}
 use Rattle.fort_core.specs.declared.program.Program.{Program}
 use Rattle.fort_core.specs.declared.value.Value.{Value, Small, Object}
-use Rattle.fort_types.specs.Table.{is_set}
 use Rattle.fort_machine.specs.Acts.{unit, object_of, single}
 use Rattle.fort_machine.specs.Calls.{constants}
 use Rattle.fort_machine.specs.Scopes.{is_among}
@@ -111,7 +109,11 @@ pub one_by : (p : Program) (set : SetId) (d : DeclId) (members : CoreSet) (o : D
     → slice_get p.sets set.0 ≡ Some members → members.decls ≡ o ∷ [] → o ≡ d → (x : CoreDecl)
     → slice_get p.decls d.0 ≡ Some x → HasOne p set d x
 one_by p set d members o e q w x k =
-    record { is_set = e ∙ ap (λ ds. Some (made ds)) (q ∙ ap (λ (z : DeclId). z ∷ []) w); is_decl = k }
+    record {
+      is_set = e ∙ ap (λ ds. Some (made ds)) (q ∙ ap (λ (z : DeclId). z ∷ []) w);
+      is_decl
+          = k;
+    }
   where
     made : List DeclId → CoreSet
     made ds = record { decls = ds }

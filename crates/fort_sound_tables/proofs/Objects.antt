@@ -8,7 +8,7 @@ use Rattle.fort_core.specs.declared.program.CoreField.{CoreField}
 use Rattle.fort_core.specs.declared.program.CoreShape.{CoreShape}
 use Rattle.fort_core.specs.declared.program.Program.{Program}
 use Rattle.fort_core.specs.declared.term.Term.TheOpen.{Value-F}
-use Rattle.fort_machine.specs.Forms.{place_of, field_of}
+use Rattle.fort_machine.specs.Forms.{place_of}
 use Rattle.fort_threads_law_private.specs.Grounds.{Open, AreOpen}
 use Rattle.fort_threads_law_private.specs.Private.{LeadsToOpen}
 use Rattle.fort_sound_tables.specs.declared.numbers.Numbers.{Numbers}

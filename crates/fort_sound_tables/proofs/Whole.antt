@@ -1,5 +1,5 @@
 -- All parts together.
-use Rattle.std.proofs.Common.{◌≡◌, refl}
+use Rattle.std.proofs.Common.{refl}
 use Rattle.fort_base.specs.declared.ty.Ty.{Arrow}
 use Rattle.fort_base.specs.declared.ty.Ty.TheVariants.{Any}
 use Rattle.fort_core.specs.declared.program.Program.{Program}

@@ -1,6 +1,6 @@
--- Chapter "The machine with threads": on which ground a run of a program begins, and what leaves the
--- prelude's own names alone there.
-use Rattle.std.specs.Prelude.{ℕ, Bool, not, ◌&&◌, List, [], ◌∷◌, map, None}
+-- Chapter "The machine with threads": on which ground a run of a program begins, and what leaves
+-- the prelude's own names alone there.
+use Rattle.std.specs.Prelude.{ℕ, not, ◌&&◌, List, [], ◌∷◌, map, None}
 use Rattle.std.specs.Option.{is_some}
 use Rattle.fort_base.specs.declared.ids.DeclId.{DeclId}
 use Rattle.fort_base.specs.declared.ids.NameId.{NameId}
@@ -50,8 +50,8 @@ AllLeaveValues p x vs = AllPrivateValues p (names x) (start x) (ground_of p x) v
 abbrev pub LeavesBody : Program → Numbers → CoreBody → Type 0
 LeavesBody p x b = IsPrivateBody p (names x) (start x) (ground_of p x) b
 
--- The numbers of the sets that the prelude alone calls, of the fields that it alone uses, and of the
--- declarations whose calls are steps of threads.
+-- The numbers of the sets that the prelude alone calls, of the fields that it alone uses, and of
+-- the declarations whose calls are steps of threads.
 abbrev pub own_sets : Numbers → List ℕ
 own_sets x = map (λ (s : SetId). s.0) (secret_sets (names x) (start x))
 

@@ -1,7 +1,6 @@
 -- Chapter "The machine with threads": what single lookups in a program's tables say.
 use Rattle.std.specs.Prelude.{◌≡◌, true, List, slice_get, Some}
 use Rattle.fort_base.specs.declared.ids.DeclId.{DeclId}
-use Rattle.fort_base.specs.declared.ids.SetId.{SetId}
 use Rattle.fort_base.specs.declared.ty.Ty.{Ty}
 use Rattle.fort_core.specs.declared.program.CoreBody.TheVariants as body
 use Rattle.fort_core.specs.declared.program.CoreDecl.{CoreDecl}

@@ -1,6 +1,5 @@
 -- Chapter "The machine with threads": the numbers that were found in a program's tables, as what is
 -- known of the prelude.
-use Rattle.std.specs.Prelude.{◌∷◌, []}
 use Rattle.fort_base.specs.declared.ty.Ty.TheVariants.{Named}
 use Rattle.fort_core.specs.declared.term.Term.{Term}
 use Rattle.fort_core.specs.declared.value.Value.{Object}

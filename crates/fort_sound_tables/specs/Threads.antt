@@ -1,11 +1,10 @@
--- Chapter "The machine with threads": the program of a component with spawned threads has the prelude,
--- and leaves the prelude's own names to it: by what its tables say.
+-- Chapter "The machine with threads": the program of a component with spawned threads has the
+-- prelude, and leaves the prelude's own names to it: by what its tables say.
 use Rattle.std.specs.Prelude.{◌≡◌, ℕ, ◌==◌, true, false, List, [], ◌∷◌, ◌⊎◌, slice_get, Some, pos}
 use Rattle.std.specs.List.{AllByRecursion}
 use Rattle.fort_base.specs.declared.ids.DeclId.{DeclId}
 use Rattle.fort_base.specs.declared.ids.Loc.{Loc}
 use Rattle.fort_base.specs.declared.ids.SetId.{SetId}
-use Rattle.fort_base.specs.declared.ids.TypeId.{TypeId}
 use Rattle.fort_base.specs.declared.ty.Ty.{Ty, Tuple, Arrow}
 use Rattle.fort_base.specs.declared.ty.Ty.TheVariants.{Any, Named}
 use Rattle.fort_core.specs.declared.form.Mode.TheVariants as mode
@@ -39,12 +38,12 @@ use Rattle.fort_threads_law_tables.specs.Tabled.{Runs, RunsText, RunsPrimitive, 
 use Rattle.fort_threads_law_tables.specs.Texts.{wait_text, ready_text, val_text, spawn_text, go_text, main_text}
 use Rattle.fort_sound_tables.specs.declared.numbers.Numbers.{Numbers}
 use Rattle.fort_sound_tables.specs.declared.numbers.Places.{Places}
-use Rattle.fort_sound_tables.specs.Numbers.{names, start, known, own}
+use Rattle.fort_sound_tables.specs.Numbers.{names, start, known}
 use Rattle.fort_sound_tables.specs.Lookups.{TakesText}
 use Rattle.fort_sound_tables.specs.Leaves.{ground, Leaves, AllLeaveValues, LeavesValue, LeavesBody, own_sets}
 
--- How a run of a program begins: with the call of `run`, which leads to the prelude's; its variables
--- stand at their opening values; and `val` is the prelude's.
+-- How a run of a program begins: with the call of `run`, which leads to the prelude's; its
+-- variables stand at their opening values; and `val` is the prelude's.
 pub record Begins (p : Program) (n : Names) (m : Start) (k : Known) : Type 0 where
   pub first : p.first ≡ Call m.run []
   pub declared : CoreDecl
@@ -170,8 +169,8 @@ pub record CallsOwn (x : Numbers) : Type 0 where
   pub calls_own : function.body ≡ Call x.sets.own []
   pub gives_unit : function.result ≡ nothing_type
 
--- The types of the prelude: `TooManyThreads` is a single object; `Thread'` has its fields and stands
--- alone; `Exception` is the built-in type.
+-- The types of the prelude: `TooManyThreads` is a single object; `Thread'` has its fields and
+-- stands alone; `Exception` is the built-in type.
 pub record StandTypes (p : Program) (x : Numbers) : Type 0 where
   pub single : single p x.types.refusal ≡ Some ((names x).too_many)
   pub fields : HasFields p (names x)

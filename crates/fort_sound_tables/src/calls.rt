@@ -1,7 +1,6 @@
 //! Which declarations calls run, by a program's tables.
 ghost use Rattle.std.specs.Prelude.{◌≡◌, slice_get, IsTrue, Contains, Some};
 ghost use Rattle.std.specs.List.{AllByRecursion};
-ghost use Rattle.fort_base.specs.declared.ids.DeclId.{DeclId as ADeclId};
 ghost use Rattle.fort_core.specs.declared.program.CoreBody.TheVariants as body;
 ghost use Rattle.fort_core.specs.declared.program.CoreDecl.{CoreDecl as ADecl};
 ghost use Rattle.fort_threads_law_tables.specs.Tabled.{HasOne, Runs, RunsPrimitive, RunsText, two_small};

@@ -89,7 +89,7 @@ pub(crate) fn leaves(program: &Program, x: &Numbers, term: &Term) -> bool
     }
 }
 
-// The same of a form with two parts and more.
+// The same of a form with two parts, or more.
 #[cycle(leaves)]
 fn two_leave(program: &Program, x: &Numbers, term: &Term) -> bool
     ensures { IsTrue result → Leaves program.now x.now term.now }
@@ -121,6 +121,16 @@ fn two_leave(program: &Program, x: &Numbers, term: &Term) -> bool
             }
             leaves(program, x, a.get()) && leaves(program, x, b.get())
         }
+        other => more_leave(program, x, other),
+    }
+}
+
+// The same of a form with clauses, or with three parts.
+#[cycle(leaves)]
+fn more_leave(program: &Program, x: &Numbers, term: &Term) -> bool
+    ensures { IsTrue result → Leaves program.now x.now term.now }
+{
+    match term {
         Term::Typecase(_, a, clauses, b) => {
             if !clauses_leave(program, x, clauses) {
                 return false;

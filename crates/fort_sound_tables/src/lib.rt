@@ -1,5 +1,5 @@
-//! Whether the program of a component with spawned threads has all that the laws on its runs take of
-//! it.
+//! Whether the program of a component with spawned threads has all that the laws on its runs take
+//! of it.
 #![tactic(auto)]
 
 mod apart;

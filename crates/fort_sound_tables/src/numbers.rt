@@ -1,7 +1,7 @@
 //! The numbers that a program has for the prelude's declarations. Nothing is promised of them: each
 //! is held against the tables.
 use fort_base::{DeclId, Loc, Memory, NameId, SetId, TypeId};
-use fort_core::{CoreBody, CoreDecl, CoreKind, Program, Term, Value};
+use fort_core::{CoreBody, CoreKind, Program, Term, Value};
 
 /// The sets of what the prelude declares and calls, and of the component's own `run`.
 #[derive(Clone, Copy)]

@@ -214,7 +214,8 @@ fn servers(alloc: Global, x: &Numbers) -> Result<Term, Memory>
 
 // `m': Thread' = Thread'(b')`, and what is behind it.
 fn making(alloc: Global, x: &Numbers) -> Result<Term, Memory>
-    ensures { IfOk result (λ t. t ≡ making_first (names x.now) (term.Call x.now.sets.make (Variable 0 ∷ []))) }
+    ensures { IfOk result (λ t. t ≡ making_first (names x.now)
+        (term.Call x.now.sets.make (Variable 0 ∷ []))) }
 {
     let goes = call(alloc, x.sets.go, Term::Variable(1))?;
     let beside = Term::Also(two(alloc, goes, servers(alloc, x)?)?);

@@ -25,41 +25,48 @@ leaves-returns-in-Fn t c ok =
     as_is c.args.program.now c.args.x.now _ _ c.in-Fn.is
     (function_at c.args.program.now c.args.x.now _
     (subst (λ (z : Closure). z.held ≡ []) c.get.ensures (c.body_leaves.ensures.held ok))
-    (subst (λ (z : Closure). Leaves c.args.program.now c.args.x.now z.body) c.get.ensures (c.body_leaves.ensures.body ok)))
+    (subst (λ (z : Closure). Leaves c.args.program.now c.args.x.now z.body) c.get.ensures
+    (c.body_leaves.ensures.body ok)))
 
 pub leaves-returns-in-Throw : goal.leaves-returns-in-Throw
 leaves-returns-in-Throw t c ok =
     as_is c.args.program.now c.args.x.now _ _ c.in-Throw.is
-    (throw_at c.args.program.now c.args.x.now _ (as_is c.args.program.now c.args.x.now _ _ (sym c.get-in-Throw.ensures) (c.leaves.ensures ok)))
+    (throw_at c.args.program.now c.args.x.now _ (as_is c.args.program.now c.args.x.now _ _ (sym
+    c.get-in-Throw.ensures) (c.leaves.ensures ok)))
 
 pub leaves-returns-in-Size : goal.leaves-returns-in-Size
 leaves-returns-in-Size t c ok =
     as_is c.args.program.now c.args.x.now _ _ c.in-Size.is
-    (size_at c.args.program.now c.args.x.now _ (as_is c.args.program.now c.args.x.now _ _ (sym c.get-in-Size.ensures) (c.leaves-in-Size.ensures ok)))
+    (size_at c.args.program.now c.args.x.now _ (as_is c.args.program.now c.args.x.now _ _ (sym
+    c.get-in-Size.ensures) (c.leaves-in-Size.ensures ok)))
 
 pub leaves-returns-in-Stepped : goal.leaves-returns-in-Stepped
 leaves-returns-in-Stepped t c ok =
     as_is c.args.program.now c.args.x.now _ _ c.in-Stepped.is
-    (stepped_at c.args.program.now c.args.x.now _ (as_is c.args.program.now c.args.x.now _ _ (sym c.get-in-Stepped.ensures) (c.leaves-in-Stepped.ensures ok)))
+    (stepped_at c.args.program.now c.args.x.now _ (as_is c.args.program.now c.args.x.now _ _
+    (sym c.get-in-Stepped.ensures) (c.leaves-in-Stepped.ensures ok)))
 
 pub leaves-returns-in-Atomic : goal.leaves-returns-in-Atomic
 leaves-returns-in-Atomic t c ok =
     as_is c.args.program.now c.args.x.now _ _ c.in-Atomic.is
-    (atomic_at c.args.program.now c.args.x.now _ _ (as_is c.args.program.now c.args.x.now _ _ (sym c.get-in-Atomic.ensures) (c.leaves-in-Atomic.ensures ok)))
+    (atomic_at c.args.program.now c.args.x.now _ _ (as_is c.args.program.now c.args.x.now _ _
+    (sym c.get-in-Atomic.ensures) (c.leaves-in-Atomic.ensures ok)))
 
 pub leaves-returns-then-slot_is_open : goal.leaves-returns-then-slot_is_open
 leaves-returns-then-slot_is_open t c ok =
     as_is c.args.program.now c.args.x.now _ _ c.in-Write.is
     (write_at c.args.program.now c.args.x.now _ _
     (c.slot_is_open-in-Write.ensures c.if-slot_is_open.true)
-    (as_is c.args.program.now c.args.x.now _ _ (sym c.get-then-slot_is_open.ensures) (c.leaves-then-slot_is_open.ensures ok)))
+    (as_is c.args.program.now c.args.x.now _ _ (sym c.get-then-slot_is_open.ensures)
+    (c.leaves-then-slot_is_open.ensures ok)))
 
 pub leaves-returns-then-not-is_own_field : goal.leaves-returns-then-not-is_own_field
 leaves-returns-then-not-is_own_field t c ok =
     as_is c.args.program.now c.args.x.now _ _ c.in-ReadField.is
     (read_field_at c.args.program.now c.args.x.now _ _
     (sym c.is_own_field.ensures ∙ c.if-not-is_own_field.true)
-    (as_is c.args.program.now c.args.x.now _ _ (sym c.get-then-not-is_own_field.ensures) (c.leaves-then-not-is_own_field.ensures ok)))
+    (as_is c.args.program.now c.args.x.now _ _ (sym c.get-then-not-is_own_field.ensures)
+    (c.leaves-then-not-is_own_field.ensures ok)))
 
 pub leaves-returns-in-Group : goal.leaves-returns-in-Group
 leaves-returns-in-Group t c ok =
@@ -75,7 +82,8 @@ pub leaves-returns-then-not-is_own_set : goal.leaves-returns-then-not-is_own_set
 leaves-returns-then-not-is_own_set t c ok =
     as_is c.args.program.now c.args.x.now _ _ c.in-Call.is
     (call_at c.args.program.now c.args.x.now _ _
-    (sym c.is_own_set.ensures ∙ c.if-not-is_own_set.true) (c.all_leave-then-not-is_own_set.ensures ok))
+    (sym c.is_own_set.ensures ∙ c.if-not-is_own_set.true)
+    (c.all_leave-then-not-is_own_set.ensures ok))
 
 pub leaves-returns-then-not-is_own_set-2 : goal.leaves-returns-then-not-is_own_set-2
 leaves-returns-then-not-is_own_set-2 t c ok =
@@ -87,99 +95,167 @@ leaves-returns-then-not-is_own_set-2 t c ok =
 pub two_leave-returns-then-leaves : goal.two_leave-returns-then-leaves
 two_leave-returns-then-leaves t c ok =
     as_is c.args.program.now c.args.x.now _ _ c.in-Apply.is
-    (apply_at c.args.program.now c.args.x.now _ _
-    ((as_is c.args.program.now c.args.x.now _ _ (sym c.get.ensures) (c.leaves.ensures c.if-leaves.true)), (as_is c.args.program.now c.args.x.now _ _ (sym c.get-then-leaves.ensures) (c.leaves-then-leaves.ensures ok))))
+    (apply_at c.args.program.now c.args.x.now _ _ (
+      (as_is c.args.program.now c.args.x.now _ _ (sym c.get.ensures) (c.leaves.ensures
+          c.if-leaves.true)),
+      (as_is c.args.program.now c.args.x.now _ _ (sym
+          c.get-then-leaves.ensures) (c.leaves-then-leaves.ensures ok)),
+    ))
 
 pub two_leave-returns-then-leaves-2 : goal.two_leave-returns-then-leaves-2
 two_leave-returns-then-leaves-2 t c ok =
     as_is c.args.program.now c.args.x.now _ _ c.in-Fill.is
-    (fill_at c.args.program.now c.args.x.now _ _ _
-    ((as_is c.args.program.now c.args.x.now _ _ (sym c.get-in-Fill.ensures) (c.leaves-in-Fill.ensures c.if-leaves-2.true)), (as_is c.args.program.now c.args.x.now _ _ (sym c.get-then-leaves-2.ensures) (c.leaves-then-leaves-2.ensures ok))))
+    (fill_at c.args.program.now c.args.x.now _ _ _ (
+      (as_is c.args.program.now c.args.x.now _ _ (sym c.get-in-Fill.ensures)
+          (c.leaves-in-Fill.ensures c.if-leaves-2.true)),
+      (as_is c.args.program.now c.args.x.now _ _
+          (sym c.get-then-leaves-2.ensures) (c.leaves-then-leaves-2.ensures ok)),
+    ))
 
 pub two_leave-returns-then-leaves-3 : goal.two_leave-returns-then-leaves-3
 two_leave-returns-then-leaves-3 t c ok =
     as_is c.args.program.now c.args.x.now _ _ c.in-Let.is
-    (let_at c.args.program.now c.args.x.now _ _ _
-    ((as_is c.args.program.now c.args.x.now _ _ (sym c.get-in-Let.ensures) (c.leaves-in-Let.ensures c.if-leaves-3.true)), (as_is c.args.program.now c.args.x.now _ _ (sym c.get-then-leaves-3.ensures) (c.leaves-then-leaves-3.ensures ok))))
+    (let_at c.args.program.now c.args.x.now _ _ _ (
+      (as_is c.args.program.now c.args.x.now _ _ (sym c.get-in-Let.ensures)
+          (c.leaves-in-Let.ensures c.if-leaves-3.true)),
+      (as_is c.args.program.now c.args.x.now _ _
+          (sym c.get-then-leaves-3.ensures) (c.leaves-then-leaves-3.ensures ok)),
+    ))
 
 pub two_leave-returns-then-leaves-4 : goal.two_leave-returns-then-leaves-4
 two_leave-returns-then-leaves-4 t c ok =
     as_is c.args.program.now c.args.x.now _ _ c.in-Mutable.is
-    (mutable_at c.args.program.now c.args.x.now _ _ _ _
-    ((as_is c.args.program.now c.args.x.now _ _ (sym c.get-in-Mutable.ensures) (c.leaves-in-Mutable.ensures c.if-leaves-4.true)), (as_is c.args.program.now c.args.x.now _ _ (sym c.get-then-leaves-4.ensures) (c.leaves-then-leaves-4.ensures ok))))
+    (mutable_at c.args.program.now c.args.x.now _ _ _ _ (
+      (as_is c.args.program.now c.args.x.now _ _ (sym c.get-in-Mutable.ensures)
+          (c.leaves-in-Mutable.ensures c.if-leaves-4.true)),
+      (as_is c.args.program.now c.args.x.now _
+          _ (sym c.get-then-leaves-4.ensures) (c.leaves-then-leaves-4.ensures ok)),
+    ))
 
 pub two_leave-returns-then-leaves-5 : goal.two_leave-returns-then-leaves-5
 two_leave-returns-then-leaves-5 t c ok =
     as_is c.args.program.now c.args.x.now _ _ c.in-ReadElement.is
-    (read_element_at c.args.program.now c.args.x.now _ _
-    ((as_is c.args.program.now c.args.x.now _ _ (sym c.get-in-ReadElement.ensures) (c.leaves-in-ReadElement.ensures c.if-leaves-5.true)), (as_is c.args.program.now c.args.x.now _ _ (sym c.get-then-leaves-5.ensures) (c.leaves-then-leaves-5.ensures ok))))
+    (read_element_at c.args.program.now c.args.x.now _ _ (
+      (as_is c.args.program.now c.args.x.now _ _ (sym c.get-in-ReadElement.ensures)
+          (c.leaves-in-ReadElement.ensures c.if-leaves-5.true)),
+      (as_is c.args.program.now
+          c.args.x.now _ _ (sym c.get-then-leaves-5.ensures) (c.leaves-then-leaves-5.ensures ok)),
+    ))
 
 pub two_leave-returns-then-leaves-6 : goal.two_leave-returns-then-leaves-6
 two_leave-returns-then-leaves-6 t c ok =
     as_is c.args.program.now c.args.x.now _ _ c.in-Then.is
-    (then_at c.args.program.now c.args.x.now _ _
-    ((as_is c.args.program.now c.args.x.now _ _ (sym c.get-in-Then.ensures) (c.leaves-in-Then.ensures c.if-leaves-6.true)), (as_is c.args.program.now c.args.x.now _ _ (sym c.get-then-leaves-6.ensures) (c.leaves-then-leaves-6.ensures ok))))
+    (then_at c.args.program.now c.args.x.now _ _ (
+      (as_is c.args.program.now c.args.x.now _ _ (sym c.get-in-Then.ensures)
+          (c.leaves-in-Then.ensures c.if-leaves-6.true)),
+      (as_is c.args.program.now c.args.x.now _ _
+          (sym c.get-then-leaves-6.ensures) (c.leaves-then-leaves-6.ensures ok)),
+    ))
 
 pub two_leave-returns-then-leaves-7 : goal.two_leave-returns-then-leaves-7
 two_leave-returns-then-leaves-7 t c ok =
     as_is c.args.program.now c.args.x.now _ _ c.in-While.is
-    (while_at c.args.program.now c.args.x.now _ _
-    ((as_is c.args.program.now c.args.x.now _ _ (sym c.get-in-While.ensures) (c.leaves-in-While.ensures c.if-leaves-7.true)), (as_is c.args.program.now c.args.x.now _ _ (sym c.get-then-leaves-7.ensures) (c.leaves-then-leaves-7.ensures ok))))
+    (while_at c.args.program.now c.args.x.now _ _ (
+      (as_is c.args.program.now c.args.x.now _ _ (sym c.get-in-While.ensures)
+          (c.leaves-in-While.ensures c.if-leaves-7.true)),
+      (as_is c.args.program.now c.args.x.now _ _
+          (sym c.get-then-leaves-7.ensures) (c.leaves-then-leaves-7.ensures ok)),
+    ))
 
 pub two_leave-returns-then-leaves-8 : goal.two_leave-returns-then-leaves-8
 two_leave-returns-then-leaves-8 t c ok =
     as_is c.args.program.now c.args.x.now _ _ c.in-ForHalves.is
-    (for_halves_at c.args.program.now c.args.x.now _ _
-    ((as_is c.args.program.now c.args.x.now _ _ (sym c.get-in-ForHalves.ensures) (c.leaves-in-ForHalves.ensures c.if-leaves-8.true)), (as_is c.args.program.now c.args.x.now _ _ (sym c.get-then-leaves-8.ensures) (c.leaves-then-leaves-8.ensures ok))))
+    (for_halves_at c.args.program.now c.args.x.now _ _ (
+      (as_is c.args.program.now c.args.x.now _ _ (sym c.get-in-ForHalves.ensures)
+          (c.leaves-in-ForHalves.ensures c.if-leaves-8.true)),
+      (as_is c.args.program.now c.args.x.now
+          _ _ (sym c.get-then-leaves-8.ensures) (c.leaves-then-leaves-8.ensures ok)),
+    ))
 
 pub two_leave-returns-then-leaves-9 : goal.two_leave-returns-then-leaves-9
 two_leave-returns-then-leaves-9 t c ok =
     as_is c.args.program.now c.args.x.now _ _ c.in-WriteField.is
-    (write_field_at c.args.program.now c.args.x.now _ _ _ (sym c.is_own_field.ensures ∙ c.if-is_own_field.false)
-    ((as_is c.args.program.now c.args.x.now _ _ (sym c.get-in-WriteField.ensures) (c.leaves-in-WriteField.ensures c.if-leaves-9.true)), (as_is c.args.program.now c.args.x.now _ _ (sym c.get-then-leaves-9.ensures) (c.leaves-then-leaves-9.ensures ok))))
+    (write_field_at c.args.program.now c.args.x.now _ _ _ (sym c.is_own_field.ensures ∙
+    c.if-is_own_field.false) (
+      (as_is c.args.program.now c.args.x.now _ _ (sym c.get-in-WriteField.ensures)
+          (c.leaves-in-WriteField.ensures c.if-leaves-9.true)),
+      (as_is c.args.program.now c.args.x.now
+          _ _ (sym c.get-then-leaves-9.ensures) (c.leaves-then-leaves-9.ensures ok)),
+    ))
 
 pub two_leave-returns-then-leaves-10 : goal.two_leave-returns-then-leaves-10
 two_leave-returns-then-leaves-10 t c ok =
     as_is c.args.program.now c.args.x.now _ _ c.in-For.is
-    (for_at c.args.program.now c.args.x.now _ _ _ _ _ (c.is_whole.ensures c.if-not-is_whole.false)
-    ((as_is c.args.program.now c.args.x.now _ _ (sym c.get-in-For.ensures) (c.leaves-in-For.ensures c.if-leaves-10.true)), (as_is c.args.program.now c.args.x.now _ _ (sym c.get-then-leaves-10.ensures) (c.leaves-then-leaves-10.ensures ok))))
+    (for_at c.args.program.now c.args.x.now _ _ _ _ _ (c.is_whole.ensures c.if-not-is_whole.false) (
+      (as_is c.args.program.now c.args.x.now _ _ (sym c.get-in-For.ensures)
+          (c.leaves-in-For.ensures c.if-leaves-10.true)),
+      (as_is c.args.program.now c.args.x.now _ _
+          (sym c.get-then-leaves-10.ensures) (c.leaves-then-leaves-10.ensures ok)),
+    ))
 
 pub two_leave-returns-then-leaves-11 : goal.two_leave-returns-then-leaves-11
 two_leave-returns-then-leaves-11 t c ok =
     as_is c.args.program.now c.args.x.now _ _ c.in-ReduceHalves.is
-    (reduce_halves_at c.args.program.now c.args.x.now _ _ _ (sym c.is_own_set.ensures ∙ c.if-is_own_set.false)
-    ((as_is c.args.program.now c.args.x.now _ _ (sym c.get-in-ReduceHalves.ensures) (c.leaves-in-ReduceHalves.ensures c.if-leaves-11.true)), (as_is c.args.program.now c.args.x.now _ _ (sym c.get-then-leaves-11.ensures) (c.leaves-then-leaves-11.ensures ok))))
+    (reduce_halves_at c.args.program.now c.args.x.now _ _ _ (sym c.is_own_set.ensures ∙
+    c.if-is_own_set.false) (
+      (as_is c.args.program.now c.args.x.now _ _ (sym c.get-in-ReduceHalves.ensures)
+          (c.leaves-in-ReduceHalves.ensures c.if-leaves-11.true)),
+      (as_is c.args.program.now
+          c.args.x.now _ _ (sym c.get-then-leaves-11.ensures) (c.leaves-then-leaves-11.ensures ok)),
+    ))
 
-pub two_leave-returns-then-leaves-12 : goal.two_leave-returns-then-leaves-12
-two_leave-returns-then-leaves-12 t c ok =
+pub more_leave-returns-then-leaves : goal.more_leave-returns-then-leaves
+more_leave-returns-then-leaves t c ok =
     as_is c.args.program.now c.args.x.now _ _ c.in-Typecase.is
-    (typecase_at c.args.program.now c.args.x.now _ _ _ _ ((as_is c.args.program.now c.args.x.now _ _ (sym c.get-in-Typecase.ensures) (c.leaves-in-Typecase.ensures c.if-leaves-12.true)), (as_is c.args.program.now c.args.x.now _ _ (sym c.get-then-leaves-12.ensures) (c.leaves-then-leaves-12.ensures ok)))
+    (typecase_at c.args.program.now c.args.x.now _ _ _ _ (
+      (as_is c.args.program.now c.args.x.now
+          _ _ (sym c.get.ensures) (c.leaves.ensures c.if-leaves.true)),
+      (as_is c.args.program.now
+          c.args.x.now _ _ (sym c.get-then-leaves.ensures) (c.leaves-then-leaves.ensures ok)),
+    )
     (c.clauses_leave.ensures c.if-not-clauses_leave.false))
 
-pub two_leave-returns-then-leaves-13 : goal.two_leave-returns-then-leaves-13
-two_leave-returns-then-leaves-13 t c ok =
+pub more_leave-returns-then-leaves-2 : goal.more_leave-returns-then-leaves-2
+more_leave-returns-then-leaves-2 t c ok =
     as_is c.args.program.now c.args.x.now _ _ c.in-Try.is
-    (try_of c.args.program.now c.args.x.now _ _ _ _ (as_is c.args.program.now c.args.x.now _ _ (sym c.get-in-Try.ensures) (c.leaves-in-Try.ensures c.if-leaves-13.true))
+    (try_of c.args.program.now c.args.x.now _ _ _ _ (as_is c.args.program.now c.args.x.now _ _
+    (sym c.get-in-Try.ensures) (c.leaves-in-Try.ensures c.if-leaves-2.true))
     (c.last_leaves.ensures ok) (c.clauses_leave-in-Try.ensures c.if-not-clauses_leave-2.false))
 
 pub write_element_leaves-returns-then-leaves : goal.write_element_leaves-returns-then-leaves
 write_element_leaves-returns-then-leaves t c ok =
     as_is c.args.program.now c.args.x.now _ _ c.in-WriteElement.is
-    (write_element_at c.args.program.now c.args.x.now _ _ _
-    ((as_is c.args.program.now c.args.x.now _ _ (sym c.get.ensures) (c.leaves.ensures c.if-not-leaves.false)), (as_is c.args.program.now c.args.x.now _ _ (sym c.get-2.ensures) (c.leaves-2.ensures c.if-leaves.true))) (as_is c.args.program.now c.args.x.now _ _ (sym c.get-then-leaves.ensures) (c.leaves-then-leaves.ensures ok)))
+    (write_element_at c.args.program.now c.args.x.now _ _ _ (
+      (as_is c.args.program.now c.args.x.now _ _ (sym c.get.ensures) (c.leaves.ensures
+          c.if-not-leaves.false)),
+      (as_is c.args.program.now c.args.x.now _ _ (sym c.get-2.ensures)
+          (c.leaves-2.ensures c.if-leaves.true)),
+    ) (as_is c.args.program.now c.args.x.now _ _ (sym
+    c.get-then-leaves.ensures) (c.leaves-then-leaves.ensures ok)))
 
 pub if_leaves-returns-then-leaves : goal.if_leaves-returns-then-leaves
 if_leaves-returns-then-leaves t c ok =
     as_is c.args.program.now c.args.x.now _ _ c.in-If.is
-    (if_at c.args.program.now c.args.x.now _ _ _
-    ((as_is c.args.program.now c.args.x.now _ _ (sym c.get.ensures) (c.leaves.ensures c.if-not-leaves.false)), (as_is c.args.program.now c.args.x.now _ _ (sym c.get-2.ensures) (c.leaves-2.ensures c.if-leaves.true))) (as_is c.args.program.now c.args.x.now _ _ (sym c.get-then-leaves.ensures) (c.leaves-then-leaves.ensures ok)))
+    (if_at c.args.program.now c.args.x.now _ _ _ (
+      (as_is c.args.program.now c.args.x.now _ _ (sym c.get.ensures) (c.leaves.ensures
+          c.if-not-leaves.false)),
+      (as_is c.args.program.now c.args.x.now _ _ (sym c.get-2.ensures)
+          (c.leaves-2.ensures c.if-leaves.true)),
+    ) (as_is c.args.program.now c.args.x.now _ _ (sym
+    c.get-then-leaves.ensures) (c.leaves-then-leaves.ensures ok)))
 
 pub reduce_leaves-returns-then-leaves : goal.reduce_leaves-returns-then-leaves
 reduce_leaves-returns-then-leaves t c ok =
     as_is c.args.program.now c.args.x.now _ _ c.in-Reduce.is
-    (reduce_at c.args.program.now c.args.x.now _ _ _ _ _ _ _ (c.is_free.ensures.whole c.if-not-is_free.false)
-    (c.is_free.ensures.other c.if-not-is_free.false)
-    ((as_is c.args.program.now c.args.x.now _ _ (sym c.get.ensures) (c.leaves.ensures c.if-not-leaves.false)), (as_is c.args.program.now c.args.x.now _ _ (sym c.get-2.ensures) (c.leaves-2.ensures c.if-leaves.true))) (as_is c.args.program.now c.args.x.now _ _ (sym c.get-then-leaves.ensures) (c.leaves-then-leaves.ensures ok)))
+    (reduce_at c.args.program.now c.args.x.now _ _ _ _ _ _ _ (c.is_free.ensures.whole
+    c.if-not-is_free.false)
+    (c.is_free.ensures.other c.if-not-is_free.false) (
+      (as_is c.args.program.now c.args.x.now _ _ (sym c.get.ensures) (c.leaves.ensures
+          c.if-not-leaves.false)),
+      (as_is c.args.program.now c.args.x.now _ _ (sym c.get-2.ensures)
+          (c.leaves-2.ensures c.if-leaves.true)),
+    ) (as_is c.args.program.now c.args.x.now _ _ (sym
+    c.get-then-leaves.ensures) (c.leaves-then-leaves.ensures ok)))
 
 pub last_leaves-returns-in-None : goal.last_leaves-returns-in-None
 last_leaves-returns-in-None t c ok =
@@ -219,7 +295,8 @@ pub value_leaves-returns-in-Tuple : goal.value_leaves-returns-in-Tuple
 value_leaves-returns-in-Tuple t c ok =
     as_value c.args.program.now c.args.x.now _ _ c.in-Tuple.is
     (tuple_at c.args.program.now c.args.x.now _
-    (subst (λ z. AllLeaveValues c.args.program.now c.args.x.now z) c.get.ensures (c.values_leave.ensures ok)))
+    (subst (λ z. AllLeaveValues c.args.program.now c.args.x.now z) c.get.ensures
+    (c.values_leave.ensures ok)))
 
 pub value_leaves-returns-in-Object : goal.value_leaves-returns-in-Object
 value_leaves-returns-in-Object t c ok =
@@ -231,7 +308,8 @@ value_leaves-returns-in-Function t c ok =
     as_value c.args.program.now c.args.x.now _ _ c.in-Function.is
     (function_value_at c.args.program.now c.args.x.now _
     (subst (λ (z : Closure). z.held ≡ []) c.get-in-Function.ensures (c.body_leaves.ensures.held ok))
-    (subst (λ (z : Closure). Leaves c.args.program.now c.args.x.now z.body) c.get-in-Function.ensures
+    (subst (λ (z : Closure). Leaves c.args.program.now c.args.x.now z.body)
+    c.get-in-Function.ensures
     (c.body_leaves.ensures.body ok)))
 
 pub all_leave-loop-term-preserved : goal.all_leave-loop-term-preserved

@@ -1,4 +1,3 @@
-use Rattle.std.proofs.Common.{◌+◌, ◌<◌, ℕ}
 use Rattle.fort_threads_law_private.specs.Grounds.{AreOpen}
 use Rattle.fort_sound_tables.specs.Leaves.{ground_of}
 use Rattle.fort_sound_tables.proofs.leaves.are_open.Given as goal
