@@ -1,8 +1,11 @@
 -- Chapter "The machine with threads": a worked program, in which a thread is spawned and its value
 -- is printed: it has all that the laws on runs with threads take of a program.
 use Rattle.std.specs.Prelude.{[], map, List, None}
+use Rattle.fort_core.specs.declared.pick.Pick.{Pick}
 use Rattle.fort_core.specs.declared.program.Program.{Program}
-use Rattle.fort_core.specs.declared.term.Term.{Call}
+use Rattle.fort_core.specs.declared.term.Term.{Term, Call}
+use Rattle.fort_machine.specs.Effects.{Effect}
+use Rattle.fort_machine.specs.Journals as machine
 use Rattle.fort_machine.specs.Scopes.{is_among}
 use Rattle.fort_machine.specs.Worked.{type, set, decl, numbered}
 use Rattle.fort_sound_typed.specs.Sound.{Sound}
@@ -14,6 +17,7 @@ use Rattle.fort_threads_law_private.specs.Grounds.{Ground}
 use Rattle.fort_threads_law_worlds.specs.Known.{Own}
 use Rattle.fort_threads_law_runs.specs.Premises.{IsThreaded}
 use Rattle.fort_threads_law_whole.specs.Early.{IsBeginning}
+use Rattle.fort_threads_law_whole.specs.Whole.{IsThreadedRun}
 use Rattle.fort_threads_law_thrown.specs.Tables.{Tables}
 use Rattle.fort_threads_law_worked.specs.Types.{type_numbers, rows, apart_row, names, shapes, locations, opening, opening_types, exception_type, body_name, state_name, value_name, next_name}
 use Rattle.fort_threads_law_worked.specs.Builtin.{sets}
@@ -96,3 +100,8 @@ WorkedIsThreaded = Tables worked worked_names worked_start worked_own
     × IsThreaded worked worked_names worked_start worked_own worked_known worked_ground
     × IsBeginning worked worked_names worked_start worked_known worked_ground
     × Starts worked worked_names worked_start
+
+-- So each of its runs is one of the machine with threads.
+abbrev pub WorkedRunsAreThreaded : Type 0
+WorkedRunsAreThreaded = (picks : List Pick) (t : Term) (d : Effect)
+    → machine.IsRun worked picks t d → IsThreadedRun worked worked_known t d

@@ -5,7 +5,7 @@
 //! names a law by its clause and does nothing.
 #![tactic(auto)]
 
-ghost use Rattle.fort_threads_law_worked.specs.Worked.{WorkedIsSound, WorkedIsThreaded};
+ghost use Rattle.fort_threads_law_worked.specs.Worked.{WorkedIsSound, WorkedIsThreaded, WorkedRunsAreThreaded};
 
 use fort_core::{Journal, Program};
 
@@ -20,4 +20,9 @@ pub fn worked_is_sound()
 /// It has all that is taken of a program with spawned threads.
 pub fn worked_is_threaded()
     ensures { WorkedIsThreaded }
+{}
+
+/// So each of its runs is one of the machine with threads.
+pub fn worked_runs_are_threaded()
+    ensures { WorkedRunsAreThreaded }
 {}
