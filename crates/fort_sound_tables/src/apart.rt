@@ -119,11 +119,10 @@ fn single_leaves(program: &Program, x: &Numbers, at: usize, shape: &CoreShape) -
     ensures { IsTrue result → (v : AValue) → object_of (record { 0 = at }) shape.now ≡ Some v
         → LeavesValue program.now x.now v }
 {
-    if is_thread(x, at) {
-        return false;
-    }
     match shape.kind {
-        CoreKind::Single(base) => are_open(program, x, base.0, shape.fields.len()),
+        CoreKind::Single(base) => {
+            !is_thread(x, at) && are_open(program, x, base.0, shape.fields.len())
+        }
         CoreKind::Trait => true,
         CoreKind::Leaf => true,
         CoreKind::Object => true,
