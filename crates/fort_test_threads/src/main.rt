@@ -1,7 +1,8 @@
 //! Says of each file of its words whether it is accepted, and whether its program has the prelude's
 //! tables.
 //!
-//! A line for each word: `NAME: threads`, `NAME: no threads`, `NAME: refused`, or `NAME: not read`.
+//! A line for each word: `NAME: threads`, `NAME: no threads`, `NAME: refused`, `NAME: not read`, or
+//! `NAME: want of memory`.
 #![tactic(auto)]
 
 use fort_base::CheckFault;
