@@ -136,8 +136,6 @@ module _ (w : Laws) (p : Program) (sound : Sound p) (all : Complete p) (h : HasT
   }
 
 pub threaded : Laws → SoundRunsAreThreaded
-threaded w p sound all h = (
-  h.shared,
-  w.run p h.called h.begun h.owned h.shared (ground p h.called h.begun) (threaded_is w p sound all h)
-      (beginning w p sound all h) (starts w p sound all h),
-)
+threaded w p sound all h =
+    w.run p h.called h.begun h.owned h.shared (ground p h.called h.begun) (threaded_is w p sound all h)
+    (beginning w p sound all h) (starts w p sound all h)
